@@ -1,9 +1,12 @@
 -- What a run hands out at its end.
-use Rattle.std.specs.Prelude.{◌≡◌, ℕ, ◌+◌, ◌-◌, ◌^◌, length, min}
+use Rattle.std.specs.Prelude.{◌≡◌, ℕ, ◌-◌, ◌^◌, List, ◌++◌, length, min}
 use Rattle.ring_layout.specs.Refusals.{all_shares}
+use Rattle.ring_table.specs.declared.claim.PlacedMessage.{PlacedMessage}
+use Rattle.ring_table.specs.declared.claim.StagedClaim.{StagedClaim}
 use Rattle.ring_table.specs.Passing.{placed_committed_of}
-use Rattle.ring_rings.specs.Seats.{claims_of}
-use Rattle.ring_loose.specs.Loose.{Loose}
+use Rattle.ring_rings.specs.Closing.{AreOrdered}
+use Rattle.ring_rings.specs.Seats.{capacity_of, claims_of, start_of}
+use Rattle.ring_loose.specs.Loose.{Loose, aborted_view}
 use Rattle.ring_counters.specs.Manager.{registry_of, shares_of}
 use Rattle.ring_conductor.specs.Conducting.{manager_in, received_of}
 use Rattle.ring_scenario.specs.declared.service.CommandService.{CommandService}
@@ -13,10 +16,25 @@ use Rattle.ring_scenario.specs.declared.service.closing.Served.{Served}
 abbrev pub read_count : Loose → ℕ
 read_count l = min (length l.consumer.consumer.taken) (2 ^ 64 - 1)
 
--- the number of commands that the conductor took and that it left, together all committed messages of its ring, with
--- its counters, which have all shares of the values
+-- The claims are one after another from the ring's start on, in tail-exchange order. Their committed messages, with
+-- their places, are those that were taken, followed by those that are left, which are this many
+pub record TakesAllBut (C start : ℕ) (claims : List StagedClaim) (taken : List PlacedMessage) (count : ℕ)
+    : Type 0 where
+  pub ordered : AreOrdered C start claims
+  pub left : List PlacedMessage
+  pub whole : placed_committed_of claims ≡ taken ++ left
+  pub counted : count ≡ length left
+
+-- the ring of a run took all but this many messages, after its open claims were aborted
+abbrev pub LeavesMessages : Loose → ℕ → Type 0
+LeavesMessages l count =
+    TakesAllBut l.capacity 0 (aborted_view l.holder).producer.claims l.consumer.consumer.taken count
+
+-- the number of commands that the conductor took, which are all messages committed to its ring but those that it left,
+-- with its counters, which have all shares of the values
 pub record TookAndLeft (service : CommandService) (served : Served) : Type 0 where
   pub received : served.received ≡ length (received_of service.conductor)
-  pub left : served.received + served.left ≡ length (placed_committed_of (claims_of service.producer))
+  pub left : TakesAllBut (capacity_of service.ring) (start_of service.ring) (claims_of service.producer)
+      (received_of service.conductor) served.left
   pub counters : registry_of served.counters ≡ registry_of (manager_in service.conductor)
   pub watchers : shares_of served.counters ≡ all_shares

@@ -44,6 +44,10 @@ KeepsRest other old new = KeepsButRing old new
 abbrev pub KeepsShared : CommandService → CommandService → Type 0
 KeepsShared old new = (new.ring ≡ old.ring) × (new.board ≡ old.board) × (new.values ≡ old.values)
 
+-- the command ring and its producer are as they were
+abbrev pub KeepsRing : CommandService → CommandService → Type 0
+KeepsRing old new = (new.ring ≡ old.ring) × (new.producer ≡ old.producer)
+
 -- all but the producer is as it was
 abbrev pub KeepsButProducer : CommandService → CommandService → Type 0
 KeepsButProducer old new = KeepsShared old new × (new.conductor ≡ old.conductor) × (new.listeners ≡ old.listeners)

@@ -4,21 +4,27 @@ use Rattle.ring_rings.specs.Opening.{first_consumer, first_producer}
 use Rattle.ring_rings.specs.Seats.{capacity_of, view_of as producer_view}
 use Rattle.ring_board.specs.Rule.{opening_view}
 use Rattle.ring_board.specs.Seats.{capacity_of as board_capacity_of, view_of}
-use Rattle.ring_counters.specs.Manager.{registry_of}
+use Rattle.ring_layout.specs.Refusals.{all_shares}
+use Rattle.ring_counters.specs.Manager.{registry_of, writes_of}
 use Rattle.ring_counters.specs.Registry.{fresh_registry}
-use Rattle.ring_conductor.specs.Conducting.{board_view, manager_in, ring_view}
+use Rattle.ring_counters.specs.Seats.{values_count}
+use Rattle.ring_conductor.specs.Conducting.{board_view, manager_in, ring_view, value_shares_of}
 use Rattle.ring_loose.specs.Held.{held_in}
 use Rattle.ring_loose.specs.Loose.{fresh_loose}
 use Rattle.ring_scenario.specs.declared.options.Options.{Options}
 use Rattle.ring_scenario.specs.declared.runner.Runner.{Runner}
 use Rattle.ring_scenario.specs.declared.service.CommandService.{CommandService}
 
--- the command ring, the broadcast buffer of its replies and the counters are those that the options describe, as they
--- are made: no id was drawn, no command sent or taken, no reply transmitted, and there is no listener and no watcher
+-- the command ring, the broadcast buffer of its replies and the counters with their values are those that the options
+-- describe, as they are made: no id was drawn, no command sent or taken, no reply transmitted, no value written, and
+-- there is no listener and no watcher
 pub record ServesBy (options : Options) (s : CommandService) : Type 0 where
   pub ring : capacity_of s.ring ≡ options.commands
   pub board : board_capacity_of s.board ≡ options.replies
   pub counters : registry_of (manager_in s.conductor) ≡ fresh_registry options.counters options.reuse_ms
+  pub values : values_count s.values ≡ options.counters
+  pub writes : writes_of (manager_in s.conductor) ≡ []
+  pub shares : value_shares_of s.conductor ≡ all_shares
   pub producer : producer_view s.producer ≡ first_producer options.commands 0
   pub consumer : ring_view s.conductor ≡ first_consumer options.commands 0
   pub transmitter : board_view s.conductor ≡ opening_view options.replies 0

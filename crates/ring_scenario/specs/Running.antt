@@ -1,14 +1,16 @@
 -- What a run does with the lines of a text, and all that it prints.
 use Rattle.std.specs.Prelude.{◌≡◌, ◌⊎◌, ◌↔◌, ℕ, ◌+◌, List, [], ◌∷◌, ◌++◌, IfSome, IsSome, IsTrue, Option, None, Some, codes, decimal, length}
 use Rattle.std.specs.Io.KnownBytes.{Appends}
-use Rattle.ring_table.specs.Passing.{placed_committed_of}
+use Rattle.ring_board.specs.Runs.{AreAllRuns}
+use Rattle.ring_board.specs.Seats.{transmitted, view_of}
 use Rattle.ring_counters.specs.Manager.{registry_of}
 use Rattle.ring_counters.specs.Registry.{live_of}
 use Rattle.ring_lines.specs.declared.call.Call.{Call}
 use Rattle.ring_lines.specs.Lines.{AsksFor}
-use Rattle.ring_lines.specs.Text.{AllBlank, IsBlank, lines_of, words_of}
-use Rattle.ring_loose.specs.Loose.{aborted_view}
-use Rattle.ring_scenario.specs.Closing.{TookAndLeft, read_count}
+use Rattle.ring_lines.specs.Text.{AllBlank, IsBlank, IsEnd, lines_of, words_of}
+use Rattle.ring_loose.specs.Held.{held_in}
+use Rattle.ring_loose.specs.Receivers.{all_left}
+use Rattle.ring_scenario.specs.Closing.{LeavesMessages, TookAndLeft, read_count}
 use Rattle.ring_scenario.specs.declared.options.Options.{Options}
 use Rattle.ring_scenario.specs.declared.runner.Ended.{Ended}
 use Rattle.ring_scenario.specs.declared.runner.Runner.{Runner}
@@ -43,11 +45,13 @@ pub record HaveRun (lines left : List (List ℕ)) (old new : Runner) (was now : 
   pub runs : RunsLines taken old new printed
   pub written : Appends was now printed
 
--- the lines in front of a line that is `end` alone ran, and that line was taken
-pub record RunsToEnd (old new : List ℕ) (before after : Runner) (was now : Option (List ℕ)) : Type 0 where
+-- the lines in front of a line that is `end` alone ran, and that line, which has this number, was taken
+pub record RunsToEnd (old new : List ℕ) (before after : Runner) (was now : Option (List ℕ)) (number : ℕ)
+    : Type 0 where
   pub line : List ℕ
   pub ran : HaveRun (lines_of old) (line ∷ lines_of new) before after was now
-  pub end_alone : words_of line ≡ codes "end" ∷ []
+  pub end_alone : IsEnd (words_of line)
+  pub counted : number ≡ length ran.taken + 1
 
 -- the second line that `end` prints, if a conductor finished
 abbrev pub finished_text : Option Served → List ℕ
@@ -64,23 +68,25 @@ abbrev pub ended_text : Ended → List ℕ
 ended_text e = end_text e ++ finished_text e.served
 
 -- a runner was closed: the number of messages that the reads took and of those that are left, which are all that were
--- committed; and what the conductor finished with, if a line used it
+-- committed; the runs of the broadcast buffer's messages that its receivers copied; and what the conductor finished
+-- with, if a line used it
 pub record EndsAs (r : Runner) (e : Ended) : Type 0 where
   pub messages : e.messages ≡ read_count r.loose
-  pub left : length r.loose.consumer.consumer.taken + e.left
-      ≡ length (placed_committed_of (aborted_view r.loose.holder).producer.claims)
+  pub left : LeavesMessages r.loose e.left
+  pub copies : AreAllRuns (transmitted r.board.transmitter)
+      (all_left (held_in r.board.receivers) (view_of r.board.transmitter)).heard
   pub served : IsSome e.served ↔ IsTrue r.serves
   pub finished : IfSome e.served (TookAndLeft r.service)
 
--- A text ran: the lines in front of its line `end` did, each once and in order, and then the runner was closed. What
--- all of that printed is what was written
-pub record RunsText (text : List ℕ) (r : Runner) (was now : Option (List ℕ)) : Type 0 where
+-- Lines ran up to the first that is `end` alone, each once and in order, and then the runner was closed. What all of
+-- that printed is what was written. The line of `end` has this number, and these are left
+pub record RunsAndEnds (lines left : List (List ℕ)) (r : Runner) (was now : Option (List ℕ)) (number : ℕ)
+    : Type 0 where
   pub before : List (List ℕ)
   pub line : List ℕ
-  pub after : List (List ℕ)
-  pub whole : lines_of text ≡ before ++ line ∷ after
-  pub end_alone : words_of line ≡ codes "end" ∷ []
-  pub blank : AllBlank after
+  pub whole : lines ≡ before ++ line ∷ left
+  pub end_alone : IsEnd (words_of line)
+  pub counted : number ≡ length before + 1
   pub last : Runner
   pub printed : List ℕ
   pub runs : RunsLines before r last printed
@@ -88,6 +94,45 @@ pub record RunsText (text : List ℕ) (r : Runner) (was now : Option (List ℕ))
   pub ends : EndsAs last ended
   pub written : Appends was now (printed ++ ended_text ended)
 
+-- a text ran up to its line `end`, and the lines after it are blank
+abbrev pub RunsText : List ℕ → Runner → Option (List ℕ) → Option (List ℕ) → Type 0
+RunsText text r was now = (after : List (List ℕ)) × (number : ℕ) × RunsAndEnds (lines_of text) after r was now number
+    × AllBlank after
+
+-- the first of these lines is neither blank nor `end` alone, or there is none
+abbrev pub BeginsBad : List (List ℕ) → Type 0
+BeginsBad [] = Unit {0}
+BeginsBad (line ∷ more) = ¬ IsBlank (words_of line) × ¬ IsEnd (words_of line)
+
+-- the lines in front of the one of this number ran, and what they printed was written; that one is bad, or missing
+pub record StopsAt (lines : List (List ℕ)) (r : Runner) (was now : Option (List ℕ)) (number : ℕ) : Type 0 where
+  pub left : List (List ℕ)
+  pub last : Runner
+  pub ran : HaveRun lines left r last was now
+  pub bad : BeginsBad left
+  pub counted : number ≡ length ran.taken + 1
+
+-- the first of these lines that is not blank is the one of this number, if this many lines were in front of them
+pub record IsNotBlankAt (lines : List (List ℕ)) (taken number : ℕ) : Type 0 where
+  pub blanks : List (List ℕ)
+  pub line : List ℕ
+  pub more : List (List ℕ)
+  pub whole : lines ≡ blanks ++ line ∷ more
+  pub blank : AllBlank blanks
+  pub other : ¬ IsBlank (words_of line)
+  pub counted : number ≡ taken + length blanks + 1
+
+-- the line of this number is the first that is bad: those in front of it ran, or it is the first after `end` that is
+-- not blank
+abbrev pub FailsAt : List ℕ → Runner → Option (List ℕ) → Option (List ℕ) → ℕ → Type 0
+FailsAt text r was now number = StopsAt (lines_of text) r was now number
+    ⊎ ((after : List (List ℕ)) × (taken : ℕ) × RunsAndEnds (lines_of text) after r was now taken
+    × IsNotBlankAt after taken number)
+
 -- a runner was made as the options say, and the text ran
 abbrev pub RunsScenario : Options → List ℕ → Option (List ℕ) → Option (List ℕ) → Type 0
 RunsScenario options text was now = (r : Runner) × RunsBy options r × RunsText text r was now
+
+-- a runner was made as the options say, and the line of this number was the first that is bad
+abbrev pub FailsScenario : Options → List ℕ → Option (List ℕ) → Option (List ℕ) → ℕ → Type 0
+FailsScenario options text was now number = (r : Runner) × RunsBy options r × FailsAt text r was now number

@@ -1,5 +1,5 @@
 //! The input, read whole.
-ghost use Rattle.std.specs.Prelude.{◌≡◌, ◌≢◌, ◌≤◌, ◌<◌, IfOk, IfSome, length, vec_len};
+ghost use Rattle.std.specs.Prelude.{◌≡◌, ◌≢◌, ◌≤◌, ◌<◌, ℕ, IfOk, IfSome, length, vec_len};
 
 use crate::fault::RunFault;
 use ring_lines::MAX_INPUT;
@@ -13,7 +13,8 @@ pub const MAX_READS: u32 = 2_097_152;
 pub fn read_input<R: Read>(alloc: Global, reader: &mut R) -> Result<Vec<u8>, RunFault>
     ensures whole { IfOk result (λ input. IfSome (R.remaining reader.old) (λ bytes. input.items ≡ bytes)) }
     ensures short { IfOk result (λ input. vec_len input ≤ MAX_INPUT) }
-    ensures lawful { result ≢ Err RunFault.BadCapacity × result ≢ Err RunFault.BadCount }
+    ensures lawful { result ≢ Err RunFault.BadCapacity × result ≢ Err RunFault.BadCount
+        × ((line : ℕ) → result ≢ Err (RunFault.BadLine line)) }
     ensures long { result ≡ Err RunFault.InputTooLong
         → IfSome (R.remaining reader.old) (λ bytes. MAX_INPUT < length bytes) }
 {

@@ -1,9 +1,10 @@
 //! What a run holds, and what its calls print.
-ghost use Rattle.std.specs.Prelude.{◌≡◌, ◌+◌, ◌↔◌, ℕ, None, IfErr, IfOk, IfSome, IsOkUnless, IsSome, IsTrue, OnOk, codes, length, string_bytes};
-ghost use Rattle.ring_table.specs.Passing.{placed_committed_of};
+ghost use Rattle.std.specs.Prelude.{◌≡◌, ◌↔◌, ℕ, None, IfErr, IfOk, IfSome, IsOkUnless, IsSome, IsTrue, OnOk, codes, string_bytes};
+ghost use Rattle.ring_board.specs.Runs.{AreAllRuns};
+ghost use Rattle.ring_board.specs.Seats.{transmitted, view_of};
 ghost use Rattle.ring_loose.specs.Held.{IsFree, held_in};
-ghost use Rattle.ring_loose.specs.Loose.{aborted_view};
-ghost use Rattle.ring_scenario.specs.Closing.{read_count, TookAndLeft};
+ghost use Rattle.ring_loose.specs.Receivers.{all_left};
+ghost use Rattle.ring_scenario.specs.Closing.{read_count, LeavesMessages, TookAndLeft};
 ghost use Rattle.ring_scenario.specs.Sizes.{size_fault_of};
 ghost use Rattle.ring_scenario.specs.Texts.{number_text, positions_text};
 
@@ -241,8 +242,9 @@ impl Runner {
     /// left.
     pub fn close(self) -> Ended
         ensures messages { result.messages ≡ read_count self.loose }
-        ensures left { length self.loose.consumer.consumer.taken + result.left
-            ≡ length (placed_committed_of (aborted_view self.loose.holder).producer.claims) }
+        ensures left { LeavesMessages self.loose result.left }
+        ensures copies { AreAllRuns (transmitted self.board.transmitter)
+            (all_left (held_in self.board.receivers) (view_of self.board.transmitter)).heard }
         ensures served { IsSome result.served ↔ IsTrue self.serves }
         ensures finished { IfSome result.served (TookAndLeft self.service) }
     {

@@ -1,10 +1,10 @@
 //! Runs a scenario.
 ghost use Rattle.std.specs.Prelude.{◌≡◌, ◌≤◌, length, Some, IfSome, OnOk, IfErr};
-ghost use Rattle.ring_scenario.specs.Faults.{IsEarly};
-ghost use Rattle.ring_scenario.specs.Running.{RunsScenario, RunsText, RunsToEnd, ended_text, finished_text};
+ghost use Rattle.ring_scenario.specs.Faults.{IsEarly, IsOfWriting, OfLine};
+ghost use Rattle.ring_scenario.specs.Running.{FailsAt, FailsScenario, IsNotBlankAt, RunsScenario, RunsText, RunsToEnd, StopsAt, ended_text, finished_text};
 ghost use Rattle.ring_scenario.specs.Sizes.{size_fault_of};
 ghost use Rattle.std.specs.Io.KnownBytes.{Appends};
-ghost use Rattle.ring_lines.specs.Text.{lines_of, AllBlank, IsEnded};
+ghost use Rattle.ring_lines.specs.Text.{lines_of, AllBlank};
 ghost use Rattle.ring_counters.specs.Manager.{registry_of};
 ghost use Rattle.ring_counters.specs.Registry.{live_of};
 
@@ -28,12 +28,14 @@ pub fn run_scenario<R: AllocGlobal + Threads + Wait, I: Read, O: Write>(
     reader: &mut I,
     writer: &mut O,
 ) -> Result<(), RunFault>
-    // The last line that is not blank is `end`.
-    ensures ended { OnOk result (IfSome (I.remaining reader.old) IsEnded) }
-
-    // The lines before it ran, each once and in order. What was written is what they and `end` printed.
+    // The last line that is not blank is `end`. The lines before it ran, each once and in order. What was written is
+    // what they and `end` printed.
     ensures ran { OnOk result (IfSome (I.remaining reader.old) (λ text.
         RunsScenario options.now text (O.contents writer.old) (O.contents writer.new))) }
+
+    // The line that is reported is the first that is bad. What was written is what the lines before it printed.
+    ensures bad { IfErr result (OfLine (λ line. IfSome (I.remaining reader.old) (λ text.
+        FailsScenario options.now text (O.contents writer.old) (O.contents writer.new) line))) }
 
     // Options are checked before any input is read, and only they give these faults.
     ensures sizes { IfSome (size_fault_of options.now) (λ fault. (result ≡ Err fault) × (reader.new ≡ reader.old)) }
@@ -58,8 +60,9 @@ fn run_text<R: Threads + Wait, O: Write>(
     writer: &mut O,
 ) -> Result<(), RunFault>
     requires { length text.now ≤ MAX_INPUT }
-    ensures ended { OnOk result (IsEnded text.now) }
     ensures ran { OnOk result (RunsText text.now runner (O.contents writer.old) (O.contents writer.new)) }
+    ensures bad { IfErr result (OfLine
+        (FailsAt text.now runner (O.contents writer.old) (O.contents writer.new))) }
     ensures late { IfErr result (λ fault. ¬ IsEarly fault) }
 {
     let mut lines = Lines::of(text);
@@ -78,8 +81,11 @@ fn run_to_end<R: Threads + Wait, O: Write>(
     lines: &mut Lines,
     writer: &mut O,
 ) -> Result<(), RunFault>
+    requires { lines.old.taken ≡ 0 }
     ensures end { OnOk result (RunsToEnd lines.old.rest.now lines.new.rest.now runner.old runner.new
-        (O.contents writer.old) (O.contents writer.new)) }
+        (O.contents writer.old) (O.contents writer.new) lines.new.taken) }
+    ensures bad { IfErr result (OfLine
+        (StopsAt (lines_of lines.old.rest.now) runner.old (O.contents writer.old) (O.contents writer.new))) }
     ensures late { IfErr result (λ fault. ¬ IsEarly fault) }
 {
     while let Some(text) = lines.next_line() {
@@ -103,6 +109,7 @@ fn run_to_end<R: Threads + Wait, O: Write>(
 /// Tests that the lines after `end` have no words but comments.
 fn rest_is_blank(alloc: Global, lines: &mut Lines) -> Result<(), RunFault>
     ensures blank { OnOk result (AllBlank (lines_of lines.old.rest.now)) }
+    ensures bad { IfErr result (OfLine (IsNotBlankAt (lines_of lines.old.rest.now) lines.old.taken)) }
     ensures late { IfErr result (λ fault. ¬ IsEarly fault) }
 {
     while let Some(text) = lines.next_line() {
@@ -118,7 +125,7 @@ fn rest_is_blank(alloc: Global, lines: &mut Lines) -> Result<(), RunFault>
 /// Writes what `end` prints: a line, and one more if a conductor finished.
 fn write_end<O: Write>(alloc: Global, ended: Ended, writer: &mut O) -> Result<(), RunFault>
     ensures written { OnOk result (Appends (O.contents writer.old) (O.contents writer.new) (ended_text ended)) }
-    ensures late { IfErr result (λ fault. ¬ IsEarly fault) }
+    ensures fault { IfErr result IsOfWriting }
 {
     let text = format!(in alloc; "end messages {} left {}\n", ended.messages, ended.left)?;
     write_text(writer, text.as_str())?;
@@ -131,7 +138,7 @@ fn write_end<O: Write>(alloc: Global, ended: Ended, writer: &mut O) -> Result<()
 fn write_finished<O: Write>(alloc: Global, served: &Served, writer: &mut O) -> Result<(), RunFault>
     ensures written { OnOk result
         (Appends (O.contents writer.old) (O.contents writer.new) (finished_text (Some served.now))) }
-    ensures late { IfErr result (λ fault. ¬ IsEarly fault) }
+    ensures fault { IfErr result IsOfWriting }
 {
     let text = format!(in alloc;
         "finished received {} left {} live {}\n",
@@ -153,7 +160,7 @@ fn count_live(counters: &CountersManager) -> usize
 
 fn write_text<O: Write>(writer: &mut O, text: &str) -> Result<(), RunFault>
     ensures written { OnOk result (Appends (O.contents writer.old) (O.contents writer.new) text.now) }
-    ensures late { IfErr result (λ fault. ¬ IsEarly fault) }
+    ensures fault { IfErr result IsOfWriting }
 {
     writer
         .write_all(text.as_bytes())

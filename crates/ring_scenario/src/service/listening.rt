@@ -6,7 +6,7 @@ ghost use Rattle.ring_board.specs.Seats.{shares_of};
 ghost use Rattle.ring_conductor.specs.Conducting.{KeepsTheRest, transmitter_of};
 ghost use Rattle.ring_loose.specs.Held.{IsFree, held_in};
 ghost use Rattle.ring_loose.specs.Receivers.{LeavesCrowd, ReceivesAt, Subscribes, crowd, shares_in, IsCrowdOf};
-ghost use Rattle.ring_scenario.specs.Keeping.{KeepsButListeners};
+ghost use Rattle.ring_scenario.specs.Keeping.{KeepsButListeners, KeepsRing};
 
 use super::CommandService;
 use ring_board::{Board, CopyReceiver, SubscribeFault};
@@ -103,7 +103,7 @@ impl CommandService {
         ensures same { IfNone result (held_in self.new.listeners ≡ held_in self.old.listeners) }
         ensures free { IfNone result (IsFree (held_in self.old.listeners) number) }
         ensures others { KeepsTheRest self.old.conductor self.new.conductor }
-        ensures producer { self.new.producer ≡ self.old.producer }
+        ensures rest { KeepsButListeners self.old self.new }
     {
         join_listener(
             &self.board,
@@ -117,7 +117,7 @@ impl CommandService {
     pub(super) fn join_listeners(&mut self)
         ensures shares { shares_of (transmitter_of self.new.conductor) ≡ all_shares }
         ensures others { KeepsTheRest self.old.conductor self.new.conductor }
-        ensures producer { self.new.producer ≡ self.old.producer }
+        ensures ring { KeepsRing self.old self.new }
     {
         for index in 0..self.listeners.drawn() {
             let _ = self.dismiss(index + 1);

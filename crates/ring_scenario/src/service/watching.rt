@@ -6,7 +6,7 @@ ghost use Rattle.ring_counters.specs.Seats.{values_count};
 ghost use Rattle.ring_conductor.specs.Conducting.{manager_in, value_shares_of, KeepsAllCounters};
 ghost use Rattle.ring_counters.specs.declared.values.seats.ValueReader.{ValueReader};
 ghost use Rattle.ring_loose.specs.Held.{IsFree, IsHeld, held_count, held_in};
-ghost use Rattle.ring_scenario.specs.Keeping.{KeepsButWatchers};
+ghost use Rattle.ring_scenario.specs.Keeping.{KeepsButWatchers, KeepsRing};
 ghost use Rattle.ring_scenario.specs.Watchers.{AreWatchedBy, AreWatchers, Peeks, Unwatches, Watches};
 
 use super::CommandService;
@@ -136,7 +136,7 @@ impl CommandService {
     pub(super) fn join_watchers(&mut self)
         ensures shares { value_shares_of self.new.conductor ≡ all_shares }
         ensures keeps { KeepsAllCounters self.new.values self.old.conductor self.new.conductor }
-        ensures producer { self.new.producer ≡ self.old.producer }
+        ensures ring { KeepsRing self.old self.new }
     {
         for index in 0..self.watchers.drawn() {
             let _ = self.unwatch(index + 1);

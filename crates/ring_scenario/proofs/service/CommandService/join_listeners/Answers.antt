@@ -24,7 +24,7 @@ loop-index-preserved c =
             ∙ was.2.consumer;
         counters = c.dismiss.ensures.others.counters ∙ was.2.counters;
       },
-      c.dismiss.ensures.producer ∙ was.3,
+      (c.dismiss.ensures.rest.0.0 ∙ was.3.0, c.dismiss.ensures.rest.1 ∙ was.3.1),
     )
 
 pub returns-clause-shares : goal.returns-clause-shares

@@ -29,7 +29,7 @@ loop-index-preserved c =
           transmitter = keeps.seats.transmitter ∙ was.2.seats.transmitter;
         };
       },
-      c.unwatch.ensures.rest.1 ∙ was.3,
+      (c.unwatch.ensures.rest.0.0 ∙ was.3.0, c.unwatch.ensures.rest.1 ∙ was.3.1),
     )
 
 pub returns-clause-shares : goal.returns-clause-shares
