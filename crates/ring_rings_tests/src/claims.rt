@@ -6,7 +6,7 @@ use crate::bench::Said::{self, Done, Made};
 use crate::bench::{Fill, opened, read_nine};
 use crate::play::{OnEach, PLAY, Play, on_each, plays};
 use crate::script::{BODY, Message, Script, end};
-use ring_rings::{Claim, Closes, Kind, Producer, Ring, Steps, Stop};
+use ring_rings::{Claim, Closes, Kind, Producer, ReadEnd, Ring, Steps, Stop};
 use std::alloc::Global;
 use std::process;
 
@@ -37,23 +37,31 @@ pub fn claimed<K: Kind, B: Steps>(
     K::claim_once(ring, producer, type_id, len).expect(rt, "a claim")
 }
 
-/// Of two claims the second one is settled first.
+/// What is read when the second of two claims was committed, and then when the first one was.
+fn settles_the_second_first<K: Kind, B: Steps + Drop>(
+    rt: &impl process::Abort,
+    alloc: Global,
+) -> (ReadEnd, ReadEnd) {
+    let mut script = Script::new(&[], &[(1, &[]), (2, &[])]);
+    let (ring, mut producer, mut consumer) = opened::<K, B>(rt, alloc, 0);
+    let first = claimed(rt, &ring, &mut producer, 1, 0);
+    let second = claimed(rt, &ring, &mut producer, 2, 0);
+    assert!(rt; second.place() == 8 && second.index() == 16);
+    ring.commit(&mut producer, second);
+    let before = read_nine(&ring, &mut consumer, &mut script);
+    ring.commit(&mut producer, first);
+    let after = read_nine(&ring, &mut consumer, &mut script);
+    assert!(rt; script.is_done());
+    (before, after)
+}
+
 struct SettlesSecondFirst;
 
 impl OnEach for SettlesSecondFirst {
     fn holds<K: Kind, B: Closes + Drop>(rt: &impl process::Abort, alloc: Global) {
-        let mut script = Script::new(&[], &[(1, &[]), (2, &[])]);
-        let (ring, mut producer, mut consumer) = opened::<K, B>(rt, alloc, 0);
-        let first = claimed(rt, &ring, &mut producer, 1, 0);
-        let second = claimed(rt, &ring, &mut producer, 2, 0);
-        assert!(rt; second.place() == 8 && second.index() == 16);
-        ring.commit(&mut producer, second);
-        let before = read_nine(&ring, &mut consumer, &mut script);
-        ring.commit(&mut producer, first);
-        let after = read_nine(&ring, &mut consumer, &mut script);
+        let (before, after) = settles_the_second_first::<K, B>(rt, alloc);
         assert_eq!(rt; before, end(0, 0, Stop::Unpublished));
         assert_eq!(rt; after, end(2, 16, Stop::Unpublished));
-        assert!(rt; script.is_done());
     }
 }
 
@@ -127,31 +135,42 @@ fn puts_bytes_into_a_claim(rt: HostRuntime) {
     plays(&rt, rt.alloc(), &[&INSIDE, &ACROSS_WORDS, &BEHIND]);
 }
 
-/// What other calls answer while a claim is open: the number of open claims, a tail, an id and a heartbeat. And what
-/// reads find before it is filled, before it is committed, and then.
+/// What other calls answer while a claim is open, and what reads find before it is filled, before it is committed, and
+/// then: the number of open claims, a tail, an id, a heartbeat, and the messages of each read.
+fn others_and_reads<K: Kind, B: Steps + Drop>(
+    rt: &impl process::Abort,
+    alloc: Global,
+) -> ([u64; 4], [ReadEnd; 3]) {
+    let eight = [0, 1, 2, 3, 4, 5, 6, 7];
+    let shown: [Message<'_>; 1] = [(1, &eight)];
+    let mut script = Script::new(&[], &shown);
+    let (ring, mut producer, mut consumer) = opened::<K, B>(rt, alloc, 0);
+    let mut claim = claimed(rt, &ring, &mut producer, 1, 8);
+    let others = [
+        producer.open_claims(),
+        ring.positions(&mut producer).tail,
+        ring.next_correlation_id(&mut producer),
+        ring.heartbeat(&mut producer),
+    ];
+    let empty = read_nine(&ring, &mut consumer, &mut script);
+    ring.put(&mut producer, &mut claim, 0, &eight)
+        .expect(rt, "room");
+    let filled = read_nine(&ring, &mut consumer, &mut script);
+    ring.commit(&mut producer, claim);
+    let committed = read_nine(&ring, &mut consumer, &mut script);
+    assert!(rt; script.is_done());
+    (others, [empty, filled, committed])
+}
+
 struct ShownLate;
 
 impl OnEach for ShownLate {
     fn holds<K: Kind, B: Closes + Drop>(rt: &impl process::Abort, alloc: Global) {
-        let eight = [0, 1, 2, 3, 4, 5, 6, 7];
-        let shown: [Message<'_>; 1] = [(1, &eight)];
-        let mut script = Script::new(&[], &shown);
-        let (ring, mut producer, mut consumer) = opened::<K, B>(rt, alloc, 0);
-        let mut claim = claimed(rt, &ring, &mut producer, 1, 8);
-        let tail = ring.positions(&mut producer).tail;
-        let id = ring.next_correlation_id(&mut producer);
-        let heartbeat = ring.heartbeat(&mut producer);
-        assert!(rt; producer.open_claims() == 1 && tail == 16 && id == 0 && heartbeat == 0);
-        let empty = read_nine(&ring, &mut consumer, &mut script);
-        ring.put(&mut producer, &mut claim, 0, &eight)
-            .expect(rt, "room");
-        let filled = read_nine(&ring, &mut consumer, &mut script);
-        ring.commit(&mut producer, claim);
-        let committed = read_nine(&ring, &mut consumer, &mut script);
+        let (others, [empty, filled, committed]) = others_and_reads::<K, B>(rt, alloc);
+        assert!(rt; others == [1, 16, 0, 0]);
         assert_eq!(rt; empty, end(0, 0, Stop::Unpublished));
         assert_eq!(rt; filled, end(0, 0, Stop::Unpublished));
         assert_eq!(rt; committed, end(1, 16, Stop::Unpublished));
-        assert!(rt; script.is_done());
     }
 }
 

@@ -1,4 +1,4 @@
-use Rattle.ring_rings_tests.proofs.claims.SettlesSecondFirstOnEach.holds.Goals as goal
+use Rattle.ring_rings_tests.proofs.claims.settles_the_second_first.Goals as goal
 
 pub commit-requires-2-clause-claim : goal.commit-requires-2-clause-claim
 commit-requires-2-clause-claim g c =
