@@ -300,25 +300,22 @@ impl Bench {
             Call::Publish => self.publish(),
             Call::Join => self.join(),
             Call::JoinRaw => self.join_raw(),
-            _ => match self.number(call) {
-                Some(number) => Answer::Number(number),
-                None => Answer::Missing,
-            },
+            _ => self.number(call),
         }
     }
 
-    /// What a call answers that changes nothing.
-    fn number(&self, call: Call<'_>) -> Option<u64> {
-        match call {
-            Call::Tail => Some(self.transmitter.as_ref()?.tail()),
-            Call::Shares => Some(u64::from(self.transmitter.as_ref()?.shares())),
-            Call::Place => Some(self.receiver.as_ref()?.place()),
-            Call::LappedCount => Some(self.receiver.as_ref()?.lapped_count()),
-            Call::RawPlace => Some(self.raw.as_ref()?.place()),
-            Call::RawLappedCount => Some(self.raw.as_ref()?.lapped_count()),
-            Call::Capacity => Some(u64::from(self.board.capacity())),
-            Call::MaxMessage => Some(u64::from(self.board.max_message())),
-            _ => None,
+    /// Makes a call that changes nothing.
+    fn number(&self, call: Call<'_>) -> Answer {
+        match (call, &self.transmitter, &self.receiver, &self.raw) {
+            (Call::Tail, Some(seat), _, _) => Answer::Number(seat.tail()),
+            (Call::Shares, Some(seat), _, _) => Answer::Number(u64::from(seat.shares())),
+            (Call::Place, _, Some(seat), _) => Answer::Number(seat.place()),
+            (Call::LappedCount, _, Some(seat), _) => Answer::Number(seat.lapped_count()),
+            (Call::RawPlace, _, _, Some(seat)) => Answer::Number(seat.place()),
+            (Call::RawLappedCount, _, _, Some(seat)) => Answer::Number(seat.lapped_count()),
+            (Call::Capacity, _, _, _) => Answer::Number(u64::from(self.board.capacity())),
+            (Call::MaxMessage, _, _, _) => Answer::Number(u64::from(self.board.max_message())),
+            _ => Answer::Missing,
         }
     }
 

@@ -1,28 +1,28 @@
 //! The text of each refusal: number and name.
 use ring_board::{Lapped, MakeFault, NoShares, ReceiversOut, SubscribeFault, TransmitFault};
-use std::alloc::{AllocError, Global};
+use std::alloc::Global;
 use std::fmt;
-use std::test::Fail;
+use std::process::Abort;
 
-/// Tests whether this is the fault's text.
-fn tells(alloc: Global, fault: impl fmt::Display + Drop, text: &str) -> Result<bool, AllocError> {
-    Ok(fault.to_string(alloc)?.as_str() == text)
+/// Tests the text of a fault.
+fn tells(rt: &impl Abort, alloc: Global, fault: impl fmt::Display + Drop, text: &str) {
+    let told = fault.to_string(alloc).expect(rt, "memory");
+    assert_eq!(rt; told.as_str(), text);
 }
 
 #[test]
-fn tells_why_no_board_is_made(rt: HostRuntime) -> Result<(), Fail> {
+fn tells_why_no_board_is_made(rt: HostRuntime) {
     for (fault, text) in [
         (MakeFault::BadCapacity, "1 BadCapacity"),
         (MakeFault::BadStart, "2 BadStart"),
         (MakeFault::OutOfMemory, "3 OutOfMemory"),
     ] {
-        assert!(rt; tells(rt.alloc(), fault, text)?, "{text}");
+        tells(&rt, rt.alloc(), fault, text);
     }
-    Ok(())
 }
 
 #[test]
-fn tells_why_nothing_is_transmitted(rt: HostRuntime) -> Result<(), Fail> {
+fn tells_why_nothing_is_transmitted(rt: HostRuntime) {
     for (fault, text) in [
         (TransmitFault::BadType { type_id: -7 }, "4 BadType -7"),
         (
@@ -34,13 +34,12 @@ fn tells_why_nothing_is_transmitted(rt: HostRuntime) -> Result<(), Fail> {
             "6 PositionLimit tail 8",
         ),
     ] {
-        assert!(rt; tells(rt.alloc(), fault, text)?, "{text}");
+        tells(&rt, rt.alloc(), fault, text);
     }
-    Ok(())
 }
 
 #[test]
-fn tells_what_receivers_are_refused(rt: HostRuntime) -> Result<(), Fail> {
+fn tells_what_receivers_are_refused(rt: HostRuntime) {
     let lapped = Lapped {
         count: 1,
         place: 0,
@@ -50,11 +49,10 @@ fn tells_what_receivers_are_refused(rt: HostRuntime) -> Result<(), Fail> {
         (SubscribeFault::OutOfMemory, "3 OutOfMemory"),
         (SubscribeFault::NoShares, "12 NoShares"),
     ] {
-        assert!(rt; tells(rt.alloc(), fault, text)?, "{text}");
+        tells(&rt, rt.alloc(), fault, text);
     }
-    assert!(rt; tells(rt.alloc(), NoShares, "12 NoShares")?);
-    assert!(rt; tells(rt.alloc(), lapped, "13 Lapped 1 place 0 intent 256")?);
+    tells(&rt, rt.alloc(), NoShares, "12 NoShares");
+    tells(&rt, rt.alloc(), lapped, "13 Lapped 1 place 0 intent 256");
     let out = ReceiversOut { receivers: 1 };
-    assert!(rt; tells(rt.alloc(), out, "14 ReceiversOut 1")?);
-    Ok(())
+    tells(&rt, rt.alloc(), out, "14 ReceiversOut 1");
 }

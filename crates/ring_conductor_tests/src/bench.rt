@@ -191,3 +191,8 @@ impl<K: Kind, B: Closes + Drop> Bench<K, B> {
         ring_conductor::finish(ring, board, values, conductor, producer).ok()
     }
 }
+
+/// Makes calls on a conductor of four counters over a ring of this kind, and tests what each answers.
+pub fn plays<K: Kind>(rt: &impl Abort, alloc: Global, calls: &[(Call<'_>, Answer)]) {
+    Bench::<K>::new(rt, alloc, 4).plays(rt, calls);
+}

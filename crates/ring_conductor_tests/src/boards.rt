@@ -2,7 +2,7 @@
 use crate::bench::Answer::{Done, Value, Worked};
 use crate::bench::Call::{Send, Work};
 use crate::bench::{Answer, Bench, Call};
-use ring_conductor::{Command, WorkStop};
+use ring_conductor::{Command, Finished, WorkStop};
 use ring_rings::ManyToOne;
 use std::alloc::Global;
 use std::process::Abort;
@@ -17,7 +17,10 @@ fn leaves(
 ) -> (u64, u64, u32) {
     let mut bench = Bench::<ManyToOne>::new_at(rt, alloc, 4, start);
     bench.plays(rt, calls);
-    let finished = bench.finish_alone().expect(rt, "an end");
+    left(bench.finish_alone().expect(rt, "an end"))
+}
+
+fn left(finished: Finished) -> (u64, u64, u32) {
     let mut rest = finished.rest;
     (finished.received, finished.board.tail(), rest.drain())
 }

@@ -1,11 +1,15 @@
 //! What a client sends, and what it receives.
+ghost use Rattle.ring_board.specs.Seats.{IsTransmitterOf};
+
 use crate::talk::Call::{Poll, Send, SendAs, Work};
 use crate::talk::Said::{Full, Id, Sent, TooLong};
-use crate::talk::{Call, Said, Talk};
-use ring_board::{Board, Lapped};
+use crate::talk::{Call, Said, Talk, goes};
+use ring_board::{Board, Lapped, Transmitter};
 use ring_conductor::Polled::{Another, Answered, Nothing};
 use ring_conductor::{Client, Command, Polled, Reply, Request, WorkStop, encode_command};
-use ring_rings::{ManyToOne, ManyToOneRing, OneToOne};
+use ring_rings::{Kind, ManyToOne, ManyToOneRing, OneToOne};
+use std::alloc::Global;
+use std::process::Abort;
 
 static ASKED: [(Call<'static>, Said); 14] = [
     (Poll(0), Said::Polled(Nothing)),
@@ -66,14 +70,17 @@ static ASKED: [(Call<'static>, Said); 14] = [
     (Call::Value(0), Said::Value(Ok(-3))),
 ];
 
+/// How many commands a conductor received of which these calls were made.
+fn received<K: Kind>(rt: &impl Abort, alloc: Global, calls: &[(Call<'_>, Said)]) -> u64 {
+    let mut talk = Talk::<K>::new(rt, alloc, 1024, 256);
+    talk.goes(rt, calls);
+    talk.finish().expect(rt, "an end").received
+}
+
 #[test]
 fn each_request_is_the_command_with_the_drawn_id(rt: HostRuntime) {
-    let mut many = Talk::<ManyToOne>::new(&rt, rt.alloc(), 1024, 256);
-    many.goes(&rt, &ASKED);
-    let mut one = Talk::<OneToOne>::new(&rt, rt.alloc(), 1024, 256);
-    one.goes(&rt, &ASKED);
-    assert_eq!(rt; many.finish().expect(&rt, "an end").received, 5);
-    assert_eq!(rt; one.finish().expect(&rt, "an end").received, 5);
+    assert_eq!(rt; received::<ManyToOne>(&rt, rt.alloc(), &ASKED), 5);
+    assert_eq!(rt; received::<OneToOne>(&rt, rt.alloc(), &ASKED), 5);
 }
 
 /// A command to set, whose record takes 32 bytes of the ring.
@@ -166,8 +173,8 @@ static AGAIN: [(Call<'static>, Said); 25] = [
 
 #[test]
 fn a_refused_command_can_be_sent_again_with_its_id(rt: HostRuntime) {
-    Talk::<ManyToOne>::new(&rt, rt.alloc(), 256, 1024).goes(&rt, &AGAIN);
-    Talk::<OneToOne>::new(&rt, rt.alloc(), 256, 1024).goes(&rt, &AGAIN);
+    goes::<ManyToOne>(&rt, rt.alloc(), (256, 1024), &AGAIN);
+    goes::<OneToOne>(&rt, rt.alloc(), (256, 1024), &AGAIN);
 }
 
 /// A heartbeat is the last that was stored, and neither a command nor a reply changes it.
@@ -184,7 +191,7 @@ static BEATS: [(Call<'static>, Said); 8] = [
 
 #[test]
 fn a_client_loads_the_last_heartbeat(rt: HostRuntime) {
-    Talk::<ManyToOne>::new(&rt, rt.alloc(), 256, 256).goes(&rt, &BEATS);
+    goes::<ManyToOne>(&rt, rt.alloc(), (256, 256), &BEATS);
 }
 
 const TOO_LONG: Request<'static> = Request::AllocateOwned {
@@ -217,7 +224,7 @@ static LONG: [(Call<'static>, Said); 5] = [
 
 #[test]
 fn no_id_is_drawn_for_a_command_that_is_too_long(rt: HostRuntime) {
-    Talk::<ManyToOne>::new(&rt, rt.alloc(), 8192, 256).goes(&rt, &LONG);
+    goes::<ManyToOne>(&rt, rt.alloc(), (8192, 256), &LONG);
 }
 
 const FREE: Request<'static> = Request::Free { id: 0 };
@@ -256,7 +263,24 @@ static LAPPED: [(Call<'static>, Said); 15] = [
 
 #[test]
 fn a_client_is_told_that_it_was_lapped(rt: HostRuntime) {
-    Talk::<ManyToOne>::new(&rt, rt.alloc(), 1024, 256).goes(&rt, &LAPPED);
+    goes::<ManyToOne>(&rt, rt.alloc(), (1024, 256), &LAPPED);
+}
+
+/// Transmits a command with the type id of a reply, and then that reply.
+fn transmits(rt: &impl Abort, board: &Board, transmitter: &mut Transmitter)
+    requires { IsTransmitterOf board.now transmitter.old }
+{
+    let mut body = [0; 16];
+    let free = Command::Free {
+        correlation: 3,
+        id: 1,
+    };
+    assert_eq!(rt; encode_command(&free, &mut body), Some(12));
+    let sent = [
+        board.transmit(transmitter, 102, &body[..12]),
+        board.transmit(transmitter, 102, &body[..8]),
+    ];
+    assert_eq!(rt; sent, [Ok(()), Ok(())]);
 }
 
 #[test]
@@ -266,22 +290,9 @@ fn what_is_no_reply_is_told_apart(rt: HostRuntime) {
     let receiver = board
         .subscribe(rt.alloc(), &mut transmitter)
         .expect(&rt, "a receiver");
+    transmits(&rt, &board, &mut transmitter);
     let mut client = Client::new(producer, receiver);
-    let mut body = [0; 16];
-    let free = Command::Free {
-        correlation: 3,
-        id: 1,
-    };
-    assert_eq!(rt; encode_command(&free, &mut body), Some(12));
-    let sent = [
-        board.transmit(&mut transmitter, 102, &body[..12]),
-        board.transmit(&mut transmitter, 102, &body[..8]),
-    ];
-    assert_eq!(rt; sent, [Ok(()), Ok(())]);
-
-    assert_eq!(rt; client.poll(&board, 3), Polled::NoReply);
-    assert_eq!(rt;
-        client.poll(&board, 3),
-        Polled::Answered(Reply::Done { correlation: 3 })
-    );
+    let polled = [client.poll(&board, 3), client.poll(&board, 3)];
+    let done = Reply::Done { correlation: 3 };
+    assert_eq!(rt; polled, [Polled::NoReply, Polled::Answered(done)]);
 }

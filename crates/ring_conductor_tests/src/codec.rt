@@ -65,9 +65,13 @@ fn is_spelled(rt: &impl Abort, command: &Command<'_>, type_id: i32, bytes: &[u8]
     let mut out = [7; 40];
     let len = encode_command(command, &mut out);
     assert_eq!(rt; (command.type_id(), len), (type_id, Some(bytes.len())));
-    assert!(rt; out.starts_with(bytes));
-    assert!(rt; out.iter().skip(bytes.len()).all(|byte| *byte == 7));
+    assert!(rt; begins_with(&out, bytes));
     assert_eq!(rt; decode_command(type_id, bytes), Ok(*command));
+}
+
+/// Tests whether these are the first bytes, and the rest are 7.
+fn begins_with(out: &[u8], bytes: &[u8]) -> bool {
+    out.starts_with(bytes) && out.iter().skip(bytes.len()).all(|byte| *byte == 7)
 }
 
 #[test]
@@ -219,8 +223,7 @@ fn is_reply(rt: &impl Abort, reply: &Reply, type_id: i32, bytes: &[u8]) {
     let len = encode_reply(reply, &mut out);
     let lengths = (reply.type_id(), reply.encoded_len(), len);
     assert_eq!(rt; lengths, (type_id, bytes.len(), bytes.len()));
-    assert!(rt; out.starts_with(bytes));
-    assert!(rt; out.iter().skip(bytes.len()).all(|byte| *byte == 7));
+    assert!(rt; begins_with(&out, bytes));
     assert_eq!(rt; decode_reply(type_id, bytes), Ok(*reply));
     let short = bytes.get(1..).unwrap_or(bytes);
     assert!(rt; decode_reply(type_id, short).is_err());

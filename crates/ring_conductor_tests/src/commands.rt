@@ -1,7 +1,7 @@
 //! What the conductor does with commands, on rings of both kinds.
 use crate::bench::Answer::{Done, State, Worked};
 use crate::bench::Call::{Receive, Send, Work, Write};
-use crate::bench::{Answer, Bench, Call};
+use crate::bench::{Answer, Bench, Call, plays};
 use crate::sending::work;
 use ring_conductor::{Command, Cycle, FinishFault, Reply, WorkStop};
 use ring_rings::{Kind, ManyToOne, OneToOne};
@@ -66,16 +66,25 @@ static REPLIES: [(u64, Reply); 4] = [
     ),
 ];
 
-fn gives_a_freed_id_again<K: Kind>(rt: &impl Abort, alloc: Global) {
-    let mut bench = Bench::<K>::new(rt, alloc, 1);
+fn works<K: Kind>(rt: &impl Abort, bench: &mut Bench<K>) {
     assert!(rt; bench.send(&COMMANDS));
     assert_eq!(rt; bench.run(&[]), work(0, WorkStop::Limit));
     assert_eq!(rt; bench.run(&CYCLES), work(4, WorkStop::Limit));
     assert!(rt; bench.receives(&REPLIES));
+}
+
+/// Finishes once the listener is back.
+fn finishes<K: Kind>(rt: &impl Abort, bench: Bench<K>) {
     let (reason, bench) = bench.finish().err().expect(rt, "a refusal");
     assert_eq!(rt; reason, FinishFault::ReceiversOut { receivers: 1 });
     let finished = bench.finish_alone().expect(rt, "an end");
     assert_eq!(rt; (finished.received, finished.board.latest()), (4, 64));
+}
+
+fn gives_a_freed_id_again<K: Kind>(rt: &impl Abort, alloc: Global) {
+    let mut bench = Bench::<K>::new(rt, alloc, 1);
+    works(rt, &mut bench);
+    finishes(rt, bench);
 }
 
 #[test]
@@ -175,7 +184,7 @@ static UNREAD: [(Call<'static>, Answer); 9] = [
 
 #[test]
 fn refuses_what_it_cannot_read_and_changes_nothing(rt: HostRuntime) {
-    Bench::<ManyToOne>::new(&rt, rt.alloc(), 4).plays(&rt, &UNREAD);
+    plays::<ManyToOne>(&rt, rt.alloc(), &UNREAD);
 }
 
 static REFUSED: [(Call<'static>, Answer); 4] = [
@@ -229,5 +238,5 @@ static REFUSED: [(Call<'static>, Answer); 4] = [
 
 #[test]
 fn refuses_what_the_counters_refuse(rt: HostRuntime) {
-    Bench::<OneToOne>::new(&rt, rt.alloc(), 4).plays(&rt, &REFUSED);
+    plays::<OneToOne>(&rt, rt.alloc(), &REFUSED);
 }

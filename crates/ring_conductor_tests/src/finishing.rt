@@ -35,34 +35,12 @@ fn refused<B: Closes + Drop>(
     back
 }
 
-/// Open claims are reported before producers that are out, and the conductor works on after it did not finish.
-fn finishes_last<B: Closes + Drop>(rt: &impl Abort, alloc: Global) {
-    let Bench {
-        ring,
-        board,
-        values,
-        mut conductor,
-        mut producer,
-        listener,
-    } = Bench::<ManyToOne, B>::new(rt, alloc, 4);
-    conductor.join_receiver(&board, listener);
-    let mut other = ring.split(&mut producer).expect(rt, "a producer");
-    let claim = ring.claim_once(&mut producer, 2, 12).expect(rt, "a claim");
-    let open = FinishFault::ClaimsOpen { claims: 1 };
-    let mut back = refused(rt, ring, board, values, conductor, producer, open);
-    back.ring.abort(&mut back.producer, claim);
-    let out = FinishFault::ProducersOut { shares: 1 };
-    let mut back = refused(
-        rt,
-        back.ring,
-        back.board,
-        back.values,
-        back.conductor,
-        back.producer,
-        out,
-    );
-    assert_eq!(rt; back.ring.write_once(&mut other, 2, &[]), Ok(()));
-    back.ring.join(&mut back.producer, other);
+/// Finishes after a message that is no command was received.
+fn finishes<B: Closes + Drop>(rt: &impl Abort, back: FinishRefused<Ring<ManyToOne, B>>)
+    requires conductor { IsConductorOf IsConsumerOf back.ring back.board back.values back.conductor }
+    requires producer { IsProducerOf back.ring back.producer }
+{
+    let mut back = back;
     let one = back
         .conductor
         .do_work(&back.ring, &back.board, &back.values, 0, 9);
@@ -77,6 +55,50 @@ fn finishes_last<B: Closes + Drop>(rt: &impl Abort, alloc: Global) {
     .ok()
     .expect(rt, "an end");
     assert_eq!(rt; (finished.received, finished.board.tail()), (1, 24));
+}
+
+/// Does not finish before the other producer is back, which writes a message that is no command.
+fn finishes_with_both<B: Closes + Drop>(
+    rt: &impl Abort,
+    back: FinishRefused<Ring<ManyToOne, B>>,
+    mut other: Producer,
+)
+    requires conductor { IsConductorOf IsConsumerOf back.ring back.board back.values back.conductor }
+    requires producer { IsProducerOf back.ring back.producer }
+    requires other { IsProducerOf back.ring other }
+{
+    let out = FinishFault::ProducersOut { shares: 1 };
+    let mut back = refused(
+        rt,
+        back.ring,
+        back.board,
+        back.values,
+        back.conductor,
+        back.producer,
+        out,
+    );
+    assert_eq!(rt; back.ring.write_once(&mut other, 2, &[]), Ok(()));
+    back.ring.join(&mut back.producer, other);
+    finishes(rt, back);
+}
+
+/// Open claims are reported before producers that are out, and the conductor works on after it did not finish.
+fn finishes_last<B: Closes + Drop>(rt: &impl Abort, alloc: Global) {
+    let Bench {
+        ring,
+        board,
+        values,
+        mut conductor,
+        mut producer,
+        listener,
+    } = Bench::<ManyToOne, B>::new(rt, alloc, 4);
+    conductor.join_receiver(&board, listener);
+    let other = ring.split(&mut producer).expect(rt, "a producer");
+    let claim = ring.claim_once(&mut producer, 2, 12).expect(rt, "a claim");
+    let open = FinishFault::ClaimsOpen { claims: 1 };
+    let mut back = refused(rt, ring, board, values, conductor, producer, open);
+    back.ring.abort(&mut back.producer, claim);
+    finishes_with_both(rt, back, other);
 }
 
 #[test]

@@ -1,6 +1,5 @@
 //! When a storm's clients ask their gate, and when they report an answer to it; and threads that do not start.
-use crate::storms::run;
-use ring_rings::RingTable;
+use crate::storms::{Bodies, run_in};
 use ring_storm::{Gate, OpenGate, StormFault, StormPlan};
 use std::sync::atomic::Ordering::SeqCst;
 use std::sync::atomic::{AtomicBool, AtomicU32};
@@ -48,12 +47,11 @@ fn each_answer_is_told_before_the_next_command(rt: HostRuntime) {
         ring: 256,
         turns: 50_000_000,
     };
-    let report = run::<RingTable, _, _>(&rt, rt.alloc(), &plan, &gate).expect(&rt, "a report");
-    assert_eq!(rt; report.seen, 600);
-    assert_eq!(rt; report.sum, 600);
+    let report = run_in(&rt, rt.alloc(), Bodies::InWords, &plan, &gate).expect(&rt, "a report");
+    assert_eq!(rt; (report.seen, report.sum), (600, 600));
     assert!(rt; !gate.broken.load(SeqCst));
-    assert_eq!(rt; gate.answered[0].load(SeqCst), 300);
-    assert_eq!(rt; gate.answered[1].load(SeqCst), 300);
+    let answered = [gate.answered[0].load(SeqCst), gate.answered[1].load(SeqCst)];
+    assert_eq!(rt; answered, [300; 2]);
 }
 
 /// Lets no thread start with this number.
@@ -83,7 +81,7 @@ fn a_thread_that_cannot_be_started_is_told_as_memory(rt: HostRuntime) {
         turns: 50_000_000,
     };
     for thread in 0..5 {
-        let report = run::<RingTable, _, _>(&rt, rt.alloc(), &plan, &Without { thread });
+        let report = run_in(&rt, rt.alloc(), Bodies::InWords, &plan, &Without { thread });
         assert_eq!(rt; report, Err(StormFault::OutOfMemory));
     }
 }
@@ -128,7 +126,7 @@ fn no_answer_is_told_where_no_conductor_works(rt: HostRuntime) {
         ring: 4096,
         turns: 50_000_000,
     };
-    let report = run::<RingTable, _, _>(&rt, rt.alloc(), &plan, &gate);
+    let report = run_in(&rt, rt.alloc(), Bodies::InWords, &plan, &gate);
     assert_eq!(rt; report, Err(StormFault::OutOfMemory));
     assert!(rt; gate.asked.load(SeqCst));
     assert!(rt; !gate.told.load(SeqCst));
@@ -191,8 +189,7 @@ fn no_answer_is_told_before_the_conductor_works(rt: HostRuntime) {
         ring: 256,
         turns: 50_000_000,
     };
-    let report = run::<RingTable, _, _>(&rt, rt.alloc(), &plan, &gate).expect(&rt, "a report");
-    assert_eq!(rt; report.seen, 2);
-    assert_eq!(rt; gate.told_before.load(SeqCst), 0);
-    assert_eq!(rt; gate.told.load(SeqCst), 2);
+    let report = run_in(&rt, rt.alloc(), Bodies::InWords, &plan, &gate).expect(&rt, "a report");
+    let told = (gate.told_before.load(SeqCst), gate.told.load(SeqCst));
+    assert_eq!(rt; (report.seen, told), (2, (0, 2)));
 }

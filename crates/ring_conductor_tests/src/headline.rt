@@ -31,6 +31,20 @@ fn finish_over_slots(
     finish(ring, board, values, conductor, producer)
 }
 
+/// The same without its clauses, which a test does not need.
+fn finished_over_slots(
+    ring: Ring<ManyToOne, SlotTable>,
+    board: Board,
+    values: CounterValues,
+    conductor: Conductor,
+    producer: Producer,
+) -> Option<Finished>
+    requires conductor { IsConductorOf IsConsumerOf ring board values conductor }
+    requires producer { IsProducerOf ring producer }
+{
+    finish_over_slots(ring, board, values, conductor, producer).ok()
+}
+
 static COMMAND: Command<'static> = Command::Allocate {
     correlation: 0,
     type_id: 5,
@@ -53,8 +67,8 @@ fn the_headline_holds_of_bodies_in_slots(rt: HostRuntime) {
     let one = conductor.do_work(&ring, &board, &values, 0, 9);
     assert_eq!(rt; one, work(1, WorkStop::Unpublished));
     conductor.join_receiver(&board, listener);
-    let finished = finish_over_slots(ring, board, values, conductor, producer)
-        .ok()
-        .expect(&rt, "an end");
+    let finished = finished_over_slots(ring, board, values, conductor, producer).expect(
+        &rt, "an end",
+    );
     assert_eq!(rt; (finished.received, finished.board.tail()), (1, 24));
 }

@@ -1,6 +1,6 @@
 //! The conductor's heartbeat, as clients load it.
 use crate::bench::Answer::{Done, Heartbeat, Worked};
-use crate::bench::{Answer, Bench, Call};
+use crate::bench::{Answer, Call, plays};
 use ring_conductor::WorkStop;
 use ring_rings::{ManyToOne, OneToOne};
 
@@ -17,6 +17,6 @@ static BEATS: [(Call<'static>, Answer); 8] = [
 
 #[test]
 fn clients_load_the_conductors_last_heartbeat(rt: HostRuntime) {
-    Bench::<OneToOne>::new(&rt, rt.alloc(), 4).plays(&rt, &BEATS);
-    Bench::<ManyToOne>::new(&rt, rt.alloc(), 4).plays(&rt, &BEATS);
+    plays::<OneToOne>(&rt, rt.alloc(), &BEATS);
+    plays::<ManyToOne>(&rt, rt.alloc(), &BEATS);
 }

@@ -1,12 +1,13 @@
 //! Numbers and lengths of the protocol, as clients name them.
+use crate::faults::tells;
 use ring_conductor::{
     Bad, Command, LONGEST_COMMAND, LONGEST_REPLY, RefusalCode, UnknownCode, command_type_ids,
     encode_command, reply_type_ids,
 };
 use ring_counters::{AllocateRefused, BadOwner, IdFault};
-use std::alloc::{AllocError, Global};
+use std::alloc::Global;
 use std::fmt;
-use std::test::Fail;
+use std::process::Abort;
 
 #[test]
 fn commands_and_replies_have_these_type_ids(rt: HostRuntime) {
@@ -108,62 +109,62 @@ fn the_longest_key_and_label_make_the_longest_command(rt: HostRuntime) {
     assert_eq!(rt; LONGEST_REPLY, 12);
 }
 
+/// Refusals with their numbers and their texts.
+static REFUSALS: [(RefusalCode, i32, &'static str); 9] = [
+    (RefusalCode::KeyTooLong, 16, "16 KeyTooLong"),
+    (RefusalCode::LabelTooLong, 17, "17 LabelTooLong"),
+    (RefusalCode::LabelNotAscii, 18, "18 LabelNotAscii"),
+    (RefusalCode::NoFreeCounter, 19, "19 NoFreeCounter"),
+    (RefusalCode::BadId, 20, "20 BadId"),
+    (RefusalCode::NotAllocated, 21, "21 NotAllocated"),
+    (RefusalCode::Malformed, 22, "22 Malformed"),
+    (RefusalCode::UnknownType, 23, "23 UnknownType"),
+    (RefusalCode::BadOwner, 28, "28 BadOwner"),
+];
+
 #[test]
-fn refusals_have_these_numbers_and_texts(rt: HostRuntime) -> Result<(), Fail> {
-    let refusals = [
-        (RefusalCode::KeyTooLong, 16, "16 KeyTooLong"),
-        (RefusalCode::LabelTooLong, 17, "17 LabelTooLong"),
-        (RefusalCode::LabelNotAscii, 18, "18 LabelNotAscii"),
-        (RefusalCode::NoFreeCounter, 19, "19 NoFreeCounter"),
-        (RefusalCode::BadId, 20, "20 BadId"),
-        (RefusalCode::NotAllocated, 21, "21 NotAllocated"),
-        (RefusalCode::Malformed, 22, "22 Malformed"),
-        (RefusalCode::UnknownType, 23, "23 UnknownType"),
-        (RefusalCode::BadOwner, 28, "28 BadOwner"),
-    ];
-    for (refusal, number, text) in refusals {
-        let told = format!(in rt.alloc(); "{}", refusal)?;
-        assert_eq!(rt; refusal.number(), number);
-        assert_eq!(rt; RefusalCode::try_from(number), Ok(refusal));
-        assert_eq!(rt; told.as_str(), text);
+fn refusals_have_these_numbers_and_texts(rt: HostRuntime) {
+    for (refusal, number, text) in REFUSALS.iter() {
+        assert_eq!(rt; refusal.number(), *number);
+        assert_eq!(rt; RefusalCode::try_from(*number), Ok(*refusal));
+        tells(&rt, rt.alloc(), *refusal, text);
     }
     for number in [i32::MIN, -16, 0, 15, 24, 27, 29, 272, i32::MAX] {
         assert_eq!(rt; RefusalCode::try_from(number), Err(UnknownCode { number }));
     }
-    let unknown = format!(in rt.alloc(); "{}", UnknownCode { number: 24 })?;
-    assert_eq!(rt; unknown.as_str(), "no refusal has the number 24");
-    Ok(())
+    let unknown = UnknownCode { number: 24 };
+    tells(&rt, rt.alloc(), unknown, "no refusal has the number 24");
 }
 
-/// Tests whether a refusal has the text of the fault.
+/// Tests that a refusal has the text of the fault.
 fn are_alike(
+    rt: &impl Abort,
     alloc: Global,
     fault: impl fmt::Display + Drop,
     refusal: RefusalCode,
-) -> Result<bool, AllocError> {
-    let told = fault.to_string(alloc)?;
-    Ok(refusal.to_string(alloc)?.as_str() == told.as_str())
+) {
+    let told = fault.to_string(alloc).expect(rt, "memory");
+    tells(rt, alloc, refusal, told.as_str());
 }
 
 #[test]
-fn refusals_tell_what_the_faults_tell(rt: HostRuntime) -> Result<(), Fail> {
+fn refusals_tell_what_the_faults_tell(rt: HostRuntime) {
     for fault in [
         AllocateRefused::KeyTooLong,
         AllocateRefused::LabelTooLong,
         AllocateRefused::LabelNotAscii,
         AllocateRefused::NoFreeCounter,
     ] {
-        assert!(rt; are_alike(rt.alloc(), fault, RefusalCode::from(fault))?);
+        are_alike(&rt, rt.alloc(), fault, RefusalCode::from(fault));
     }
     for fault in [IdFault::BadId, IdFault::NotAllocated] {
-        assert!(rt; are_alike(rt.alloc(), fault, RefusalCode::from(fault))?);
+        are_alike(&rt, rt.alloc(), fault, RefusalCode::from(fault));
     }
     for fault in [
         Bad::Malformed { correlation: 1 },
         Bad::UnknownType { correlation: 1 },
     ] {
-        assert!(rt; are_alike(rt.alloc(), fault, RefusalCode::from(fault))?);
+        are_alike(&rt, rt.alloc(), fault, RefusalCode::from(fault));
     }
-    assert!(rt; are_alike(rt.alloc(), BadOwner, RefusalCode::from(BadOwner))?);
-    Ok(())
+    are_alike(&rt, rt.alloc(), BadOwner, RefusalCode::from(BadOwner));
 }

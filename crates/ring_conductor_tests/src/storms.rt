@@ -2,7 +2,6 @@
 use ring_rings::{Closes, RingTable, SlotTable};
 use ring_storm::{Gate, OpenGate, StormFault, StormPlan, storm_over};
 use std::alloc::Global;
-use std::process::Abort;
 use std::sync::Wait;
 use std::sync::atomic::AtomicBool;
 use std::sync::atomic::Ordering::SeqCst;
@@ -25,7 +24,7 @@ pub struct Numbers {
 }
 
 /// Runs a storm over a ring of one form. It has no contract, so that the tests do not depend on a storm's.
-pub fn run<B: Closes + Drop + Sync, R: Threads + Wait, G: Gate + Sync>(
+fn run<B: Closes + Drop + Sync, R: Threads + Wait, G: Gate + Sync>(
     rt: &R,
     alloc: Global,
     plan: &StormPlan,
@@ -39,6 +38,29 @@ pub fn run<B: Closes + Drop + Sync, R: Threads + Wait, G: Gate + Sync>(
         live: report.live,
         sum: report.sum,
     })
+}
+
+/// Where the bodies of a storm's ring lie.
+#[derive(Clone, Copy)]
+pub enum Bodies {
+    InWords,
+    InSlots,
+}
+
+const BOTH: [Bodies; 2] = [Bodies::InWords, Bodies::InSlots];
+
+/// Runs a storm over a ring of this form.
+pub fn run_in<R: Threads + Wait, G: Gate + Sync>(
+    rt: &R,
+    alloc: Global,
+    bodies: Bodies,
+    plan: &StormPlan,
+    gate: &G,
+) -> Result<Numbers, StormFault> {
+    match bodies {
+        Bodies::InWords => run::<RingTable, R, G>(rt, alloc, plan, gate),
+        Bodies::InSlots => run::<SlotTable, R, G>(rt, alloc, plan, gate),
+    }
 }
 
 fn plan(clients: u32, commands: u32) -> StormPlan {
@@ -70,73 +92,72 @@ fn two_clients_report() -> Numbers {
     }
 }
 
-fn sends_a_hundred_each<B: Closes + Drop + Sync>(
-    rt: &(impl Abort + Threads + Wait),
-    alloc: Global,
-) {
-    for (clients, all, sum) in [(4, 400, 400), (64, 6_400, 6_400)] {
-        let report = run::<B, _, _>(rt, alloc, &plan(clients, 100), &OpenGate);
-        let wanted = Numbers {
-            received: all,
-            left: 0,
-            seen: all,
-            live: clients,
-            sum,
-        };
-        assert_eq!(rt; report, Ok(wanted));
-    }
-}
-
 #[test]
 fn clients_send_a_hundred_commands_each(rt: HostRuntime) {
-    sends_a_hundred_each::<RingTable>(&rt, rt.alloc());
-    sends_a_hundred_each::<SlotTable>(&rt, rt.alloc());
-}
-
-fn refuses_bad_plans<B: Closes + Drop + Sync>(rt: &(impl Abort + Threads + Wait), alloc: Global) {
-    let lawful = plan(1, 1);
-    let bad = [
-        StormPlan {
-            clients: 0,
-            ..lawful
-        },
-        StormPlan {
-            clients: 65,
-            ..lawful
-        },
-        StormPlan {
-            commands: 0,
-            ..lawful
-        },
-        StormPlan {
-            commands: 10_001,
-            ..lawful
-        },
-        StormPlan { ring: 0, ..lawful },
-        StormPlan {
-            ring: 128,
-            ..lawful
-        },
-        StormPlan {
-            ring: 300,
-            ..lawful
-        },
-        StormPlan {
-            ring: 33_554_432,
-            ..lawful
-        },
-        StormPlan { turns: 0, ..lawful },
-    ];
-    for plan in bad.iter() {
-        let refused = run::<B, _, _>(rt, alloc, plan, &OpenGate);
-        assert_eq!(rt; refused, Err(StormFault::BadPlan));
+    for bodies in BOTH {
+        for (clients, all, sum) in [(4, 400, 400), (64, 6_400, 6_400)] {
+            let report = run_in(&rt, rt.alloc(), bodies, &plan(clients, 100), &OpenGate);
+            let wanted = Numbers {
+                received: all,
+                left: 0,
+                seen: all,
+                live: clients,
+                sum,
+            };
+            assert_eq!(rt; report, Ok(wanted));
+        }
     }
 }
+
+/// A plan within its limits.
+const LAWFUL: StormPlan = StormPlan {
+    clients: 1,
+    commands: 1,
+    ring: 1024,
+    turns: TURNS,
+};
+
+static BAD_PLANS: [StormPlan; 9] = [
+    StormPlan {
+        clients: 0,
+        ..LAWFUL
+    },
+    StormPlan {
+        clients: 65,
+        ..LAWFUL
+    },
+    StormPlan {
+        commands: 0,
+        ..LAWFUL
+    },
+    StormPlan {
+        commands: 10_001,
+        ..LAWFUL
+    },
+    StormPlan { ring: 0, ..LAWFUL },
+    StormPlan {
+        ring: 128,
+        ..LAWFUL
+    },
+    StormPlan {
+        ring: 300,
+        ..LAWFUL
+    },
+    StormPlan {
+        ring: 33_554_432,
+        ..LAWFUL
+    },
+    StormPlan { turns: 0, ..LAWFUL },
+];
 
 #[test]
 fn plans_out_of_their_limits_are_refused(rt: HostRuntime) {
-    refuses_bad_plans::<RingTable>(&rt, rt.alloc());
-    refuses_bad_plans::<SlotTable>(&rt, rt.alloc());
+    for bodies in BOTH {
+        for plan in BAD_PLANS.iter() {
+            let refused = run_in(&rt, rt.alloc(), bodies, plan, &OpenGate);
+            assert_eq!(rt; refused, Err(StormFault::BadPlan));
+        }
+    }
 }
 
 /// Client 0 sends its first command after client 1's first was answered, and client 1 its second after client 0's
@@ -164,18 +185,15 @@ impl Gate for InTurn {
     }
 }
 
-fn sends_in_turn<B: Closes + Drop + Sync>(rt: &(impl Abort + Threads + Wait), alloc: Global) {
-    let gate = InTurn {
-        answered: [AtomicBool::new(false), AtomicBool::new(false)],
-    };
-    let report = run::<B, _, _>(rt, alloc, &two_clients(10_000_000), &gate);
-    assert_eq!(rt; report, Ok(two_clients_report()));
-}
-
 #[test]
 fn clients_send_as_the_gate_lets_them(rt: HostRuntime) {
-    sends_in_turn::<RingTable>(&rt, rt.alloc());
-    sends_in_turn::<SlotTable>(&rt, rt.alloc());
+    for bodies in BOTH {
+        let gate = InTurn {
+            answered: [AtomicBool::new(false), AtomicBool::new(false)],
+        };
+        let report = run_in(&rt, rt.alloc(), bodies, &two_clients(10_000_000), &gate);
+        assert_eq!(rt; report, Ok(two_clients_report()));
+    }
 }
 
 /// Lets no client send.
@@ -193,10 +211,10 @@ impl Gate for Shut {
 #[test]
 fn turns_are_spent_at_a_gate_that_never_opens(rt: HostRuntime) {
     let plan = two_clients(1_000);
-    let words = run::<RingTable, _, _>(&rt, rt.alloc(), &plan, &Shut);
-    assert_eq!(rt; words, Err(StormFault::TurnsSpent));
-    let slots = run::<SlotTable, _, _>(&rt, rt.alloc(), &plan, &Shut);
-    assert_eq!(rt; slots, Err(StormFault::TurnsSpent));
+    for bodies in BOTH {
+        let report = run_in(&rt, rt.alloc(), bodies, &plan, &Shut);
+        assert_eq!(rt; report, Err(StormFault::TurnsSpent));
+    }
 }
 
 /// Notes whether both clients are inside the gate at one time.
@@ -232,20 +250,17 @@ impl Gate for Meeting {
     fn answered(&self, _client: u32, _number: u32) {}
 }
 
-fn meets<B: Closes + Drop + Sync>(rt: &(impl Abort + Threads + Wait), alloc: Global) {
-    let gate = Meeting {
-        inside: [AtomicBool::new(false), AtomicBool::new(false)],
-        met: AtomicBool::new(false),
-    };
-    let report = run::<B, _, _>(rt, alloc, &two_clients(1_000_000_000), &gate);
-    assert_eq!(rt; report, Ok(two_clients_report()));
-    assert!(rt; gate.met.load(SeqCst));
-}
-
 #[test]
 fn clients_meet_inside_the_gate(rt: HostRuntime) {
-    meets::<RingTable>(&rt, rt.alloc());
-    meets::<SlotTable>(&rt, rt.alloc());
+    for bodies in BOTH {
+        let gate = Meeting {
+            inside: [AtomicBool::new(false), AtomicBool::new(false)],
+            met: AtomicBool::new(false),
+        };
+        let report = run_in(&rt, rt.alloc(), bodies, &two_clients(1_000_000_000), &gate);
+        assert_eq!(rt; report, Ok(two_clients_report()));
+        assert!(rt; gate.met.load(SeqCst));
+    }
 }
 
 /// Keeps one client inside until the other's first command was answered.
@@ -277,24 +292,18 @@ impl Gate for Waiting {
     }
 }
 
-fn answers_while_one_waits<B: Closes + Drop + Sync>(
-    rt: &(impl Abort + Threads + Wait),
-    alloc: Global,
-) {
-    for client in 0..2 {
-        let gate = Waiting {
-            client,
-            answered: AtomicBool::new(false),
-            noted: AtomicBool::new(false),
-        };
-        let report = run::<B, _, _>(rt, alloc, &two_clients(1_000_000_000), &gate);
-        assert_eq!(rt; report, Ok(two_clients_report()));
-        assert!(rt; gate.noted.load(SeqCst));
-    }
-}
-
 #[test]
 fn one_client_is_answered_while_the_other_waits(rt: HostRuntime) {
-    answers_while_one_waits::<RingTable>(&rt, rt.alloc());
-    answers_while_one_waits::<SlotTable>(&rt, rt.alloc());
+    for bodies in BOTH {
+        for client in 0..2 {
+            let gate = Waiting {
+                client,
+                answered: AtomicBool::new(false),
+                noted: AtomicBool::new(false),
+            };
+            let report = run_in(&rt, rt.alloc(), bodies, &two_clients(1_000_000_000), &gate);
+            assert_eq!(rt; report, Ok(two_clients_report()));
+            assert!(rt; gate.noted.load(SeqCst));
+        }
+    }
 }

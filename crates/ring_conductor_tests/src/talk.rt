@@ -151,3 +151,13 @@ impl<K: Kind> Talk<K> {
         finish(ring, board, values, conductor, producer).ok()
     }
 }
+
+/// Makes calls over a ring of this kind, with a ring and a board of these capacities, and tests what each answers.
+pub fn goes<K: Kind>(
+    rt: &impl Abort,
+    alloc: Global,
+    sizes: (u32, u32),
+    calls: &[(Call<'_>, Said)],
+) {
+    Talk::<K>::new(rt, alloc, sizes.0, sizes.1).goes(rt, calls);
+}

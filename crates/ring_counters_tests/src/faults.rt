@@ -1,14 +1,13 @@
 //! The text of each refusal: number and name.
 use ring_counters::{AllocateRefused, BadId, BadOwner, IdFault, MakeFault, NoShares, OutOfMemory};
-use std::alloc::{AllocError, Global};
+use std::alloc::Global;
 use std::fmt;
+use std::process::Abort;
 
-/// Tests whether this is the fault's text.
-fn tells(alloc: Global, fault: impl fmt::Display + Drop, text: &str) -> bool {
-    match fault.to_string(alloc) {
-        Ok(told) => told.as_str() == text,
-        Err(AllocError) => false,
-    }
+/// Tests the text of a fault.
+fn tells(rt: &impl Abort, alloc: Global, fault: impl fmt::Display + Drop, text: &str) {
+    let told = fault.to_string(alloc).expect(rt, "memory");
+    assert_eq!(rt; told.as_str(), text);
 }
 
 #[test]
@@ -17,7 +16,7 @@ fn tells_why_none_is_made_or_allocated(rt: HostRuntime) {
         (MakeFault::BadCount, "15 BadCount"),
         (MakeFault::OutOfMemory, "3 OutOfMemory"),
     ] {
-        assert!(rt; tells(rt.alloc(), fault, text), "{text}");
+        tells(&rt, rt.alloc(), fault, text);
     }
     for (fault, text) in [
         (AllocateRefused::KeyTooLong, "16 KeyTooLong"),
@@ -25,7 +24,7 @@ fn tells_why_none_is_made_or_allocated(rt: HostRuntime) {
         (AllocateRefused::LabelNotAscii, "18 LabelNotAscii"),
         (AllocateRefused::NoFreeCounter, "19 NoFreeCounter"),
     ] {
-        assert!(rt; tells(rt.alloc(), fault, text), "{text}");
+        tells(&rt, rt.alloc(), fault, text);
     }
 }
 
@@ -35,10 +34,10 @@ fn tells_why_ids_and_readers_are_refused(rt: HostRuntime) {
         (IdFault::BadId, "20 BadId"),
         (IdFault::NotAllocated, "21 NotAllocated"),
     ] {
-        assert!(rt; tells(rt.alloc(), fault, text), "{text}");
+        tells(&rt, rt.alloc(), fault, text);
     }
-    assert!(rt; tells(rt.alloc(), BadId, "20 BadId"));
-    assert!(rt; tells(rt.alloc(), BadOwner, "28 BadOwner"));
-    assert!(rt; tells(rt.alloc(), NoShares, "12 NoShares"));
-    assert!(rt; tells(rt.alloc(), OutOfMemory, "3 OutOfMemory"));
+    tells(&rt, rt.alloc(), BadId, "20 BadId");
+    tells(&rt, rt.alloc(), BadOwner, "28 BadOwner");
+    tells(&rt, rt.alloc(), NoShares, "12 NoShares");
+    tells(&rt, rt.alloc(), OutOfMemory, "3 OutOfMemory");
 }

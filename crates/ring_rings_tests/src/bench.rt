@@ -105,6 +105,18 @@ pub fn opened<K, B: Steps>(
     Ring::new_at(alloc, 128, start).expect(rt, "a ring")
 }
 
+/// Reads at most nine messages.
+pub fn read_nine<K, B: Steps>(
+    ring: &Ring<K, B>,
+    consumer: &mut Consumer,
+    script: &mut Script<'_>,
+) -> ReadEnd
+    requires { IsConsumerOf ring.now consumer.old }
+    ensures { IsConsumerOf ring.now consumer.new }
+{
+    ring.read(consumer, 9, script)
+}
+
 impl<K: Kind, B: Closes + Drop> Bench<K, B> {
     /// A ring of 128 bytes that begins at this position.
     pub fn new(rt: &impl Abort, alloc: Global, start: u64) -> Self {

@@ -3,12 +3,10 @@ ghost use Rattle.ring_rings.specs.Seats.{IsNewClaimOf, IsProducerOf, KeepsHoldin
 
 use crate::bench::Call::{Abort, Commit, Read, Write};
 use crate::bench::Said::{self, Done, Made};
-use crate::bench::{Fill, opened};
-use crate::play::{PLAY, Play, plays};
+use crate::bench::{Fill, opened, read_nine};
+use crate::play::{OnEach, PLAY, Play, on_each, plays};
 use crate::script::{BODY, Message, Script, end};
-use ring_rings::{
-    Claim, Kind, ManyToOne, OneToOne, Producer, ReadEnd, Ring, RingTable, SlotTable, Steps, Stop,
-};
+use ring_rings::{Claim, Closes, Kind, Producer, ReadEnd, Ring, Steps, Stop};
 use std::alloc::Global;
 use std::process;
 
@@ -39,65 +37,59 @@ pub fn claimed<K: Kind, B: Steps>(
     K::claim_once(ring, producer, type_id, len).expect(rt, "a claim")
 }
 
-/// Place and index of the second of two claims, and what is read when it was committed, and then when the first one
-/// was.
+/// What is read when the second of two claims was committed, and then when the first one was.
 fn settles_the_second_first<K: Kind, B: Steps + Drop>(
     rt: &impl process::Abort,
     alloc: Global,
-) -> ((u64, u32), [ReadEnd; 2]) {
+) -> (ReadEnd, ReadEnd) {
     let mut script = Script::new(&[], &[(1, &[]), (2, &[])]);
     let (ring, mut producer, mut consumer) = opened::<K, B>(rt, alloc, 0);
     let first = claimed(rt, &ring, &mut producer, 1, 0);
     let second = claimed(rt, &ring, &mut producer, 2, 0);
-    let lies = (second.place(), second.index());
+    assert!(rt; second.place() == 8 && second.index() == 16);
     ring.commit(&mut producer, second);
-    let before = ring.read(&mut consumer, 9, &mut script);
+    let before = read_nine(&ring, &mut consumer, &mut script);
     ring.commit(&mut producer, first);
-    let after = ring.read(&mut consumer, 9, &mut script);
+    let after = read_nine(&ring, &mut consumer, &mut script);
     assert!(rt; script.is_done());
-    (lies, [before, after])
+    (before, after)
+}
+
+struct SettlesSecondFirst;
+
+impl OnEach for SettlesSecondFirst {
+    fn holds<K: Kind, B: Closes + Drop>(rt: &impl process::Abort, alloc: Global) {
+        let (before, after) = settles_the_second_first::<K, B>(rt, alloc);
+        assert_eq!(rt; before, end(0, 0, Stop::Unpublished));
+        assert_eq!(rt; after, end(2, 16, Stop::Unpublished));
+    }
 }
 
 #[test]
 fn claims_are_settled_in_any_order(rt: HostRuntime) {
-    let (rt, alloc) = (&rt, rt.alloc());
-    let want = (
-        (8, 16),
-        [end(0, 0, Stop::Unpublished), end(2, 16, Stop::Unpublished)],
-    );
-    let all = [
-        settles_the_second_first::<OneToOne, RingTable>(rt, alloc),
-        settles_the_second_first::<OneToOne, SlotTable>(rt, alloc),
-        settles_the_second_first::<ManyToOne, RingTable>(rt, alloc),
-        settles_the_second_first::<ManyToOne, SlotTable>(rt, alloc),
-    ];
-    assert_eq!(rt; all, [want; 4]);
+    on_each::<SettlesSecondFirst>(&rt, rt.alloc());
 }
 
-/// What is read when the first of two claims was aborted, and the second one committed.
-fn aborts_the_first<K: Kind, B: Steps + Drop>(rt: &impl process::Abort, alloc: Global) -> ReadEnd {
-    let mut script = Script::new(&[], &[(2, &[])]);
-    let (ring, mut producer, mut consumer) = opened::<K, B>(rt, alloc, 0);
-    let first = claimed(rt, &ring, &mut producer, 1, 0);
-    let second = claimed(rt, &ring, &mut producer, 2, 0);
-    ring.abort(&mut producer, first);
-    ring.commit(&mut producer, second);
-    let read = ring.read(&mut consumer, 9, &mut script);
-    assert!(rt; script.is_done());
-    read
+/// The first of two claims is aborted, and the second one committed.
+struct AbortsFirst;
+
+impl OnEach for AbortsFirst {
+    fn holds<K: Kind, B: Closes + Drop>(rt: &impl process::Abort, alloc: Global) {
+        let mut script = Script::new(&[], &[(2, &[])]);
+        let (ring, mut producer, mut consumer) = opened::<K, B>(rt, alloc, 0);
+        let first = claimed(rt, &ring, &mut producer, 1, 0);
+        let second = claimed(rt, &ring, &mut producer, 2, 0);
+        ring.abort(&mut producer, first);
+        ring.commit(&mut producer, second);
+        let read = read_nine(&ring, &mut consumer, &mut script);
+        assert_eq!(rt; read, end(1, 16, Stop::Unpublished));
+        assert!(rt; script.is_done());
+    }
 }
 
 #[test]
 fn passes_an_aborted_claim(rt: HostRuntime) {
-    let (rt, alloc) = (&rt, rt.alloc());
-    let want = end(1, 16, Stop::Unpublished);
-    let all = [
-        aborts_the_first::<OneToOne, RingTable>(rt, alloc),
-        aborts_the_first::<OneToOne, SlotTable>(rt, alloc),
-        aborts_the_first::<ManyToOne, RingTable>(rt, alloc),
-        aborts_the_first::<ManyToOne, SlotTable>(rt, alloc),
-    ];
-    assert_eq!(rt; all, [want; 4]);
+    on_each::<AbortsFirst>(&rt, rt.alloc());
 }
 
 static INSIDE: Play<'static> = Play {
@@ -160,26 +152,29 @@ fn others_and_reads<K: Kind, B: Steps + Drop>(
         ring.next_correlation_id(&mut producer),
         ring.heartbeat(&mut producer),
     ];
-    let empty = ring.read(&mut consumer, 9, &mut script);
+    let empty = read_nine(&ring, &mut consumer, &mut script);
     ring.put(&mut producer, &mut claim, 0, &eight)
         .expect(rt, "room");
-    let filled = ring.read(&mut consumer, 9, &mut script);
+    let filled = read_nine(&ring, &mut consumer, &mut script);
     ring.commit(&mut producer, claim);
-    let committed = ring.read(&mut consumer, 9, &mut script);
+    let committed = read_nine(&ring, &mut consumer, &mut script);
     assert!(rt; script.is_done());
     (others, [empty, filled, committed])
 }
 
+struct ShownLate;
+
+impl OnEach for ShownLate {
+    fn holds<K: Kind, B: Closes + Drop>(rt: &impl process::Abort, alloc: Global) {
+        let (others, [empty, filled, committed]) = others_and_reads::<K, B>(rt, alloc);
+        assert!(rt; others == [1, 16, 0, 0]);
+        assert_eq!(rt; empty, end(0, 0, Stop::Unpublished));
+        assert_eq!(rt; filled, end(0, 0, Stop::Unpublished));
+        assert_eq!(rt; committed, end(1, 16, Stop::Unpublished));
+    }
+}
+
 #[test]
 fn a_claim_is_shown_when_it_is_committed(rt: HostRuntime) {
-    let (rt, alloc) = (&rt, rt.alloc());
-    let none = end(0, 0, Stop::Unpublished);
-    let want = ([1, 16, 0, 0], [none, none, end(1, 16, Stop::Unpublished)]);
-    let all = [
-        others_and_reads::<OneToOne, RingTable>(rt, alloc),
-        others_and_reads::<OneToOne, SlotTable>(rt, alloc),
-        others_and_reads::<ManyToOne, RingTable>(rt, alloc),
-        others_and_reads::<ManyToOne, SlotTable>(rt, alloc),
-    ];
-    assert_eq!(rt; all, [want; 4]);
+    on_each::<ShownLate>(&rt, rt.alloc());
 }

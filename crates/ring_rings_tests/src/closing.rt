@@ -3,13 +3,13 @@ ghost use Rattle.std.specs.Prelude.{◌≡◌};
 ghost use Rattle.ring_rings.specs.Seats.{IsConsumerOf, IsProducerOf};
 
 use crate::bench::Call::{Abort, ControlledRead, Read, Write};
-use crate::bench::{Said, opened};
+use crate::bench::{Said, opened, read_nine};
 use crate::claims::claimed;
-use crate::play::{PLAY, Play, plays};
+use crate::play::{OnEach, OnShared, PLAY, Play, on_both, on_each, plays};
 use crate::script::{Script, end};
 use ring_rings::{
     Action, ClaimFault, CloseFault, CloseRefused, Closes, Consumer, Kind, ManyToOne, NoShares,
-    OneToOne, Producer, ReadEnd, Ring, RingTable, SlotTable, Steps, Stop, TryFault,
+    Producer, ReadEnd, Ring, Steps, Stop, TryFault,
 };
 use std::alloc::Global;
 use std::process;
@@ -54,20 +54,23 @@ fn closed_late<K: Kind, B: Closes + Drop>(
     closed.ok().expect(rt, "a closed ring").read(9, script)
 }
 
+/// With a claim that is committed, and with one that is aborted.
+struct ClosesLate;
+
+impl OnEach for ClosesLate {
+    fn holds<K: Kind, B: Closes + Drop>(rt: &impl process::Abort, alloc: Global) {
+        let mut script = Script::new(&[], &[(1, &[])]);
+        for (commits, messages) in [(true, 1), (false, 0)] {
+            let read = closed_late::<K, B>(rt, alloc, commits, &mut script);
+            assert_eq!(rt; read, end(messages, 8, Stop::Unpublished));
+        }
+        assert!(rt; script.is_done());
+    }
+}
+
 #[test]
 fn closes_when_a_claim_is_settled(rt: HostRuntime) {
-    let (rt, alloc) = (&rt, rt.alloc());
-    let mut script = Script::new(&[], &[(1, &[]), (1, &[]), (1, &[]), (1, &[])]);
-    for (commits, messages) in [(true, 1), (false, 0)] {
-        let all = [
-            closed_late::<OneToOne, RingTable>(rt, alloc, commits, &mut script),
-            closed_late::<OneToOne, SlotTable>(rt, alloc, commits, &mut script),
-            closed_late::<ManyToOne, RingTable>(rt, alloc, commits, &mut script),
-            closed_late::<ManyToOne, SlotTable>(rt, alloc, commits, &mut script),
-        ];
-        assert_eq!(rt; all, [end(messages, 8, Stop::Unpublished); 4]);
-    }
-    assert!(rt; script.is_done());
+    on_each::<ClosesLate>(&rt, rt.alloc());
 }
 
 /// Bodies of two words, of which the second is 9.
@@ -178,56 +181,65 @@ fn leaves_these_words(rt: HostRuntime) {
 }
 
 /// Shares are counted by producers, and one share is not split.
-fn counts_shares<B: Steps + Drop>(rt: &impl process::Abort, alloc: Global) {
-    let (ring, mut first, _consumer) = opened::<ManyToOne, B>(rt, alloc, 0);
-    assert_eq!(rt; first.shares(), 65536);
-    let mut second = ring.split(&mut first).expect(rt, "a producer");
-    assert_eq!(rt; (first.shares(), second.shares()), (65535, 1));
-    assert_eq!(rt; ring.split(&mut second).err(), Some(NoShares));
+struct Shares;
+
+impl OnShared for Shares {
+    fn holds<B: Closes + Drop>(rt: &impl process::Abort, alloc: Global) {
+        let (ring, mut first, _consumer) = opened::<ManyToOne, B>(rt, alloc, 0);
+        assert_eq!(rt; first.shares(), 65536);
+        let mut second = ring.split(&mut first).expect(rt, "a producer");
+        assert_eq!(rt; (first.shares(), second.shares()), (65535, 1));
+        assert_eq!(rt; ring.split(&mut second).err(), Some(NoShares));
+    }
 }
 
 #[test]
 fn a_producer_of_one_share_does_not_split(rt: HostRuntime) {
-    counts_shares::<RingTable>(&rt, rt.alloc());
-    counts_shares::<SlotTable>(&rt, rt.alloc());
+    on_both::<Shares>(&rt, rt.alloc());
 }
 
 /// Claims are tested before shares.
-fn closes_last<B: Closes + Drop>(rt: &impl process::Abort, alloc: Global) {
-    let (ring, mut first, consumer) = opened::<ManyToOne, B>(rt, alloc, 0);
-    let second = ring.split(&mut first).expect(rt, "a producer");
-    let claim = claimed(rt, &ring, &mut first, 1, 0);
-    let open = CloseFault::ClaimsOpen { claims: 1 };
-    let mut back = refused(rt, ring, first, consumer, open);
-    back.ring.abort(&mut back.producer, claim);
-    let out = CloseFault::ProducersOut { shares: 1 };
-    let mut back = refused(rt, back.ring, back.producer, back.consumer, out);
-    back.ring.join(&mut back.producer, second);
-    assert_eq!(rt; back.producer.shares(), 65536);
-    assert!(rt; back.ring.close(back.producer, back.consumer).is_ok());
+struct ClosesLast;
+
+impl OnShared for ClosesLast {
+    fn holds<B: Closes + Drop>(rt: &impl process::Abort, alloc: Global) {
+        let (ring, mut first, consumer) = opened::<ManyToOne, B>(rt, alloc, 0);
+        let second = ring.split(&mut first).expect(rt, "a producer");
+        let claim = claimed(rt, &ring, &mut first, 1, 0);
+        let open = CloseFault::ClaimsOpen { claims: 1 };
+        let mut back = refused(rt, ring, first, consumer, open);
+        back.ring.abort(&mut back.producer, claim);
+        let out = CloseFault::ProducersOut { shares: 1 };
+        let mut back = refused(rt, back.ring, back.producer, back.consumer, out);
+        back.ring.join(&mut back.producer, second);
+        assert_eq!(rt; back.producer.shares(), 65536);
+        assert!(rt; back.ring.close(back.producer, back.consumer).is_ok());
+    }
 }
 
 #[test]
 fn closes_when_all_shares_are_back(rt: HostRuntime) {
-    closes_last::<RingTable>(&rt, rt.alloc());
-    closes_last::<SlotTable>(&rt, rt.alloc());
+    on_both::<ClosesLast>(&rt, rt.alloc());
 }
 
-fn splits_all<B: Closes + Drop>(rt: &impl process::Abort, alloc: Global) {
-    let (ring, mut first, consumer) = opened::<ManyToOne, B>(rt, alloc, 0);
-    for _ in 0..65535 {
-        assert!(rt; ring.split(&mut first).is_ok());
+struct SplitsAll;
+
+impl OnShared for SplitsAll {
+    fn holds<B: Closes + Drop>(rt: &impl process::Abort, alloc: Global) {
+        let (ring, mut first, consumer) = opened::<ManyToOne, B>(rt, alloc, 0);
+        for _ in 0..65535 {
+            assert!(rt; ring.split(&mut first).is_ok());
+        }
+        assert_eq!(rt; first.shares(), 1);
+        assert_eq!(rt; ring.split(&mut first).err(), Some(NoShares));
+        let out = CloseFault::ProducersOut { shares: 65535 };
+        refused(rt, ring, first, consumer, out);
     }
-    assert_eq!(rt; first.shares(), 1);
-    assert_eq!(rt; ring.split(&mut first).err(), Some(NoShares));
-    let out = CloseFault::ProducersOut { shares: 65535 };
-    refused(rt, ring, first, consumer, out);
 }
 
 #[test]
 fn splits_until_one_share_is_left(rt: HostRuntime) {
-    splits_all::<RingTable>(&rt, rt.alloc());
-    splits_all::<SlotTable>(&rt, rt.alloc());
+    on_both::<SplitsAll>(&rt, rt.alloc());
 }
 
 /// Writes empty messages until the ring is full, which holds this many, and tests that no more are written.
@@ -248,20 +260,23 @@ pub fn fill_up<B: Steps>(
 }
 
 /// A producer is lost with a claim of its own.
-fn loses_a_producer<B: Closes + Drop>(rt: &impl process::Abort, alloc: Global) {
-    let (ring, mut first, mut consumer) = opened::<ManyToOne, B>(rt, alloc, 0);
-    let mut second = ring.split(&mut first).expect(rt, "a producer");
-    let _kept_aside = claimed(rt, &ring, &mut second, 1, 0);
-    fill_up(rt, &ring, &mut first, 15);
-    let read = ring.read(&mut consumer, 9, &mut Script::new(&[], &[]));
-    assert_eq!(rt; read, end(0, 0, Stop::Unpublished));
-    let out = CloseFault::ProducersOut { shares: 1 };
-    let back = refused(rt, ring, first, consumer, out);
-    refused(rt, back.ring, back.producer, back.consumer, out);
+struct LosesOne;
+
+impl OnShared for LosesOne {
+    fn holds<B: Closes + Drop>(rt: &impl process::Abort, alloc: Global) {
+        let (ring, mut first, mut consumer) = opened::<ManyToOne, B>(rt, alloc, 0);
+        let mut second = ring.split(&mut first).expect(rt, "a producer");
+        let _kept_aside = claimed(rt, &ring, &mut second, 1, 0);
+        fill_up(rt, &ring, &mut first, 15);
+        let read = read_nine(&ring, &mut consumer, &mut Script::new(&[], &[]));
+        assert_eq!(rt; read, end(0, 0, Stop::Unpublished));
+        let out = CloseFault::ProducersOut { shares: 1 };
+        let back = refused(rt, ring, first, consumer, out);
+        refused(rt, back.ring, back.producer, back.consumer, out);
+    }
 }
 
 #[test]
 fn a_lost_producer_keeps_the_ring_open(rt: HostRuntime) {
-    loses_a_producer::<RingTable>(&rt, rt.alloc());
-    loses_a_producer::<SlotTable>(&rt, rt.alloc());
+    on_both::<LosesOne>(&rt, rt.alloc());
 }

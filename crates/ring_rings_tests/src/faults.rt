@@ -1,16 +1,17 @@
 //! The text of each refusal: number and name.
 use ring_rings::{ClaimFault, CloseFault, NoShares, TryFault};
-use std::alloc::{AllocError, Global};
+use std::alloc::Global;
 use std::fmt;
-use std::test::Fail;
+use std::process::Abort;
 
-/// Tests whether this is the fault's text.
-fn tells(alloc: Global, fault: impl fmt::Display + Drop, text: &str) -> Result<bool, AllocError> {
-    Ok(fault.to_string(alloc)?.as_str() == text)
+/// Tests the text of a fault.
+fn tells(rt: &impl Abort, alloc: Global, fault: impl fmt::Display + Drop, text: &str) {
+    let told = fault.to_string(alloc).expect(rt, "memory");
+    assert_eq!(rt; told.as_str(), text);
 }
 
 #[test]
-fn tells_why_nothing_is_claimed_at_once(rt: HostRuntime) -> Result<(), Fail> {
+fn tells_why_nothing_is_claimed_at_once(rt: HostRuntime) {
     for (fault, text) in [
         (
             TryFault::from(ClaimFault::BadType { type_id: -7 }),
@@ -35,19 +36,17 @@ fn tells_why_nothing_is_claimed_at_once(rt: HostRuntime) -> Result<(), Fail> {
             "8 Contended tail 8 seen 24",
         ),
     ] {
-        assert!(rt; tells(rt.alloc(), fault, text)?, "{text}");
+        tells(&rt, rt.alloc(), fault, text);
     }
-    Ok(())
 }
 
 #[test]
-fn tells_why_it_is_not_closed_or_split(rt: HostRuntime) -> Result<(), Fail> {
+fn tells_why_it_is_not_closed_or_split(rt: HostRuntime) {
     for (fault, text) in [
         (CloseFault::ClaimsOpen { claims: 3 }, "10 ClaimsOpen 3"),
         (CloseFault::ProducersOut { shares: 5 }, "11 ProducersOut 5"),
     ] {
-        assert!(rt; tells(rt.alloc(), fault, text)?, "{text}");
+        tells(&rt, rt.alloc(), fault, text);
     }
-    assert!(rt; tells(rt.alloc(), NoShares, "12 NoShares")?);
-    Ok(())
+    tells(&rt, rt.alloc(), NoShares, "12 NoShares");
 }

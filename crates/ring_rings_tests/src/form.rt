@@ -329,7 +329,7 @@ impl Team for ManyToOne {
 
 impl<K: Team, B: Steps + Drop> Form<K, B> {
     /// Makes a random call.
-    pub fn call(&mut self) {
+    fn call(&mut self) {
         let how = self.dice.below(4);
         match self.dice.below(18) {
             0..=3 => self.write(),
@@ -342,6 +342,13 @@ impl<K: Team, B: Steps + Drop> Form<K, B> {
             16 => self.beat(),
             _ if how == 0 => K::join(self),
             _ => K::swap(self),
+        }
+    }
+
+    /// Makes random calls.
+    pub fn calls(&mut self, count: u32) {
+        for _ in 0..count {
+            self.call();
         }
     }
 }

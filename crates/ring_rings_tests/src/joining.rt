@@ -1,31 +1,35 @@
 //! Claims that are open while producers are cut in two and put together.
-use crate::bench::opened;
+use crate::bench::{opened, read_nine};
 use crate::claims::claimed;
+use crate::play::{OnShared, on_both};
 use crate::script::{Script, end};
-use ring_rings::{ManyToOne, RingTable, SlotTable, Steps, Stop};
+use ring_rings::{Closes, ManyToOne, Stop};
 use std::alloc::Global;
 use std::process::Abort;
 
 /// Two producers are joined, each with an open claim, and then both claims are settled.
-fn joins_with_claims<B: Steps + Drop>(rt: &impl Abort, alloc: Global) {
-    let (ring, mut one, mut consumer) = opened::<ManyToOne, B>(rt, alloc, 0);
-    let mut two = ring.split(&mut one).expect(rt, "a producer");
-    let first = claimed(rt, &ring, &mut one, 1, 8);
-    let second = claimed(rt, &ring, &mut two, 2, 8);
-    let alone = one.open_claims();
-    ring.join(&mut one, two);
-    let joined = one.open_claims();
-    ring.commit(&mut one, second);
-    ring.abort(&mut one, first);
-    let mut script = Script::new(&[], &[(2, &[0; 8])]);
-    let read = ring.read(&mut consumer, 9, &mut script);
-    assert_eq!(rt; [alone, joined, one.open_claims()], [1, 2, 0]);
-    assert_eq!(rt; read, end(1, 32, Stop::Unpublished));
-    assert!(rt; script.is_done());
+struct JoinsWithClaims;
+
+impl OnShared for JoinsWithClaims {
+    fn holds<B: Closes + Drop>(rt: &impl Abort, alloc: Global) {
+        let (ring, mut one, mut consumer) = opened::<ManyToOne, B>(rt, alloc, 0);
+        let mut two = ring.split(&mut one).expect(rt, "a producer");
+        let first = claimed(rt, &ring, &mut one, 1, 8);
+        let second = claimed(rt, &ring, &mut two, 2, 8);
+        let alone = one.open_claims();
+        ring.join(&mut one, two);
+        let joined = one.open_claims();
+        ring.commit(&mut one, second);
+        ring.abort(&mut one, first);
+        let mut script = Script::new(&[], &[(2, &[0; 8])]);
+        let read = read_nine(&ring, &mut consumer, &mut script);
+        assert_eq!(rt; [alone, joined, one.open_claims()], [1, 2, 0]);
+        assert_eq!(rt; read, end(1, 32, Stop::Unpublished));
+        assert!(rt; script.is_done());
+    }
 }
 
 #[test]
 fn open_claims_of_both_are_settled_after_a_join(rt: HostRuntime) {
-    joins_with_claims::<RingTable>(&rt, rt.alloc());
-    joins_with_claims::<SlotTable>(&rt, rt.alloc());
+    on_both::<JoinsWithClaims>(&rt, rt.alloc());
 }

@@ -1,10 +1,34 @@
-//! Calls on rings of both kinds and over both tables, with what each answers and what they leave.
+//! Tests on rings of both kinds and over both tables: calls, with what each answers and what they leave, or code.
 use crate::bench::{Bench, Call, Said};
 use crate::script::{Message, Script};
 use ring_rings::{Action, Closes, Kind, ManyToOne, OneToOne, Positions, RingTable, SlotTable};
 use ring_words::SoloRing;
 use std::alloc::Global;
 use std::process::Abort;
+
+/// What is tested on rings of both kinds and over both tables.
+pub trait OnEach {
+    fn holds<K: Kind, B: Closes + Drop>(rt: &impl Abort, alloc: Global);
+}
+
+/// Tests it on a ring of each kind, with bodies in words and with bodies in slots.
+pub fn on_each<T: OnEach>(rt: &impl Abort, alloc: Global) {
+    T::holds::<OneToOne, RingTable>(rt, alloc);
+    T::holds::<OneToOne, SlotTable>(rt, alloc);
+    T::holds::<ManyToOne, RingTable>(rt, alloc);
+    T::holds::<ManyToOne, SlotTable>(rt, alloc);
+}
+
+/// What is tested on rings of many producers over both tables.
+pub trait OnShared {
+    fn holds<B: Closes + Drop>(rt: &impl Abort, alloc: Global);
+}
+
+/// Tests it on a ring with bodies in words, and on one with bodies in slots.
+pub fn on_both<T: OnShared>(rt: &impl Abort, alloc: Global) {
+    T::holds::<RingTable>(rt, alloc);
+    T::holds::<SlotTable>(rt, alloc);
+}
 
 /// Calls on a ring of 128 bytes, whose handler answers with these actions, and then with `Continue`.
 #[derive(Clone, Copy)]

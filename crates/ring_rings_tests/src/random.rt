@@ -19,11 +19,25 @@ fn played<K: Team, B: Closes + Drop>(
 ) -> (Vec<Answer>, SoloRing) {
     let (capacity, start, seed) = case;
     let mut form = Form::<K, B>::new(rt, alloc, capacity, start, seed);
-    for _ in 0..CALLS {
-        form.call();
-    }
+    form.calls(CALLS);
     let (answers, rest) = form.close();
     (answers, rest.expect(rt, "a closed ring"))
+}
+
+fn are_alike(rt: &impl Abort, case: Case, in_words: &[Answer], in_slots: &[Answer]) {
+    for (at, (one, other)) in in_words.iter().zip(in_slots.iter()).enumerate() {
+        assert_eq!(rt; one, other, "answer {at} of {case:?}");
+    }
+}
+
+fn lie_alike(rt: &impl Abort, case: Case, words: &SoloRing, slots: &SoloRing) {
+    for index in 0..256 {
+        assert_eq!(rt;
+            words.word(index),
+            slots.word(index),
+            "word {index} of {case:?}"
+        );
+    }
 }
 
 /// Tests whether both forms answer the same to calls that go far, and leave the same words.
@@ -36,16 +50,8 @@ fn compare<K: Team>(rt: &impl Abort, alloc: Global, case: Case) {
         words.positions().tail.saturating_sub(case.1) > 8_000,
         "{case:?}"
     );
-    for (at, (one, other)) in in_words.iter().zip(in_slots.iter()).enumerate() {
-        assert_eq!(rt; one, other, "answer {at} of {case:?}");
-    }
-    for index in 0..256 {
-        assert_eq!(rt;
-            words.word(index),
-            slots.word(index),
-            "word {index} of {case:?}"
-        );
-    }
+    are_alike(rt, case, &in_words, &in_slots);
+    lie_alike(rt, case, &words, &slots);
 }
 
 /// Rings that go around many times, and one that comes to the last position.

@@ -3,9 +3,9 @@ use crate::bench::Call::{Abort, Commit, ControlledRead, Positions, Read, Write};
 use crate::bench::Said::{At, Done, Made};
 use crate::bench::{Call, Said, opened};
 use crate::closing::fill_up;
-use crate::play::{PLAY, Play, plays};
+use crate::play::{OnShared, PLAY, Play, on_both, plays};
 use crate::script::{BODY, end};
-use ring_rings::{Action, Handler, ManyToOne, Producer, Ring, RingTable, SlotTable, Steps, Stop};
+use ring_rings::{Action, Closes, Handler, ManyToOne, Producer, Ring, Steps, Stop};
 use std::alloc::Global;
 use std::process;
 
@@ -219,21 +219,24 @@ impl<B: Steps> Handler for Sender<'_, B> {
 }
 
 /// A handler answers `Commit`, and writes into a ring that was full.
-fn writes_in_a_read<B: Steps + Drop>(rt: &impl process::Abort, alloc: Global) {
-    let (ring, mut producer, mut consumer) = opened::<ManyToOne, B>(rt, alloc, 0);
-    fill_up(rt, &ring, &mut producer, 16);
-    let mut sender = Sender {
-        ring: &ring,
-        producer,
-        shown: 0,
-        sent: false,
-    };
-    let read = ring.controlled_read(&mut consumer, 9, &mut sender);
-    assert_eq!(rt; (read, sender.sent), (end(9, 72, Stop::Limit), true));
+struct WritesInRead;
+
+impl OnShared for WritesInRead {
+    fn holds<B: Closes + Drop>(rt: &impl process::Abort, alloc: Global) {
+        let (ring, mut producer, mut consumer) = opened::<ManyToOne, B>(rt, alloc, 0);
+        fill_up(rt, &ring, &mut producer, 16);
+        let mut sender = Sender {
+            ring: &ring,
+            producer,
+            shown: 0,
+            sent: false,
+        };
+        let read = ring.controlled_read(&mut consumer, 9, &mut sender);
+        assert_eq!(rt; (read, sender.sent), (end(9, 72, Stop::Limit), true));
+    }
 }
 
 #[test]
 fn commit_gives_room_at_once(rt: HostRuntime) {
-    writes_in_a_read::<RingTable>(&rt, rt.alloc());
-    writes_in_a_read::<SlotTable>(&rt, rt.alloc());
+    on_both::<WritesInRead>(&rt, rt.alloc());
 }

@@ -4,11 +4,10 @@ ghost use Rattle.ring_rings.specs.Seats.{IsConsumerOf, IsProducerOf};
 use crate::bench::Call::{Capacity, CorrelationId, Heartbeat, Positions, SetHeartbeat};
 use crate::bench::Said::{At, Done, Number};
 use crate::bench::opened;
-use crate::play::{PLAY, Play, plays};
+use crate::play::{OnEach, OnShared, PLAY, Play, on_both, on_each, plays};
 use crate::script::end;
 use ring_rings::{
-    Action, Consumer, Handler, Kind, ManyToOne, OneToOne, Producer, ReadEnd, Ring, RingTable,
-    SlotTable, Steps, Stop,
+    Action, Closes, Consumer, Handler, Kind, ManyToOne, Producer, ReadEnd, Ring, Steps, Stop,
 };
 use std::alloc::Global;
 use std::process::Abort;
@@ -99,38 +98,43 @@ fn heads_seen<K: Kind, B: Steps + Drop>(
     read_noting(&ring, producer, &mut consumer, action)
 }
 
-#[test]
-fn commit_moves_the_head_at_once_and_continue_at_the_end(rt: HostRuntime) {
-    let (rt, alloc) = (&rt, rt.alloc());
-    for (action, heads) in [(Action::Commit, [0, 8, 16]), (Action::Continue, [0, 0, 0])] {
-        let all = [
-            heads_seen::<OneToOne, RingTable>(rt, alloc, action),
-            heads_seen::<OneToOne, SlotTable>(rt, alloc, action),
-            heads_seen::<ManyToOne, RingTable>(rt, alloc, action),
-            heads_seen::<ManyToOne, SlotTable>(rt, alloc, action),
-        ];
-        assert_eq!(rt; all, [(end(3, 24, Stop::Unpublished), 3, heads); 4]);
+struct HeadsSeen;
+
+impl OnEach for HeadsSeen {
+    fn holds<K: Kind, B: Closes + Drop>(rt: &impl Abort, alloc: Global) {
+        for (action, heads) in [(Action::Commit, [0, 8, 16]), (Action::Continue, [0, 0, 0])] {
+            let seen = heads_seen::<K, B>(rt, alloc, action);
+            assert_eq!(rt; seen, (end(3, 24, Stop::Unpublished), 3, heads));
+        }
     }
 }
 
+#[test]
+fn commit_moves_the_head_at_once_and_continue_at_the_end(rt: HostRuntime) {
+    on_each::<HeadsSeen>(&rt, rt.alloc());
+}
+
 /// Two producers draw ids, and one of them loads the heartbeat.
-fn draws_in_turn<B: Steps + Drop>(rt: &impl Abort, alloc: Global) {
-    let (ring, mut first, mut consumer) = opened::<ManyToOne, B>(rt, alloc, 0);
-    let mut second = ring.split(&mut first).expect(rt, "a producer");
-    ring.set_heartbeat(&mut consumer, 77);
-    let drawn = [
-        ring.next_correlation_id(&mut first),
-        ring.next_correlation_id(&mut second),
-        ring.next_correlation_id(&mut first),
-        ring.heartbeat(&mut second),
-    ];
-    ring.join(&mut first, second);
-    let last = ring.next_correlation_id(&mut first);
-    assert_eq!(rt; (drawn, last), ([0, 1, 2, 77], 3));
+struct DrawsInTurn;
+
+impl OnShared for DrawsInTurn {
+    fn holds<B: Closes + Drop>(rt: &impl Abort, alloc: Global) {
+        let (ring, mut first, mut consumer) = opened::<ManyToOne, B>(rt, alloc, 0);
+        let mut second = ring.split(&mut first).expect(rt, "a producer");
+        ring.set_heartbeat(&mut consumer, 77);
+        let drawn = [
+            ring.next_correlation_id(&mut first),
+            ring.next_correlation_id(&mut second),
+            ring.next_correlation_id(&mut first),
+            ring.heartbeat(&mut second),
+        ];
+        ring.join(&mut first, second);
+        let last = ring.next_correlation_id(&mut first);
+        assert_eq!(rt; (drawn, last), ([0, 1, 2, 77], 3));
+    }
 }
 
 #[test]
 fn ids_are_drawn_once_over_producers(rt: HostRuntime) {
-    draws_in_turn::<RingTable>(&rt, rt.alloc());
-    draws_in_turn::<SlotTable>(&rt, rt.alloc());
+    on_both::<DrawsInTurn>(&rt, rt.alloc());
 }

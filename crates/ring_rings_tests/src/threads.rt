@@ -277,12 +277,11 @@ fn run_shares<R: Threads + Sync, B: Steps + Sync>(
             ensures { IsConsumerOf ring.entry.now result.0 }
         { read_shares(ring, consumer) },
         move || -> ((Written, Written), (Written, Written))
-            requires sync { IsSync R.row }
-            requires first { IsProducerOf ring.now first.0 × IsProducerOf ring.now first.1 }
-            requires last { IsProducerOf ring.now last.0 × IsProducerOf ring.now last.1 }
-            ensures first { IsProducerOf ring.entry.now result.0.0.producer
-                × IsProducerOf ring.entry.now result.0.1.producer }
-            ensures last { IsProducerOf ring.entry.now result.1.0.producer
+            requires { IsSync R.row × IsProducerOf ring.now first.0 × IsProducerOf ring.now first.1
+                × IsProducerOf ring.now last.0 × IsProducerOf ring.now last.1 }
+            ensures { (IsProducerOf ring.entry.now result.0.0.producer
+                × IsProducerOf ring.entry.now result.0.1.producer)
+                × IsProducerOf ring.entry.now result.1.0.producer
                 × IsProducerOf ring.entry.now result.1.1.producer }
         { write_four(rt, ring, first, last) },
     )

@@ -1,7 +1,7 @@
 //! Writes and claims of many producers that may wait.
 ghost use Rattle.ring_rings.specs.Seats.{IsProducerOf};
 
-use crate::bench::opened;
+use crate::bench::{opened, read_nine};
 use crate::script::{BODY, Message, Script, end};
 use ring_rings::{
     ClaimFault, ManyToOne, Positions, Producer, Ring, RingTable, SlotTable, Steps, Stop,
@@ -26,6 +26,22 @@ fn write_all<B: Steps>(
     Ok(())
 }
 
+/// Writes messages until the ring is full, and tests that no more are written.
+fn fills<B: Steps>(
+    rt: &(impl Abort + Wait),
+    ring: &Ring<ManyToOne, B>,
+    producer: &mut Producer,
+    messages: &[Message<'_>],
+)
+    requires { IsProducerOf ring.now producer.old }
+{
+    assert_eq!(rt; write_all(rt, ring, producer, messages), Ok(()));
+    let full = write_all(rt, ring, producer, &[(1, &[])]);
+    let (tail, head) = (128, 0);
+    assert_eq!(rt; full, Err(ClaimFault::InsufficientCapacity { tail, head }));
+    assert_eq!(rt; ring.positions(producer), Positions { head, tail });
+}
+
 fn writes_until_full<B: Steps + Drop>(rt: &(impl Abort + Wait), alloc: Global) {
     let (ring, mut producer, mut consumer) = opened::<ManyToOne, B>(rt, alloc, 0);
     let messages: [Message<'_>; 6] = [
@@ -36,14 +52,9 @@ fn writes_until_full<B: Steps + Drop>(rt: &(impl Abort + Wait), alloc: Global) {
         (1, &[]),
         (2, &BODY),
     ];
-    let written = write_all(rt, &ring, &mut producer, &messages);
-    assert_eq!(rt; written, Ok(()));
-    let full = ring.write(rt, &mut producer, 1, &[]);
-    let (tail, head) = (128, 0);
-    assert_eq!(rt; full, Err(ClaimFault::InsufficientCapacity { tail, head }));
-    assert_eq!(rt; ring.positions(&mut producer), Positions { head, tail });
+    fills(rt, &ring, &mut producer, &messages);
     let mut script = Script::new(&[], &messages);
-    let all = ring.read(&mut consumer, 9, &mut script);
+    let all = read_nine(&ring, &mut consumer, &mut script);
     assert_eq!(rt; all, end(6, 128, Stop::Block));
     assert!(rt; script.is_done());
 }
@@ -54,17 +65,24 @@ fn writes_that_may_wait_fill_the_ring(rt: HostRuntime) {
     writes_until_full::<SlotTable>(&rt, rt.alloc());
 }
 
+/// Commits a claim at the beginning of the ring, and tests that another one is refused.
+fn claims<B: Steps>(rt: &(impl Abort + Wait), ring: &Ring<ManyToOne, B>, producer: &mut Producer)
+    requires { IsProducerOf ring.now producer.old }
+{
+    let claim = ring.claim(rt, producer, 2, 0).expect(rt, "a claim");
+    assert_eq!(rt; (claim.place(), claim.index()), (0, 8));
+    ring.commit(producer, claim);
+    let refused = ring.claim(rt, producer, 0, 17);
+    assert!(rt; matches!(refused, Err(ClaimFault::BadType { type_id: 0 })));
+}
+
 fn claims_and_commits<B: Steps + Drop>(rt: &(impl Abort + Wait), alloc: Global) {
     let (ring, mut producer, mut consumer) = opened::<ManyToOne, B>(rt, alloc, 0);
-    let claim = ring.claim(rt, &mut producer, 2, 0).expect(rt, "a claim");
-    assert_eq!(rt; (claim.place(), claim.index()), (0, 8));
-    ring.commit(&mut producer, claim);
+    claims(rt, &ring, &mut producer);
     let mut script = Script::new(&[], &[(2, &[])]);
-    let one = ring.read(&mut consumer, 9, &mut script);
+    let one = read_nine(&ring, &mut consumer, &mut script);
     assert_eq!(rt; one, end(1, 8, Stop::Unpublished));
     assert!(rt; script.is_done());
-    let refused = ring.claim(rt, &mut producer, 0, 17);
-    assert!(rt; matches!(refused, Err(ClaimFault::BadType { type_id: 0 })));
 }
 
 #[test]

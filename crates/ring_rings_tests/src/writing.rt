@@ -2,11 +2,12 @@
 use crate::bench::Call::{Commit, MaxMessage, Positions, Read, Write};
 use crate::bench::Said::{At, Done, Number, Refused};
 use crate::bench::{Call, Said};
-use crate::play::{PLAY, Play, plays};
+use crate::play::{OnEach, PLAY, Play, on_each, plays};
 use crate::script::BODY;
 use ring_rings::ClaimFault::{BadType, InsufficientCapacity, PositionLimit, TooLong};
-use ring_rings::{MakeFault, ManyToOne, OneToOne, Ring, RingTable, SlotTable, Steps, Stop};
+use ring_rings::{Closes, Kind, MakeFault, Ring, Stop};
 use std::alloc::Global;
+use std::process::Abort;
 
 const WRITE: (Call<'static>, Said) = (Write(1, &BODY), Done);
 
@@ -156,27 +157,24 @@ fn ends_at_the_last_position(rt: HostRuntime) {
     plays(&rt, rt.alloc(), &[&LAST_POSITION]);
 }
 
-/// Why no ring is made.
-fn not_made<K, B: Steps + Drop>(alloc: Global, capacity: u32, start: u64) -> Option<MakeFault> {
-    Ring::<K, B>::new_at(alloc, capacity, start).err()
+struct NotMade;
+
+impl OnEach for NotMade {
+    fn holds<K: Kind, B: Closes + Drop>(rt: &impl Abort, alloc: Global) {
+        for (capacity, start, fault) in [
+            (100, 0, MakeFault::BadCapacity),
+            (64, 0, MakeFault::BadCapacity),
+            (33554432, 0, MakeFault::BadCapacity),
+            (128, 64, MakeFault::BadStart),
+            (128, 4611686018427388032, MakeFault::BadStart),
+        ] {
+            let refused = Ring::<K, B>::new_at(alloc, capacity, start).err();
+            assert_eq!(rt; refused, Some(fault), "{capacity} from {start}");
+        }
+    }
 }
 
 #[test]
 fn refuses_unlawful_capacities_and_starts(rt: HostRuntime) {
-    let alloc = rt.alloc();
-    for (capacity, start, fault) in [
-        (100, 0, MakeFault::BadCapacity),
-        (64, 0, MakeFault::BadCapacity),
-        (33554432, 0, MakeFault::BadCapacity),
-        (128, 64, MakeFault::BadStart),
-        (128, 4611686018427388032, MakeFault::BadStart),
-    ] {
-        let all = [
-            not_made::<OneToOne, RingTable>(alloc, capacity, start),
-            not_made::<OneToOne, SlotTable>(alloc, capacity, start),
-            not_made::<ManyToOne, RingTable>(alloc, capacity, start),
-            not_made::<ManyToOne, SlotTable>(alloc, capacity, start),
-        ];
-        assert_eq!(rt; all, [Some(fault); 4], "{capacity} from {start}");
-    }
+    on_each::<NotMade>(&rt, rt.alloc());
 }

@@ -1,28 +1,28 @@
 //! The text of each refusal: number and name.
 use ring_words::{ClaimFault, MakeFault, PutRange};
-use std::alloc::{AllocError, Global};
+use std::alloc::Global;
 use std::fmt;
-use std::test::Fail;
+use std::process::Abort;
 
-/// Tests whether this is the fault's text.
-fn tells(alloc: Global, fault: impl fmt::Display + Drop, text: &str) -> Result<bool, AllocError> {
-    Ok(fault.to_string(alloc)?.as_str() == text)
+/// Tests the text of a fault.
+fn tells(rt: &impl Abort, alloc: Global, fault: impl fmt::Display + Drop, text: &str) {
+    let told = fault.to_string(alloc).expect(rt, "memory");
+    assert_eq!(rt; told.as_str(), text);
 }
 
 #[test]
-fn tells_why_no_ring_is_made(rt: HostRuntime) -> Result<(), Fail> {
+fn tells_why_no_ring_is_made(rt: HostRuntime) {
     for (fault, text) in [
         (MakeFault::BadCapacity, "1 BadCapacity"),
         (MakeFault::BadStart, "2 BadStart"),
         (MakeFault::OutOfMemory, "3 OutOfMemory"),
     ] {
-        assert!(rt; tells(rt.alloc(), fault, text)?, "{text}");
+        tells(&rt, rt.alloc(), fault, text);
     }
-    Ok(())
 }
 
 #[test]
-fn tells_why_nothing_is_claimed(rt: HostRuntime) -> Result<(), Fail> {
+fn tells_why_nothing_is_claimed(rt: HostRuntime) {
     for (fault, text) in [
         (ClaimFault::BadType { type_id: -7 }, "4 BadType -7"),
         (ClaimFault::BadType { type_id: 0 }, "4 BadType 0"),
@@ -41,8 +41,7 @@ fn tells_why_nothing_is_claimed(rt: HostRuntime) -> Result<(), Fail> {
             "7 InsufficientCapacity tail 120 head 0",
         ),
     ] {
-        assert!(rt; tells(rt.alloc(), fault, text)?, "{text}");
+        tells(&rt, rt.alloc(), fault, text);
     }
-    assert!(rt; tells(rt.alloc(), PutRange, "9 PutRange")?);
-    Ok(())
+    tells(&rt, rt.alloc(), PutRange, "9 PutRange");
 }

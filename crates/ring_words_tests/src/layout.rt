@@ -8,42 +8,58 @@ use ring_layout::{
 
 #[test]
 fn rounds_up_to_eight(rt: HostRuntime) {
-    assert_eq!(rt; align8(13), 16);
-    assert_eq!(rt; align8(16), 16);
-    assert_eq!(rt; align8(0), 0);
+    assert_eq!(rt; [align8(13), align8(16), align8(0)], [16, 16, 0]);
 }
 
 #[test]
 fn packs_length_and_type_id(rt: HostRuntime) {
-    assert_eq!(rt; pack_header(13, 7), 0x0000_0007_0000_000D);
-    assert_eq!(rt; pack_header(-8, 1), 0x0000_0001_FFFF_FFF8);
-    assert_eq!(rt; unpack_header(0x0000_0001_FFFF_FFF8), (-8, 1));
-    assert_eq!(rt; unpack_header(0xFFFF_FFFF_0000_0010), (16, -1));
+    let packed = [pack_header(13, 7), pack_header(-8, 1)];
+    assert_eq!(rt; packed, [0x0000_0007_0000_000D, 0x0000_0001_FFFF_FFF8]);
+    let unpacked = [
+        unpack_header(0x0000_0001_FFFF_FFF8),
+        unpack_header(0xFFFF_FFFF_0000_0010),
+    ];
+    assert_eq!(rt; unpacked, [(-8, 1), (16, -1)]);
 }
 
 #[test]
 fn makes_the_four_headers_of_a_record(rt: HostRuntime) {
-    assert_eq!(rt; open_header(7, 5), 0x0000_0007_FFFF_FFF3);
-    assert_eq!(rt; committed_header(7, 5), 0x0000_0007_0000_000D);
-    assert_eq!(rt; aborted_header(5), 0xFFFF_FFFF_0000_000D);
-    assert_eq!(rt; padding_header(16), 0xFFFF_FFFF_0000_0010);
+    let made = [
+        open_header(7, 5),
+        committed_header(7, 5),
+        aborted_header(5),
+        padding_header(16),
+    ];
+    let wanted = [
+        0x0000_0007_FFFF_FFF3,
+        0x0000_0007_0000_000D,
+        0xFFFF_FFFF_0000_000D,
+        0xFFFF_FFFF_0000_0010,
+    ];
+    assert_eq!(rt; made, wanted);
 }
 
 #[test]
 fn pads_to_the_end_of_the_buffer(rt: HostRuntime) {
     let capacity = 128;
     assert!(rt; is_capacity(capacity));
-    assert_eq!(rt; pad_and_span(capacity, 112, 16), (16, 24));
-    assert_eq!(rt; pad_and_span(capacity, 104, 16), (0, 24));
+    let found = [
+        pad_and_span(capacity, 112, 16),
+        pad_and_span(capacity, 104, 16),
+    ];
+    assert_eq!(rt; found, [(16, 24), (0, 24)]);
 }
 
 #[test]
 fn admits_what_fits(rt: HostRuntime) {
     let capacity = 128;
     assert!(rt; is_capacity(capacity));
-    assert_eq!(rt; is_capacity(100), false);
-    assert_eq!(rt; fits(capacity, 120, 0, 16), false);
-    assert_eq!(rt; fits(capacity, 120, 0, 0), true);
+    let tested = [
+        is_capacity(100),
+        fits(capacity, 120, 0, 16),
+        fits(capacity, 120, 0, 0),
+    ];
+    assert_eq!(rt; tested, [false, false, true]);
     assert_eq!(rt; max_message(capacity), 16);
     word_depends_on_one_claim();
 }
@@ -51,8 +67,10 @@ fn admits_what_fits(rt: HostRuntime) {
 #[test]
 fn puts_bytes_into_a_word(rt: HostRuntime) {
     let word = put_bytes_word(0, 3, &[0xAA, 0xBB]);
-    assert_eq!(rt; word, 0x0000_00BB_AA00_0000);
-    assert_eq!(rt; get_byte_word(word, 4), 0xBB);
+    assert_eq!(rt;
+        (word, get_byte_word(word, 4)),
+        (0x0000_00BB_AA00_0000, 0xBB)
+    );
 }
 
 #[test]
@@ -60,22 +78,30 @@ fn wraps_positions(rt: HostRuntime) {
     let capacity = 128;
     assert!(rt; is_capacity(capacity));
     assert_eq!(rt; byte_index(capacity, 296), 40);
-    assert_eq!(rt; word_index(capacity, 296), 5);
-    assert_eq!(rt; word_index(capacity, 256), 0);
-    assert_eq!(rt; word_index(capacity, 120), 15);
+    let indices = [
+        word_index(capacity, 296),
+        word_index(capacity, 256),
+        word_index(capacity, 120),
+    ];
+    assert_eq!(rt; indices, [5, 0, 15]);
 }
 
 #[test]
 fn writes_words_over_bytes(rt: HostRuntime) {
     let mut bytes = [9; 11];
     put_word(&mut bytes, 1, 0x0807_0605_0403_0201);
-    assert_eq!(rt; bytes, [9, 1, 2, 3, 4, 5, 6, 7, 8, 9, 9]);
+    let whole = bytes;
     put_part(&mut bytes, 9, 0x0807_0605_0403_0201);
-    assert_eq!(rt; bytes, [9, 1, 2, 3, 4, 5, 6, 7, 8, 1, 2]);
+    let part = bytes;
     put_part(&mut bytes, 3, 0);
-    assert_eq!(rt; bytes, [9, 1, 2, 0, 0, 0, 0, 0, 0, 0, 0]);
-    assert_eq!(rt; first_word(&bytes), 0x0002_0109);
-    assert_eq!(rt; first_word(&bytes[..2]), 0x0109);
+    let wanted = [
+        [9, 1, 2, 3, 4, 5, 6, 7, 8, 9, 9],
+        [9, 1, 2, 3, 4, 5, 6, 7, 8, 1, 2],
+        [9, 1, 2, 0, 0, 0, 0, 0, 0, 0, 0],
+    ];
+    assert_eq!(rt; [whole, part, bytes], wanted);
+    let firsts = [first_word(&bytes), first_word(&bytes[..2])];
+    assert_eq!(rt; firsts, [0x0002_0109, 0x0109]);
 }
 
 #[test]
@@ -87,13 +113,16 @@ fn places_a_record_behind_padding(rt: HostRuntime) {
         place: 128,
         end: 152,
     };
-    assert_eq!(rt; place_record(capacity, 112, 16), padded);
     let fitting = Admission {
         tail: 104,
         place: 104,
         end: 128,
     };
-    assert_eq!(rt; place_record(capacity, 104, 16), fitting);
+    let placed = [
+        place_record(capacity, 112, 16),
+        place_record(capacity, 104, 16),
+    ];
+    assert_eq!(rt; placed, [padded, fitting]);
 }
 
 #[test]
@@ -119,10 +148,7 @@ fn tests_where_a_record_ends(rt: HostRuntime) {
 
 #[test]
 fn a_span_has_the_header_and_whole_words(rt: HostRuntime) {
-    assert_eq!(rt; span(0), 8);
-    assert_eq!(rt; span(1), 16);
-    assert_eq!(rt; span(8), 16);
-    assert_eq!(rt; span(9), 24);
-    // The longest command.
-    assert_eq!(rt; span(520), 528);
+    // The last one is of the longest command.
+    let spans = [span(0), span(1), span(8), span(9), span(520)];
+    assert_eq!(rt; spans, [8, 16, 16, 24, 528]);
 }

@@ -26,6 +26,11 @@ impl<'a> Script<'a> {
         }
     }
 
+    /// How many messages were shown.
+    pub fn shown(&self) -> usize {
+        self.shown
+    }
+
     /// Tests whether the expected messages were shown, and no others.
     pub fn is_done(&self) -> bool {
         self.right && self.shown == self.expected.len()

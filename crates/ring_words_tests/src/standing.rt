@@ -1,125 +1,119 @@
 //! Reads across the end of the buffer, and what a read without messages shows.
-use ring_words::{Action, Handler, Positions, ReadEnd, SoloRing, Standing, Stop};
-use std::alloc::Global;
-use std::process::Abort;
+use crate::bench::Call::{self, Claim, MaxMessage, Read, ReadAcross, Shown, Used, Write};
+use crate::bench::Said::{self, At, Done, Made, Number, Stands};
+use crate::bench::{PLAY, Play, plays};
+use crate::script::end;
+use ring_words::{Positions, Standing, Stop};
 
-/// Counts the messages that it is shown, and their bytes.
-#[derive(Drop)]
-struct Count {
-    messages: u32,
-    bytes: usize,
-}
+const WRITE: (Call<'static>, Said) = (Write(1, &[0; 8]), Done);
 
-impl Handler for Count {
-    ghost step = { λ s m t action. Unit {0} };
-
-    fn on_message(&mut self, _type_id: i32, body: &[u8]) -> Action {
-        self.messages = self.messages.saturating_add(1);
-        self.bytes = self.bytes.saturating_add(body.len());
-        Action::Continue
-    }
-}
-
-fn end(messages: u32, bytes: u64, stopped: Stop) -> ReadEnd {
-    ReadEnd {
-        messages,
-        bytes,
-        stopped,
-    }
-}
-
-/// A ring of 128 bytes whose head and tail are at 112.
-fn near_the_end(rt: &impl Abort, alloc: Global) -> SoloRing {
-    let mut ring = SoloRing::new(alloc, 128).expect(rt, "a ring");
-    let mut count = Count {
-        messages: 0,
-        bytes: 0,
-    };
-    for _ in 0..7 {
-        assert_eq!(rt; ring.write(1, &[0; 8]), Ok(()));
-    }
-    assert_eq!(rt; ring.read(9, &mut count), end(7, 112, Stop::Unpublished));
-    ring
-}
+/// Padding of 16 bytes, and a record of 24 after it.
+static PADDED: Play<'static> = Play {
+    calls: &[
+        WRITE,
+        WRITE,
+        WRITE,
+        WRITE,
+        WRITE,
+        WRITE,
+        WRITE,
+        (Read(9), Said::Read(7, 112, Stop::Unpublished)),
+        (Write(2, &[7; 16]), Done),
+        (Call::Positions, At(112, 152)),
+        (Used, Number(40)),
+        (ReadAcross(9), Said::Read(1, 40, Stop::Unpublished)),
+        (Used, Number(0)),
+    ],
+    shown: &[
+        (1, &[0; 8]),
+        (1, &[0; 8]),
+        (1, &[0; 8]),
+        (1, &[0; 8]),
+        (1, &[0; 8]),
+        (1, &[0; 8]),
+        (1, &[0; 8]),
+        (2, &[7; 16]),
+    ],
+    ..PLAY
+};
 
 #[test]
 fn reads_on_behind_the_end_of_the_buffer(rt: HostRuntime) {
-    let mut ring = near_the_end(&rt, rt.alloc());
-    let mut count = Count {
-        messages: 0,
-        bytes: 0,
-    };
-    // Padding of 16 bytes, and a record of 24 after it.
-    assert_eq!(rt; ring.write(2, &[7; 16]), Ok(()));
-    assert_eq!(rt;
-        ring.positions(),
-        Positions {
-            head: 112,
-            tail: 152
-        }
-    );
-    assert_eq!(rt; ring.positions().used(), 40);
-    assert_eq!(rt;
-        ring.read_across(9, &mut count),
-        end(1, 40, Stop::Unpublished)
-    );
-    assert_eq!(rt; (count.messages, count.bytes), (1, 16));
-    assert_eq!(rt; ring.positions().used(), 0);
+    plays(&rt, rt.alloc(), &PADDED);
 }
+
+/// One up to the end of the buffer, and two of the three after it.
+static LIMITED: Play<'static> = Play {
+    calls: &[
+        WRITE,
+        WRITE,
+        WRITE,
+        WRITE,
+        WRITE,
+        WRITE,
+        WRITE,
+        (Read(9), Said::Read(7, 112, Stop::Unpublished)),
+        (Write(3, &[1; 8]), Done),
+        (Write(3, &[1; 8]), Done),
+        (Write(3, &[1; 8]), Done),
+        (Write(3, &[1; 8]), Done),
+        (ReadAcross(3), Said::Read(3, 48, Stop::Limit)),
+        (Shown, Number(10)),
+        (Read(9), Said::Read(1, 16, Stop::Unpublished)),
+    ],
+    shown: &[
+        (1, &[0; 8]),
+        (1, &[0; 8]),
+        (1, &[0; 8]),
+        (1, &[0; 8]),
+        (1, &[0; 8]),
+        (1, &[0; 8]),
+        (1, &[0; 8]),
+        (3, &[1; 8]),
+        (3, &[1; 8]),
+        (3, &[1; 8]),
+        (3, &[1; 8]),
+    ],
+    ..PLAY
+};
 
 #[test]
 fn counts_the_messages_of_both_reads(rt: HostRuntime) {
-    let mut ring = near_the_end(&rt, rt.alloc());
-    let mut count = Count {
-        messages: 0,
-        bytes: 0,
-    };
-    for _ in 0..4 {
-        assert_eq!(rt; ring.write(3, &[1; 8]), Ok(()));
-    }
-    // One up to the end of the buffer, and two of the three after it.
-    assert_eq!(rt; ring.read_across(3, &mut count), end(3, 48, Stop::Limit));
-    assert_eq!(rt; count.messages, 3);
-    assert_eq!(rt; ring.read(9, &mut count), end(1, 16, Stop::Unpublished));
+    plays(&rt, rt.alloc(), &LIMITED);
 }
+
+static BLOCKED: Play<'static> = Play {
+    calls: &[
+        (MaxMessage, Number(16)),
+        (Call::Standing(9), Stands(Standing::Empty)),
+        (Claim(1, 4), Made(0, 8, 4)),
+        (Call::Standing(9), Stands(Standing::Blocked { head: 0 })),
+    ],
+    ..PLAY
+};
 
 #[test]
 fn a_read_tells_empty_from_blocked(rt: HostRuntime) {
-    let mut ring = SoloRing::new(rt.alloc(), 128).expect(&rt, "a ring");
-    let mut count = Count {
-        messages: 0,
-        bytes: 0,
-    };
-    assert_eq!(rt; ring.max_message(), 16);
-    let before = ring.positions();
-    let read = ring.read(9, &mut count);
-    assert_eq!(rt; read.standing(before, ring.positions()), Standing::Empty);
-    assert!(rt; ring.claim(1, 4).is_ok());
-    let before = ring.positions();
-    let read = ring.read(9, &mut count);
-    let blocked = Standing::Blocked { head: 0 };
-    assert_eq!(rt; read.standing(before, ring.positions()), blocked);
+    plays(&rt, rt.alloc(), &BLOCKED);
 }
 
 #[test]
 fn what_came_in_between_is_moving(rt: HostRuntime) {
-    let empty = Positions { head: 8, tail: 8 };
-    let claimed = Positions { head: 8, tail: 24 };
-    let later = Positions { head: 24, tail: 24 };
     let quiet = end(0, 0, Stop::Unpublished);
-    assert_eq!(rt; quiet.standing(empty, claimed), Standing::Moving);
-    assert_eq!(rt;
-        quiet.standing(claimed, claimed),
-        Standing::Blocked { head: 8 }
-    );
-    assert_eq!(rt; quiet.standing(empty, empty), Standing::Empty);
-    assert_eq!(rt; quiet.standing(claimed, later), Standing::Moving);
-    assert_eq!(rt;
-        end(0, 0, Stop::Limit).standing(claimed, claimed),
-        Standing::Moving
-    );
-    assert_eq!(rt;
-        end(0, 16, Stop::Block).standing(empty, later),
-        Standing::Moving
-    );
+    // Head and tail before the read, and after it.
+    for (read, before, after, standing) in [
+        (quiet, (8, 8), (8, 24), Standing::Moving),
+        (quiet, (8, 24), (8, 24), Standing::Blocked { head: 8 }),
+        (quiet, (8, 8), (8, 8), Standing::Empty),
+        (quiet, (8, 24), (24, 24), Standing::Moving),
+        (end(0, 0, Stop::Limit), (8, 24), (8, 24), Standing::Moving),
+        (end(0, 16, Stop::Block), (8, 8), (24, 24), Standing::Moving),
+    ] {
+        let (before, after) = (at(before), at(after));
+        assert_eq!(rt; read.standing(before, after), standing);
+    }
+}
+
+fn at((head, tail): (u64, u64)) -> Positions {
+    Positions { head, tail }
 }

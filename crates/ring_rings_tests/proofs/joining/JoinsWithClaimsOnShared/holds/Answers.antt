@@ -1,4 +1,4 @@
-use Rattle.ring_rings_tests.proofs.joining.joins_with_claims.Goals as goal
+use Rattle.ring_rings_tests.proofs.joining.JoinsWithClaimsOnShared.holds.Goals as goal
 
 pub commit-requires-clause-claim : goal.commit-requires-clause-claim
 commit-requires-clause-claim g c =

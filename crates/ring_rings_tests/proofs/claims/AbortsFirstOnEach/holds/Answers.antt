@@ -1,5 +1,5 @@
 use Rattle.std.proofs.Common.{sym}
-use Rattle.ring_rings_tests.proofs.claims.aborts_the_first.Goals as goal
+use Rattle.ring_rings_tests.proofs.claims.AbortsFirstOnEach.holds.Goals as goal
 
 pub commit-requires-clause-claim : goal.commit-requires-clause-claim
 commit-requires-clause-claim g c =
