@@ -5,7 +5,7 @@ import shutil
 
 from .attacks import Attack, put_attacks
 from .edits import read, replaced
-from .functions import line_of
+from .functions import line_of, module_of
 from .log import MARK
 
 PROOFS = ("Answers.antt", "Invariants.antt", "Proof.antt")
@@ -58,6 +58,16 @@ def proved_in(crate, folder):
     return found
 
 
+def types_in(folder):
+    """Returns the folder below proofs/ of each type that a crate declares."""
+    found = {}
+    for at, _, names in os.walk(f"{folder}/src"):
+        for file in (os.path.relpath(f"{at}/{it}", folder) for it in names):
+            for kind in re.findall(r"^(?:pub(?:\([\w: ]+\))? )?(?:struct|enum) (\w+)", read(f"{folder}/{file}"), re.M):
+                found[kind] = f"{module_of(file)}/{kind}"
+    return found
+
+
 def put_mark(folder):
     """Writes the mark into the answers of a copy. With it a check ends without the search for what it can offer."""
     if not os.path.exists(f"{folder}/Proof.antt"):
@@ -71,11 +81,11 @@ def put_proofs(crate, folder, proved, copies):
 
     Returns the name that a check gives the function whose files each copy has, if there are any.
     """
-    named = {}
+    named, types = {}, types_in(folder)
     for it in copies:
         found = it.function.among(proved)
         if len(found) != 1:
-            put_mark(f"{folder}/proofs/{it.function.folder}/{it.name}")
+            put_mark(f"{folder}/proofs/{types.get(it.function.folder, it.function.folder)}/{it.name}")
             continue
         named[it] = found[0]
         own = proved[found[0]]

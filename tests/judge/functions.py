@@ -19,7 +19,7 @@ class Function:
     pattern: re.Pattern  # of the name that a check prints
     module: str  # the path of its module, with that of the crate first
     argument: str  # what its name has more than that of the same function in another impl
-    folder: str  # the folder below proofs/ that has one for its proof files, by its name
+    folder: str  # the folder below proofs/ that has its own by its name, or the type that it is a method of
     cycle: str  # the cycle of calls that it belongs to, or ""
     item: int  # where its doc comment or first attribute begins in the file
     named: int  # where its name does
@@ -50,10 +50,14 @@ class Function:
         return replace(self, name=self.name.removesuffix(self.plain()) + name, pattern=re.compile(pattern))
 
 
+def module_of(file):
+    """Returns the path of the module that a source file is: `a/b` of `src/a/b.rt`, and "" of `src/lib.rt`."""
+    return re.sub(r"^src/|(\b(mod|lib|main))?\.rt$", "", file).strip("/")
+
+
 def functions_of(crate, file, text):
     """Returns the functions of a file that `rt fmt` laid out: a block ends at a brace of its own depth."""
-    path = "::".join([crate, *re.sub(r"^src/|(\b(mod|lib|main))?\.rt$", "", file).strip("/").split("/")])
-    path = path.removesuffix("::")
+    path = "::".join(it for it in (crate, *module_of(file).split("/")) if it)
     lines = text.split("\n")
     depths = [len(it) - len(it.lstrip()) if it.strip() else 999 for it in lines]
     places = [0]
@@ -138,18 +142,19 @@ def names_of(name, path, within):
 
 
 def folder_of(path, within):
-    """Returns the folder of the proofs of a module, or of an impl there: `../Type` for one of `impl<B> Type<B>`.
+    """Returns the folder of a module's proofs, `../Type+A+B` for `impl<B> Type<A, B>`, or `Type` for `impl<B> Type<B>`.
 
-    Of `impl<B> Type<A, B>` it is `../Type+A+B`.
+    The last is in the folder of the module that declares the type.
     """
-    parts = path.split("::")[1:]
-    if within:
-        _, own, parameters = within[-1]
-        kind, of = TYPE.match(own.rpartition(" for ")[2].strip()).groups()
-        given = [it for it in of.split(", ") if it and not it.startswith("'")]
-        is_of_all = all(re.search(rf"[<,] ?{re.escape(it)}\b", parameters) for it in given)
-        parts.append(kind if is_of_all else "+".join([kind, *given]))
-    return "/".join(parts)
+    module = "/".join(path.split("::")[1:])
+    if not within:
+        return module
+    _, own, parameters = within[-1]
+    kind, of = TYPE.match(own.rpartition(" for ")[2].strip()).groups()
+    given = [it for it in of.split(", ") if it and not it.startswith("'")]
+    if all(re.search(rf"[<,] ?{re.escape(it)}\b", parameters) for it in given):
+        return kind
+    return "/".join([module, "+".join([kind, *given])])
 
 
 def at_place(functions, place):
