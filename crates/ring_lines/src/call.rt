@@ -91,15 +91,33 @@ impl Call {
             _ if name == b"put".as_slice() => Self::put(alloc, words),
             _ if name == b"commit".as_slice() => Self::commit(words),
             _ if name == b"abort".as_slice() => Self::abort(words),
+            _ => Self::of_reader(alloc, name, words),
+        }
+    }
+
+    /// Parses a call that takes from the ring or looks at its trailer, or one that is not of the ring.
+    fn of_reader(alloc: Global, name: &[u8], words: &mut Words) -> Result<Call, LineFault>
+        ensures { IfOk result (λ call. AsksFor call (name.now ∷ words_of words.old.rest.now)) }
+    {
+        match name {
             _ if name == b"read".as_slice() => Self::read(words),
             _ if name == b"control".as_slice() => Self::control(alloc, words),
             _ if name == b"beat".as_slice() => Self::beat(words),
-            _ if name == b"receive".as_slice() => Self::receive(words),
-            _ if name == b"leave".as_slice() => Self::leave(words),
-            _ if name == b"storm".as_slice() => Self::storm(words),
             _ if name == b"positions".as_slice() => Self::positions(words),
             _ if name == b"correlation".as_slice() => Self::correlation(words),
             _ if name == b"heartbeat".as_slice() => Self::heartbeat(words),
+            _ => Self::of_others(alloc, name, words),
+        }
+    }
+
+    /// Parses a call of the broadcast buffer, a storm, or a line of the conductor's side.
+    fn of_others(alloc: Global, name: &[u8], words: &mut Words) -> Result<Call, LineFault>
+        ensures { IfOk result (λ call. AsksFor call (name.now ∷ words_of words.old.rest.now)) }
+    {
+        match name {
+            _ if name == b"receive".as_slice() => Self::receive(words),
+            _ if name == b"leave".as_slice() => Self::leave(words),
+            _ if name == b"storm".as_slice() => Self::storm(words),
             _ if name == b"transmit".as_slice() => Self::transmit(alloc, words),
             _ if name == b"subscribe".as_slice() => Self::subscribe(words),
             _ => Ok(Call::Service(ServiceCall::parse(alloc, name, words)?)),
