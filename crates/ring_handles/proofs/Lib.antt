@@ -1,5 +1,6 @@
 mod BatchLemmas
 mod ClaimLemmas
+mod CountingLemmas
 mod EndLemmas
 mod EndingLemmas
 pub mod HandleValues
