@@ -43,7 +43,7 @@ pub stored : (id : ℕ) (value given : ℤ) (c : CountersSide) (m : CountersMana
     → given ≡ value → SetsValue id given c.manager m → shares_of m ≡ shares_of c.manager
     → StoresValue id value c (with_manager c m of)
 stored id value given c m of e s shares = record {
-    registry = s.registry ∙ ap (with_value (registry_of c.manager) id) e;
-    writes = s.writes ∙ ap (λ (v : ℤ). writes_of c.manager ++ value_write id v ∷ []) e;
-    keeps = record { shares = shares; values = refl; identity = refl };
-  }
+  registry = s.registry ∙ ap (with_value (registry_of c.manager) id) e;
+  writes = s.writes ∙ ap (λ (v : ℤ). writes_of c.manager ++ value_write id v ∷ []) e;
+  keeps = record { shares = shares; values = refl; identity = refl };
+}

@@ -11,15 +11,21 @@ returns-in-Ok-true c =
     let it = c.propose_max.ensures in
     let same = to_z-of_z w64 c.args.value c.ranges.value in
     let is = ap (is_raised_by (registry_of c.args.self.now.manager) c.args.id) (sym same)
-        ∙ answered _ _ _ (sym it.raised ∙ c.in-Ok-true.is) ∙ c.in-Ok-true.field-0-test in
-    inl (refl, inl (is, refl,
-    stored _ _ _ c.args.self.now _ _ same (c.in-Ok-true.ensures.sets c.in-Ok-true.field-0-test) it.shares))
+    ∙ answered _ _ _ (sym it.raised ∙ c.in-Ok-true.is) ∙ c.in-Ok-true.field-0-test in
+    inl (
+      refl,
+      inl (
+        is,
+        refl,
+        stored _ _ _ c.args.self.now _ _ same (c.in-Ok-true.ensures.sets c.in-Ok-true.field-0-test) it.shares,
+      ),
+    )
 
 pub returns-in-Ok-false : goal.returns-in-Ok-false
 returns-in-Ok-false c =
     let same = to_z-of_z w64 c.args.value c.ranges.value in
     let is = ap (is_raised_by (registry_of c.args.self.now.manager) c.args.id) (sym same)
-        ∙ answered _ _ _ (sym c.propose_max.ensures.raised ∙ c.in-Ok-false.is) ∙ c.in-Ok-false.field-0-test in
+    ∙ answered _ _ _ (sym c.propose_max.ensures.raised ∙ c.in-Ok-false.is) ∙ c.in-Ok-false.field-0-test in
     inl (refl, inr (is, refl, same_side c.args.self.now _ _ (c.in-Ok-false.ensures.kept c.in-Ok-false.field-0-test)))
 
 pub returns-in-Err : goal.returns-in-Err
