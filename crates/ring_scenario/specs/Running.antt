@@ -104,7 +104,8 @@ abbrev pub BeginsBad : List (List ℕ) → Type 0
 BeginsBad [] = Unit {0}
 BeginsBad (line ∷ more) = ¬ IsBlank (words_of line) × ¬ IsEnd (words_of line)
 
--- the lines in front of the one of this number ran, and what they printed was written; that one is bad, or missing
+-- the lines in front of the one of this number ran, and what they printed was written; that one is missing, or neither
+-- blank nor `end` alone
 pub record StopsAt (lines : List (List ℕ)) (r : Runner) (was now : Option (List ℕ)) (number : ℕ) : Type 0 where
   pub left : List (List ℕ)
   pub last : Runner
@@ -122,8 +123,7 @@ pub record IsNotBlankAt (lines : List (List ℕ)) (taken number : ℕ) : Type 0 
   pub other : ¬ IsBlank (words_of line)
   pub counted : number ≡ taken + length blanks + 1
 
--- the line of this number is the first that is bad: those in front of it ran, or it is the first after `end` that is
--- not blank
+-- the line of this number is where a run stopped, or the first after its line `end` that is not blank
 abbrev pub FailsAt : List ℕ → Runner → Option (List ℕ) → Option (List ℕ) → ℕ → Type 0
 FailsAt text r was now number = StopsAt (lines_of text) r was now number
     ⊎ ((after : List (List ℕ)) × (taken : ℕ) × RunsAndEnds (lines_of text) after r was now taken
@@ -133,6 +133,6 @@ FailsAt text r was now number = StopsAt (lines_of text) r was now number
 abbrev pub RunsScenario : Options → List ℕ → Option (List ℕ) → Option (List ℕ) → Type 0
 RunsScenario options text was now = (r : Runner) × RunsBy options r × RunsText text r was now
 
--- a runner was made as the options say, and the line of this number was the first that is bad
+-- a runner was made as the options say, and ran up to the line of this number
 abbrev pub FailsScenario : Options → List ℕ → Option (List ℕ) → Option (List ℕ) → ℕ → Type 0
 FailsScenario options text was now number = (r : Runner) × RunsBy options r × FailsAt text r was now number
