@@ -215,17 +215,18 @@ def builds(run, crates):
     return tasks
 
 
-def in_turn(tasks, jobs, is_beside=False):
+def in_turn(tasks, jobs, beside=None):
     """Makes calls, so many at once, each after those that it waits for, and first those that the most waits for.
 
-    A task is the keys that it waits for, its seconds as far as they are known, a function and its arguments. Beside
-    another run builds go one after another, and wait for no other task.
+    A task is the keys that it waits for, its seconds as far as they are known, a function and its arguments. Until
+    there is the file that tells that the run beside it ended, builds go one after another, and wait for no other task.
     """
     def after(key):
         return tasks[key][1] + max((after(it) for it in tasks if key in tasks[it][0]), default=0)
 
     def may_begin(key):
         is_build = key[1] == "build"
+        is_beside = beside and not os.path.exists(beside)
         others = [it for it in running.values() if not is_beside or (it[1] == "build") == is_build]
         return ended.issuperset(tasks[key][0]) and len(others) < (1 if is_beside and is_build else jobs)
 
@@ -236,6 +237,8 @@ def in_turn(tasks, jobs, is_beside=False):
                 if may_begin(key):
                     left.remove(key)
                     running[pool.submit(*tasks[key][2:])] = key
-            for it in concurrent.futures.wait(running, return_when=concurrent.futures.FIRST_COMPLETED).done:
+            # (beside another run what may begin changes when that ends)
+            seconds = 5 if beside else None
+            for it in concurrent.futures.wait(running, seconds, concurrent.futures.FIRST_COMPLETED).done:
                 it.result()
                 ended.add(running.pop(it))
