@@ -58,7 +58,7 @@ struct Seated<K, B: Steps> {
 
 impl<K: Kind, B: Steps> Seated<K, B> {
     fn open(alloc: Global, capacity: u32) -> Result<Seated<K, B>, Fault>
-        ensures { IfOk result (λ s. IsProducerOf s.ring s.producer × MayClaim K.is_for_one s.producer
+        ensures { IfOk result (λ s. IsProducerOf s.ring s.producer × MayClaim K.many s.producer
             × IsConsumerOf s.ring s.consumer) }
     {
         let (ring, producer, consumer) = Ring::new(alloc, capacity)?;
@@ -71,7 +71,7 @@ impl<K: Kind, B: Steps> Seated<K, B> {
 }
 
 impl<K: Kind, B: Steps> Lane for Seated<K, B> {
-    ghost whole = { λ s. IsProducerOf s.ring s.producer × MayClaim K.is_for_one s.producer
+    ghost whole = { λ s. IsProducerOf s.ring s.producer × MayClaim K.many s.producer
         × IsConsumerOf s.ring s.consumer };
 
     fn put(&mut self, body: &[u8]) -> bool {

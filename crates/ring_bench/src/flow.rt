@@ -39,9 +39,9 @@ fn send<K: Kind, B: Steps>(
     body: &[u8],
 ) -> Result<(), Fault>
     requires producer { IsProducerOf ring.now producer.old }
-    requires sole { MayClaim K.is_for_one producer.old }
+    requires sole { MayClaim K.many producer.old }
     ensures producer { IsProducerOf ring.now producer.new }
-    ensures sole { MayClaim K.is_for_one producer.new }
+    ensures sole { MayClaim K.many producer.new }
 {
     let mut rest = Rest::new();
     for _ in 0..TRIES {
@@ -63,7 +63,7 @@ fn produce<K: Kind, B: Steps, R: Wait>(
     start: &Barrier,
     messages: u64,
 ) -> Result<(), Fault>
-    requires { IsProducerOf ring.now load.producer × MayClaim K.is_for_one load.producer }
+    requires { IsProducerOf ring.now load.producer × MayClaim K.many load.producer }
 {
     let Load {
         mut producer,
@@ -89,13 +89,13 @@ fn produce_all<K: Kind + Sync, B: Steps + Sync, R: Threads + Sync + Wait>(
     start: &Barrier,
     messages: u64,
 ) -> Result<(), Fault>
-    requires { All (λ load. IsProducerOf ring.now load.producer × MayClaim K.is_for_one load.producer) loads.items }
+    requires { All (λ load. IsProducerOf ring.now load.producer × MayClaim K.many load.producer) loads.items }
 {
     let sent = map_vec(
         rt,
         loads,
         &|load: Load| -> Result<(), Fault>
-            requires { IsProducerOf ring.now load.producer × MayClaim K.is_for_one load.producer }
+            requires { IsProducerOf ring.now load.producer × MayClaim K.many load.producer }
         { produce(rt, ring, load, start, messages) },
     )?;
     for result in sent.iter() {
@@ -149,7 +149,7 @@ fn run_all<K: Kind + Sync, B: Steps + Sync, R: Clock + Threads + Sync + Wait>(
     consumer: Consumer,
     messages: u64,
 ) -> Result<Sample, Fault>
-    requires loads { All (λ load. IsProducerOf ring.now load.producer × MayClaim K.is_for_one load.producer)
+    requires loads { All (λ load. IsProducerOf ring.now load.producer × MayClaim K.many load.producer)
         loads.items }
     requires consumer { IsConsumerOf ring.now consumer }
 {
@@ -161,7 +161,7 @@ fn run_all<K: Kind + Sync, B: Steps + Sync, R: Clock + Threads + Sync + Wait>(
         rt,
         move || -> Result<(), Fault>
             requires { IsSync R.row × All (λ load. IsProducerOf ring.now load.producer
-                × MayClaim K.is_for_one load.producer) loads.items }
+                × MayClaim K.many load.producer) loads.items }
         { produce_all(rt, ring, loads, start, messages) },
         move || -> Result<Sample, Fault>
             requires { IsConsumerOf ring.now consumer }

@@ -65,8 +65,8 @@ fn set<K: Kind, B: Closes>(
     client: &mut Client,
     value: i64,
 ) -> Result<(), Fault>
-    requires { IsSeatedAt K.is_for_one ring.now board.now client.old }
-    ensures { IsSeatedAt K.is_for_one ring.now board.now client.new }
+    requires { IsSeatedAt K.many ring.now board.now client.old }
+    ensures { IsSeatedAt K.many ring.now board.now client.new }
 {
     let correlation = client.send(ring, Set { id: 0, value })?;
     match receive(board, client, correlation)? {
@@ -76,7 +76,7 @@ fn set<K: Kind, B: Closes>(
 }
 
 impl<'a, K: Kind, B: Closes, R: Clock> Task for Caller<'a, K, B, R> {
-    ghost is_ready = { λ s. IsSeatedAt K.is_for_one s.ring.now s.board.now s.client };
+    ghost is_ready = { λ s. IsSeatedAt K.many s.ring.now s.board.now s.client };
 
     fn step(&mut self, number: u64) -> Result<(), Fault> {
         set(
@@ -107,7 +107,7 @@ impl<K: Kind, B: Closes + Drop> Service<K, B> {
     /// A ring and a board of this capacity, with a conductor and a client.
     fn open(alloc: Global, capacity: u32) -> Result<Service<K, B>, Fault>
         ensures conductor { IfOk result (λ s. IsConductorOf IsConsumerOf s.ring s.board s.values s.conductor) }
-        ensures client { IfOk result (λ s. IsSeatedAt K.is_for_one s.ring s.board s.client) }
+        ensures client { IfOk result (λ s. IsSeatedAt K.many s.ring s.board s.client) }
     {
         let (ring, producer, consumer) = Ring::<K, B>::new(alloc, capacity)?;
         let (board, transmitter) = Board::new(alloc, capacity)?;
@@ -127,10 +127,10 @@ impl<K: Kind, B: Closes + Drop> Service<K, B> {
     fn allocate(&mut self) -> Result<(), Fault>
         requires conductor { IsConductorOf IsConsumerOf self.old.ring self.old.board self.old.values
             self.old.conductor }
-        requires client { IsSeatedAt K.is_for_one self.old.ring self.old.board self.old.client }
+        requires client { IsSeatedAt K.many self.old.ring self.old.board self.old.client }
         ensures conductor { IsConductorOf IsConsumerOf self.new.ring self.new.board self.new.values
             self.new.conductor }
-        ensures client { IsSeatedAt K.is_for_one self.new.ring self.new.board self.new.client }
+        ensures client { IsSeatedAt K.many self.new.ring self.new.board self.new.client }
     {
         let allocate = Allocate {
             type_id: 1,
@@ -205,7 +205,7 @@ fn call_all<R: Clock, K: Kind, B: Closes>(
     stop: &AtomicBool,
     times: u64,
 ) -> Result<Sample, Fault>
-    requires { IsSeatedAt K.is_for_one caller.ring.now caller.board.now caller.client }
+    requires { IsSeatedAt K.many caller.ring.now caller.board.now caller.client }
 {
     let nanos = time(rt, &mut caller, times);
     stop.store(true, Ordering::SeqCst);
@@ -228,7 +228,7 @@ fn run_service<R: Clock + Threads + Sync, K: Kind + Sync, B: Closes + Drop + Syn
     times: u64,
 ) -> Result<Sample, Fault>
     requires conductor { IsConductorOf IsConsumerOf service.ring service.board service.values service.conductor }
-    requires client { IsSeatedAt K.is_for_one service.ring service.board service.client }
+    requires client { IsSeatedAt K.many service.ring service.board service.client }
 {
     let Service {
         ring,
@@ -251,7 +251,7 @@ fn run_service<R: Clock + Threads + Sync, K: Kind + Sync, B: Closes + Drop + Syn
     let (sample, conductor) = join(
         rt,
         move || -> Result<Sample, Fault>
-            requires { IsSeatedAt K.is_for_one caller.ring.now caller.board.now caller.client }
+            requires { IsSeatedAt K.many caller.ring.now caller.board.now caller.client }
         { call_all(rt, caller, stop, times) },
         move || -> Conductor
             requires { IsConductorOf IsConsumerOf ring.now board.now values.now conductor }

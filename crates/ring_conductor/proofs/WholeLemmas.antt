@@ -1,5 +1,5 @@
 -- One run: two commands sent, two calls of `do_work`, and listeners coming and going between them.
-use Rattle.std.proofs.Common.{◌≡◌, ◌∙◌, ℕ, ◌<◌, List, [], ◌∷◌, ◌++◌, length, map, Result, Err, IsOk, refl, sym, ap, subst, true≢false, arith}
+use Rattle.std.proofs.Common.{◌≡◌, ◌∙◌, ℕ, ◌<◌, List, [], ◌∷◌, ◌++◌, length, map, Result, Err, IsOk, refl, sym, ap, subst, true, true≢false, arith}
 use Rattle.ring_layout.specs.declared.message.Message.{Message}
 use Rattle.ring_layout.specs.Refusals.{all_shares}
 use Rattle.ring_table.specs.declared.claim.PlacedMessage.{PlacedMessage}
@@ -23,7 +23,7 @@ use Rattle.ring_conductor.proofs.FinishLemmas.{messages_of-append}
 
 -- Sending ------------------------------------------------------------------------
 
-module _ (C : ℕ) (r : Request) (v : View) (correlation : ℕ) (w : View) (s : Sends Writes C r v correlation w) where
+module _ (C : ℕ) (r : Request) (v : View) (correlation : ℕ) (w : View) (s : Sends (Writes true) C r v correlation w) where
   one_claim : w.producer.claims ≡ v.producer.claims
       ++ record_behind C s.sent.tail (type_id_of (asked r correlation)) (spelling_of (asked r correlation)) ∷ []
   one_claim = let command = record_behind C s.sent.tail (type_id_of (asked r correlation))
@@ -56,7 +56,7 @@ two_ids n m drawn s draws rising once =
 -- are
 pub two_sent : (C drawn : ℕ) (r q : Request) (v w u : View) (a b : ℕ) → v.producer.claims ≡ []
     → v.producer.service.draws ≡ [] → v.producer.joined ≡ []
-    → Sends Writes C r v a w → Sends Writes C q w b u
+    → Sends (Writes true) C r v a w → Sends (Writes true) C q w b u
     → ((x : ℕ) → times_drawn x u.producer ≡ once_below x drawn)
     → (a ≡ 0) × (map settled_message w.producer.claims ≡ committed (asked r 0) ∷ [])
     × (map settled_message u.producer.claims ≡ committed (asked r 0) ∷ committed (asked q 1) ∷ [])

@@ -1,5 +1,5 @@
 -- What a client asks, and what it receives.
-use Rattle.std.specs.Prelude.{◌≡◌, ◌≢◌, ℕ, ◌≤◌, ℤ, List, length}
+use Rattle.std.specs.Prelude.{◌≡◌, ◌≢◌, ℕ, ◌≤◌, ℤ, List, length, Bool}
 use Rattle.ring_layout.specs.Lists.{total}
 use Rattle.ring_table.specs.declared.view.Service.{Service}
 use Rattle.ring_table.specs.declared.view.View.{View}
@@ -55,11 +55,11 @@ client_view c = view_of c.producer
 abbrev pub client_seat : Client → Sat
 client_seat c = receiver_seat c.receiver
 
--- its producer may claim in this ring, whose kind is for one producer or is not, and its receiver is this broadcast
+-- its producer may claim in this ring, whose kind is for many producers or for one, and its receiver is this broadcast
 -- buffer's
-abbrev pub IsSeatedAt : {K B : Type 0} {G : Ghosts B} → Type 0 → Ring K B G → Board → Client → Type 0
-IsSeatedAt is_for_one ring board c =
-    IsProducerOf ring (producer_of c) × MayClaim is_for_one (producer_of c) × IsReceiverOf board (receiver_of c)
+abbrev pub IsSeatedAt : {K B : Type 0} {G : Ghosts B} → Bool → Ring K B G → Board → Client → Type 0
+IsSeatedAt many ring board c =
+    IsProducerOf ring (producer_of c) × MayClaim many (producer_of c) × IsReceiverOf board (receiver_of c)
 
 -- the command that asks for this, with a correlation id
 abbrev pub asked : Request → ℕ → Instruction

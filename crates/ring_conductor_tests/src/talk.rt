@@ -65,7 +65,7 @@ pub struct Talk<K: Kind> {
     client: Client,
     ghost conducts: { IsConductorOf IsConsumerOf ring board values conductor },
     ghost sends: { IsProducerOf ring (producer_of client) },
-    ghost sole: { MayClaim K.is_for_one (producer_of client) },
+    ghost sole: { MayClaim K.many (producer_of client) },
     ghost listens: { IsReceiverOf board (receiver_of client) },
 }
 

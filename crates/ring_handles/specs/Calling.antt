@@ -1,6 +1,6 @@
 -- What calls of clients do: k is the client before, l after, m is its seat at the board before, n after, and the code
 -- is what is returned.
-use Rattle.std.specs.Prelude.{◌≡◌, ◌⊎◌, ℕ, ℤ, pos}
+use Rattle.std.specs.Prelude.{◌≡◌, ◌⊎◌, ℕ, ℤ, pos, true}
 use Rattle.std.specs.Arc.{arc_value}
 use Rattle.ring_table.specs.ServiceSteps.{LoadsHeartbeat}
 use Rattle.ring_rings.specs.Claiming.{RefusesTry, Writes, try_code}
@@ -32,7 +32,7 @@ send_code (fault.Refused id reason) = try_code reason
 pub record NotSent (request : Request) (k l : ClientSide) (code : ℤ) : Type 0 where
   pub fault : SendFault
   pub code_is : code ≡ send_code fault
-  pub refused : RefusesSend RefusesTry (ring_bytes k) request (client_view k.client) fault (client_view l.client)
+  pub refused : RefusesSend (RefusesTry true) (ring_bytes k) request (client_view k.client) fault (client_view l.client)
 
 -- it is as before, but for its producer
 pub record KeepsReceiver (k l : ClientSide) : Type 0 where
@@ -43,7 +43,7 @@ pub record KeepsReceiver (k l : ClientSide) : Type 0 where
 abbrev pub WasSent : Request → ℕ → ℕ → ClientSide → ClientSide → ℤ → Type 0
 WasSent request before id k l code = KeepsReceiver k l
     × (((code ≡ pos 0) × IsSendable request
-    × Sends Writes (ring_bytes k) request (client_view k.client) id (client_view l.client))
+    × Sends (Writes true) (ring_bytes k) request (client_view k.client) id (client_view l.client))
     ⊎ (NotSent request k l code × (id ≡ before)))
 
 -- Hearing ------------------------------------------------------------------------

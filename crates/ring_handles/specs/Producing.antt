@@ -9,7 +9,7 @@ use Rattle.ring_table.specs.Changes.{changed, staged}
 use Rattle.ring_table.specs.ServiceSteps.{DrawsId, LoadsHeartbeat}
 use Rattle.ring_table.specs.Views.{producer_alone, with_claims, without_share}
 use Rattle.ring_rings.specs.Bodies.{PutsBytes}
-use Rattle.ring_rings.specs.Claiming.{Claiming, Refusing, Writing, Claims, ClaimsAlone, RefusesTry, RefusesTryAlone, Writes, WritesAlone}
+use Rattle.ring_rings.specs.Claiming.{Claims, RefusesTry, Writes}
 use Rattle.ring_rings.specs.Joining.{Joins, LoadsPositions}
 use Rattle.ring_rings.specs.Claiming.{try_code}
 use Rattle.ring_handles.specs.Claims.{aborted, claim_numbered, without}
@@ -19,38 +19,19 @@ use Rattle.ring_handles.specs.Side.{Side, knowing}
 abbrev pub Declined : ℤ → Side → Side → ℤ → Type 0
 Declined number p q code = (code ≡ number) × (q ≡ p)
 
--- Calls of a ring that has many producers, or one ---------------------------------
-
-abbrev pub claiming : Bool → Claiming
-claiming true = Claims
-claiming false = ClaimsAlone
-
-abbrev pub writing : Bool → Writing
-writing true = Writes
-writing false = WritesAlone
-
-abbrev pub refusing : Bool → Refusing
-refusing true = RefusesTry
-refusing false = RefusesTryAlone
-
--- a try was refused so, and this is the refusal's code
-pub record IsRefused (Refuses : Refusing) (capacity : ℕ) (type_id : ℤ) (len : ℕ) (v w : View) (code : ℤ) : Type 0 where
+-- a try of a producer was refused, of one of many or the only one, and this is the refusal's code
+pub record IsRefused (many : Bool) (capacity : ℕ) (type_id : ℤ) (len : ℕ) (v w : View) (code : ℤ) : Type 0 where
   pub fault : TryFault
   pub code_is : code ≡ try_code fault
-  pub refused : Refuses capacity type_id len v fault w
+  pub refused : RefusesTry many capacity type_id len v fault w
 
 -- Writing ------------------------------------------------------------------------
 
--- 0 says that the message was written so, and another code why it was refused
-pub record WroteAs (WritesOne : Writing) (Refuses : Refusing) (type_id : ℤ) (body : List ℕ) (p q : Side) (code : ℤ)
-    : Type 0 where
+-- 0 says that the message was written, and another code why it was refused
+pub record Wrote (type_id : ℤ) (body : List ℕ) (p q : Side) (code : ℤ) : Type 0 where
   pub side : q ≡ knowing q.view p
-  pub written : ((code ≡ pos 0) × WritesOne p.capacity type_id body p.view q.view)
-      ⊎ IsRefused Refuses p.capacity type_id (length body) p.view q.view code
-
--- as producers of its ring write
-abbrev pub Wrote : ℤ → List ℕ → Side → Side → ℤ → Type 0
-Wrote type_id body p q code = WroteAs (writing p.many) (refusing p.many) type_id body p q code
+  pub written : ((code ≡ pos 0) × Writes p.many p.capacity type_id body p.view q.view)
+      ⊎ IsRefused p.many p.capacity type_id (length body) p.view q.view code
 
 -- Claims -------------------------------------------------------------------------
 
@@ -58,30 +39,23 @@ Wrote type_id body p q code = WroteAs (writing p.many) (refusing p.many) type_id
 abbrev pub holding : List ClaimAt → Side → Side
 holding claims p = record p { claims = claims }
 
--- a claim was made so, and its number is its place
-pub record MadeClaim (ClaimsOne : Claiming) (type_id : ℤ) (len : ℕ) (p q : Side) (number : ℕ) : Type 0 where
+-- a claim was made, and its number is its place
+pub record MadeClaim (type_id : ℤ) (len : ℕ) (p q : Side) (number : ℕ) : Type 0 where
   pub claim : ClaimAt
-  pub made : ClaimsOne p.capacity type_id len p.view claim q.view
+  pub made : Claims p.many p.capacity type_id len p.view claim q.view
   pub side : q ≡ holding (p.claims ++ claim ∷ []) (knowing q.view p)
   pub number_is : number ≡ claim.place
 
 -- it was refused, and the number out is as it was
-pub record ClaimRefused (Refuses : Refusing) (type_id : ℤ) (len : ℕ) (p q : Side) (before number : ℕ) (code : ℤ)
-    : Type 0 where
-  pub refused : IsRefused Refuses p.capacity type_id len p.view q.view code
+pub record ClaimRefused (type_id : ℤ) (len : ℕ) (p q : Side) (before number : ℕ) (code : ℤ) : Type 0 where
+  pub refused : IsRefused p.many p.capacity type_id len p.view q.view code
   pub side : q ≡ knowing q.view p
   pub number_is : number ≡ before
 
 -- a claim was made, or refused, or memory to keep it ran out
-abbrev pub ClaimedAs : Claiming → Refusing → ℤ → ℕ → ℕ → ℕ → Side → Side → ℤ → Type 0
-ClaimedAs ClaimsOne Refuses type_id len before number p q code =
-    ((code ≡ pos 0) × MadeClaim ClaimsOne type_id len p q number)
-    ⊎ (ClaimRefused Refuses type_id len p q before number code ⊎ (Declined (pos 3) p q code × (number ≡ before)))
-
--- as producers of its ring claim
 abbrev pub Claimed : ℤ → ℕ → ℕ → ℕ → Side → Side → ℤ → Type 0
-Claimed type_id len before number p q code =
-    ClaimedAs (claiming p.many) (refusing p.many) type_id len before number p q code
+Claimed type_id len before number p q code = ((code ≡ pos 0) × MadeClaim type_id len p q number)
+    ⊎ (ClaimRefused type_id len p q before number code ⊎ (Declined (pos 3) p q code × (number ≡ before)))
 
 -- the claim of this number is open, and P holds; otherwise 104
 abbrev pub WithClaim : ℕ → (ClaimAt → Type 0) → Side → Side → ℤ → Type 0

@@ -5,7 +5,7 @@ ghost use Rattle.ring_table.specs.Views.{with_claims};
 ghost use Rattle.ring_rings.specs.Holding.{AreOpen};
 ghost use Rattle.ring_rings.specs.Seats.{claims_of, shares_of, view_of, IsProducerOf, MayClaim};
 ghost use Rattle.ring_handles.specs.Claims.{aborted, claims_in};
-ghost use Rattle.ring_handles.specs.Producing.{ClaimedAs, Put, Settled};
+ghost use Rattle.ring_handles.specs.Producing.{Claimed, Put, Settled};
 ghost use Rattle.ring_handles.specs.Side.{side};
 ghost use Rattle.ring_handles.specs.declared.identity.Identity.{Identity};
 
@@ -24,15 +24,14 @@ pub(crate) fn claim_in<K: Kind>(
     number: &mut u64,
 ) -> i32
     requires producer { IsProducerOf ring.now producer.old }
-    requires sole { MayClaim K.is_for_one producer.old }
+    requires sole { MayClaim K.many producer.old }
     requires claims { AreOpen ring.now producer.old (claims_in claims.old) }
     ensures producer { IsProducerOf ring.now producer.new }
     ensures shares { shares_of producer.new ≡ shares_of producer.old }
     ensures claims { AreOpen ring.now producer.new (claims_in claims.new) }
-    ensures claimed { (many : Bool) (identity : Identity)
-        → ClaimedAs K.claims K.refuses type_id len number.old number.new
-        (side many identity ring.now producer.old (claims_in claims.old))
-        (side many identity ring.now producer.new (claims_in claims.new)) result }
+    ensures claimed { (identity : Identity) → Claimed type_id len number.old number.new
+        (side K.many identity ring.now producer.old (claims_in claims.old))
+        (side K.many identity ring.now producer.new (claims_in claims.new)) result }
 {
     let Ok(()) = claims.reserve(producer.open_claims()) else {
         return OUT_OF_MEMORY;

@@ -1,7 +1,7 @@
 //! A producer in a handle.
-ghost use Rattle.std.specs.Prelude.{◌≡◌, Bool, IfErr, IfOk, List, OnOk};
+ghost use Rattle.std.specs.Prelude.{◌≡◌, IfErr, IfOk, List, OnOk};
 ghost use Rattle.ring_layout.specs.declared.message.ClaimState.TheVariants.{Aborted, Committed};
-ghost use Rattle.ring_handles.specs.Producing.{closing, positions, Claimed, Counted, Drew, HeardBeat, IsApart, WhyNotSplit, Positioned, Put, Settled, Splits, TakesIn, Wrote, WroteAs};
+ghost use Rattle.ring_handles.specs.Producing.{closing, positions, Claimed, Counted, Drew, HeardBeat, IsApart, WhyNotSplit, Positioned, Put, Settled, Splits, TakesIn, Wrote};
 ghost use Rattle.ring_handles.specs.Side.{side, AreOfOneRing};
 ghost use Rattle.ring_handles.specs.declared.identity.Identity.{Identity};
 ghost use Rattle.ring_rings.specs.Seats.{shares_of, IsProducerOf, KeepsClaims, MayClaim};
@@ -43,13 +43,13 @@ impl Model for ProducerSide {
 /// Writes a message into a ring, by one try.
 fn write_in<K: Kind>(ring: &PlainRing<K>, producer: &mut Producer, type_id: i32, body: &[u8]) -> i32
     requires producer { IsProducerOf ring.now producer.old }
-    requires sole { MayClaim K.is_for_one producer.old }
+    requires sole { MayClaim K.many producer.old }
     ensures producer { IsProducerOf ring.now producer.new }
     ensures shares { shares_of producer.new ≡ shares_of producer.old }
     ensures claims { KeepsClaims ring.now producer.old producer.new }
-    ensures wrote { (many : Bool) (identity : Identity) (claims : List ClaimAt)
-        → WroteAs K.writes K.refuses type_id body.now (side many identity ring.now producer.old claims)
-        (side many identity ring.now producer.new claims) result }
+    ensures wrote { (identity : Identity) (claims : List ClaimAt)
+        → Wrote type_id body.now (side K.many identity ring.now producer.old claims)
+        (side K.many identity ring.now producer.new claims) result }
 {
     match K::write_once(ring, producer, type_id, body) {
         Ok(()) => DONE,

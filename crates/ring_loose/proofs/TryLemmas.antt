@@ -1,5 +1,5 @@
 -- What the claims and writes that try again leave of a producer's view.
-use Rattle.std.proofs.Common.{Result, Ok, Err, OnOk, OnErr, IfErr, IsTrue, is_err, Option, ◌≡◌, ℕ, ◌+◌, ◌<◌, ℤ, List, [], ◌∷◌, ◌++◌, length, refl, ap, ◌∙◌}
+use Rattle.std.proofs.Common.{true, Result, Ok, Err, OnOk, OnErr, IfErr, IsTrue, is_err, Option, ◌≡◌, ℕ, ◌+◌, ◌<◌, ℤ, List, [], ◌∷◌, ◌++◌, length, refl, ap, ◌∙◌}
 use Rattle.ring_words.specs.Open.{ClaimAt}
 use Rattle.ring_words.specs.declared.fault.ClaimFault.{ClaimFault}
 use Rattle.ring_table.specs.declared.claim.StagedClaim.{StagedClaim}
@@ -28,10 +28,10 @@ module _ {C : ℕ} {type_id : ℤ} {len : ℕ} {v : View} {P : View → Type 0} 
   keeps_before = keeps_tried C type_id len tries.tries v tries.before tries.contended
 
 pub keeps_after : (C : ℕ) (type_id : ℤ) (len : ℕ) (fault : ClaimFault) (v w : View)
-    → AfterTries C type_id len v (λ u. Refuses C type_id len u fault w) → AsManyOpen v w
+    → AfterTries C type_id len v (λ u. Refuses true C type_id len u fault w) → AsManyOpen v w
 keeps_after C type_id len fault v w tries =
     let before = keeps_before tries in
-    let refused = keeps_refused C type_id len tries.before fault w tries.holds in
+    let refused = keeps_refused true C type_id len tries.before fault w tries.holds in
     as_many v w (record { shares = refused.shares ∙ before.shares; claims = refused.claims ∙ before.claims })
 
 gains_after : (c : StagedClaim) {C : ℕ} {type_id : ℤ} {len : ℕ} {P : View → Type 0} (v w : View)
@@ -45,7 +45,7 @@ gains_after c v w tries gained =
 
 -- a claim was made
 pub gains_claim : (C : ℕ) (type_id : ℤ) (len : ℕ) (t : ClaimAt) (v w : View)
-    → AfterTries C type_id len v (λ u. Claims C type_id len u t w)
+    → AfterTries C type_id len v (λ u. Claims true C type_id len u t w)
     → (w.producer.shares ≡ v.producer.shares) × (open_count w.producer.claims ≡ open_count v.producer.claims + 1)
 gains_claim C type_id len t v w tries =
     let made = tries.holds in
@@ -55,8 +55,8 @@ gains_claim C type_id len t v w tries =
 
 -- a message was written, or refused
 pub wrote : {T : Type 0} (r : Result T ClaimFault) (C : ℕ) (type_id : ℤ) (body : List ℕ) (len : ℕ) (v w : View)
-    → OnOk r (AfterTries C type_id (length body) v (λ u. Writes C type_id body u w))
-    → IfErr r (λ fault. AfterTries C type_id len v (λ u. Refuses C type_id len u fault w)) → AsManyOpen v w
+    → OnOk r (AfterTries C type_id (length body) v (λ u. Writes true C type_id body u w))
+    → IfErr r (λ fault. AfterTries C type_id len v (λ u. Refuses true C type_id len u fault w)) → AsManyOpen v w
 wrote (Ok x) C type_id body len v w tries refused =
     let made = tries.holds in
     let c = record_behind C made.tail type_id body in
@@ -66,7 +66,7 @@ wrote (Err fault) C type_id body len v w written refused = keeps_after C type_id
 
 pub declines : {T : Type 0} (r : Result T ClaimFault) (C : ℕ) (type_id : ℤ) (len : ℕ) (old new : Holder)
     → new.claims ≡ old.claims
-    → IfErr r (λ fault. AfterTries C type_id len old.view (λ v. Refuses C type_id len v fault new.view))
+    → IfErr r (λ fault. AfterTries C type_id len old.view (λ v. Refuses true C type_id len v fault new.view))
     → IfErr r (λ fault. Declines C old type_id len fault new)
 declines (Ok x) C type_id len old new same refused = refused
 declines (Err fault) C type_id len old new same refused = record { refused = refused; same = same }

@@ -1,11 +1,11 @@
 -- What a write or a refused try leaves of a producer's view.
-use Rattle.std.proofs.Common.{Result, Ok, Err, OnOk, IfErr, ◌≡◌, ◌∙◌, ℕ, ℤ, List, [], ◌∷◌, ◌++◌, length, refl, ap, inl, inr, arith}
+use Rattle.std.proofs.Common.{Bool, true, false, Result, Ok, Err, OnOk, IfErr, ◌≡◌, ◌∙◌, ℕ, ℤ, List, [], ◌∷◌, ◌++◌, length, refl, ap, inl, inr, arith}
 use Rattle.ring_words.specs.declared.fault.ClaimFault.{ClaimFault}
 use Rattle.ring_table.specs.declared.claim.StagedClaim.{StagedClaim}
 use Rattle.ring_table.specs.declared.view.View.{View}
 use Rattle.ring_table.specs.OpenClaims.{open_count}
 use Rattle.ring_table.specs.Views.{with_claim}
-use Rattle.ring_rings.specs.Claiming.{Refuses, RefusesTry, Writes, WritesAlone, looked, record_behind}
+use Rattle.ring_rings.specs.Claiming.{Refuses, RefusesTry, Writes, looked, record_behind}
 use Rattle.ring_rings.specs.declared.fault.TryFault.{TryFault}
 use Rattle.ring_rings.specs.declared.fault.TryFault.TheVariants.{Refused, Contended}
 use Rattle.ring_rings.proofs.CountLemmas.{open_count-more}
@@ -39,16 +39,17 @@ gains_looked c end loads tail head v w is =
 
 -- Refused ------------------------------------------------------------------------
 
-pub keeps_refused : (C : ℕ) (type_id : ℤ) (len : ℕ) (v : View) (fault : ClaimFault) (w : View)
-    → Refuses C type_id len v fault w → Keeps v w
-keeps_refused C type_id len v fault w (inl at_once) = keeps_as v v w at_once.1 refl refl
-keeps_refused C type_id len v fault w (inr (inl limit)) = keeps_looked _ _ _ v w limit.view
-keeps_refused C type_id len v fault w (inr (inr full)) = keeps_looked _ _ _ v w full.view
+pub keeps_refused : (many : Bool) (C : ℕ) (type_id : ℤ) (len : ℕ) (v : View) (fault : ClaimFault) (w : View)
+    → Refuses many C type_id len v fault w → Keeps v w
+keeps_refused many C type_id len v fault w (inl at_once) = keeps_as v v w at_once.1 refl refl
+keeps_refused many C type_id len v fault w (inr (inl limit)) = keeps_looked _ _ _ v w limit.view
+keeps_refused many C type_id len v fault w (inr (inr full)) = keeps_looked _ _ _ v w full.view
 
-keeps_try : (C : ℕ) (type_id : ℤ) (len : ℕ) (v : View) (fault : TryFault) (w : View)
-    → RefusesTry C type_id len v fault w → Keeps v w
-keeps_try C type_id len v (Refused fault) w h = keeps_refused C type_id len v fault w h
-keeps_try C type_id len v (Contended tail seen) w h = keeps_looked _ _ _ v w h.view
+keeps_try : (many : Bool) (C : ℕ) (type_id : ℤ) (len : ℕ) (v : View) (fault : TryFault) (w : View)
+    → RefusesTry many C type_id len v fault w → Keeps v w
+keeps_try many C type_id len v (Refused fault) w h = keeps_refused many C type_id len v fault w h
+keeps_try true C type_id len v (Contended tail seen) w h = keeps_looked _ _ _ v w h.view
+keeps_try false C type_id len v (Contended tail seen) w h = absurd h
 
 -- Written ------------------------------------------------------------------------
 
@@ -69,17 +70,11 @@ as_many_open v w c settled gained =
     record { shares = gained.shares; open_claims = omega (arith, counted, settled) }
 
 -- after one try to write
-pub open_tried : {T : Type 0} (r : Result T TryFault) (C : ℕ) (type_id : ℤ) (body : List ℕ) (v w : View)
-    → OnOk r (Writes C type_id body v w) → IfErr r (λ fault. RefusesTry C type_id (length body) v fault w)
+pub open_tried : {T : Type 0} (r : Result T TryFault) (many : Bool) (C : ℕ) (type_id : ℤ) (body : List ℕ) (v w : View)
+    → OnOk r (Writes many C type_id body v w) → IfErr r (λ fault. RefusesTry many C type_id (length body) v fault w)
     → AsManyOpen v w
-open_tried (Ok done) C type_id body v w written refused =
+open_tried (Ok done) many C type_id body v w written refused =
     as_many_open v w (record_behind C written.tail type_id body) refl
     (gains_looked _ _ _ written.tail written.head v w written.view)
-open_tried (Err fault) C type_id body v w written refused =
-    as_many v w (keeps_try C type_id (length body) v fault w refused)
-
-pub open_written_alone : (C : ℕ) (type_id : ℤ) (body : List ℕ) (v w : View) → WritesAlone C type_id body v w
-    → AsManyOpen v w
-open_written_alone C type_id body v w written =
-    as_many_open v w (record_behind C v.producer.seen_tail type_id body) refl
-    (gains_looked _ _ _ v.producer.seen_tail written.head v w written.view)
+open_tried (Err fault) many C type_id body v w written refused =
+    as_many v w (keeps_try many C type_id (length body) v fault w refused)

@@ -1,10 +1,10 @@
 -- What follows from a claim that was made.
-use Rattle.std.proofs.Common.{◌≡◌, ◌≢◌, ℕ, ◌+◌, ◌%◌, ◌^◌, ◌<◌, ◌≤◌, ℤ, List, [], ◌∷◌, ◌++◌, false, length, refl, sym, ap, ◌∙◌, ◌==◌, subst, arith}
+use Rattle.std.proofs.Common.{◌≡◌, ◌≢◌, ℕ, ◌+◌, ◌%◌, ◌^◌, ◌<◌, ◌≤◌, ℤ, List, [], ◌∷◌, ◌++◌, false, length, None, refl, sym, ap, ◌∙◌, ◌==◌, subst, arith}
 use Rattle.std.proofs.lemmas.List.{length-replicate}
 use lib.ListN.{get_elem?}
 use Rattle.atomic_table.proofs.Lists.{at_longer}
 use Rattle.ring_table.specs.declared.claim.StagedClaim.{StagedClaim}
-use Rattle.ring_layout.specs.declared.message.ClaimState.TheVariants.{Committed}
+use Rattle.ring_layout.specs.declared.message.ClaimState.TheVariants.{Committed, Open}
 use Rattle.ring_table.specs.declared.claim.Stage.TheVariants.{Stored}
 use Rattle.ring_table.specs.declared.view.View.{View}
 use Rattle.ring_layout.specs.History.{span}
@@ -12,19 +12,20 @@ use Rattle.ring_layout.specs.Places.{end_after, next_place}
 use Rattle.ring_layout.proofs.PlaceLemmas.{next_le}
 use Rattle.ring_table.specs.OpenClaims.{one_if_open, open_count}
 use Rattle.ring_table.specs.Views.{with_claim, with_claims}
-use Rattle.ring_table.specs.Changes.{fresh_stage, recorded}
+use Rattle.ring_table.specs.Changes.{blank, fresh_stage, recorded, with_header}
 use Rattle.ring_table.specs.Staged.{AreRising, AreStored, IsStored, stage_state, staged_span}
-use Rattle.ring_table.specs.ProducerSteps.{HasClaimAt, IsStagedOpen}
+use Rattle.ring_table.specs.ProducerSteps.{EndBelow, HasClaimAt, IsStagedOpen}
 use Rattle.ring_words.specs.Open.{ClaimAt}
 use Rattle.ring_layout.specs.declared.admission.Admission.{Admission}
 use Rattle.ring_rings.specs.declared.ring.Producer.{Producer}
 use Rattle.ring_rings.specs.declared.ring.Ring.{Ring}
 use Rattle.ring_rings.specs.declared.steps.Steps.{Ghosts}
-use Rattle.ring_rings.specs.Claiming.{claim_behind, looked, record_behind}
-use Rattle.ring_rings.specs.Making.{IsNewest, Makes, Moves}
+use Rattle.ring_rings.specs.Claiming.{claim_behind, looked, record_behind, tail_refusal_of, SeesRoom}
+use Rattle.ring_rings.specs.Making.{GoesBehind, IsNewest, Moves}
 use Rattle.ring_rings.specs.Matching.{Matches}
 use Rattle.ring_rings.specs.Seats.{IsNewClaimOf, IsOpenClaimOf, KeepsClaims}
 use Rattle.ring_rings.proofs.CountLemmas.{open_count-more, open_few, stored_more}
+use Rattle.ring_rings.proofs.LeavingLemmas.{AsManyOpen, as_many_open}
 use Rattle.ring_rings.proofs.NewestLemmas.{has_last, rising_few}
 use Rattle.ring_rings.proofs.RisingLemmas.{rising_more}
 
@@ -48,6 +49,20 @@ pub keeps_claims : {K B : Type 0} {G : Ghosts B} {ring : Ring K B G} {p q : Prod
     → q.seat.me.0.producer.claims ≡ p.seat.me.0.producer.claims ++ c ∷ [] → KeepsClaims ring p q
 keeps_claims {K} {B} {G} {ring} {p} {q} c more t h =
     still_open h (has_more p.seat.me.0 q.seat.me.0 c t.place (IsStagedOpen t.type_id t.len) more h.claim)
+
+-- the claim is made after the tail, after these loads and others
+pub record Makes (C tail : ℕ) (type_id : ℤ) (len : ℕ) (front : List (ℕ × ℕ)) (v : View) (a : Admission)
+    (w : View) : Type 0 where
+  pub refusal : tail_refusal_of C tail type_id len ≡ None
+  pub admitted : GoesBehind C tail type_id len a
+  pub whole : a.end % 8 ≡ 0
+  pub loads : List (ℕ × ℕ)
+  pub room : SeesRoom C tail (end_after C tail (span len)) loads
+  pub head : ℕ
+  pub view : w ≡ with_claim (claim_behind C tail type_id len) (end_after C tail (span len))
+      (looked (front ++ loads) tail head v)
+  pub few : length v.producer.claims ≤ a.place
+  pub behind : EndBelow tail v.producer.claims
 
 module _ {C tail : ℕ} {type_id : ℤ} {len : ℕ} {front : List (ℕ × ℕ)} {v : View} {a : Admission} {w : View}
     (made : Makes C tail type_id len front v a w) where
@@ -132,6 +147,11 @@ module _ {C tail : ℕ} {type_id : ℤ} {len : ℕ} {front : List (ℕ × ℕ)} 
         ∙ ap (λ (n : ℕ). with_claim (record_behind C tail type_id body) (end_after C tail (span n))
         (looked (front ++ made.loads) tail made.head v)) same
 
+    -- the claim that came is not open
+    pub written_leaves : AsManyOpen v u
+    written_leaves = as_many_open v u (record_behind C tail type_id body) refl
+        (record { shares = ap (λ (z : View). z.producer.shares) written_view; claims = written_claims })
+
     pub written_matches : {shares open_claims own_tail : ℕ} → Matches v shares open_claims own_tail
         → Matches u shares open_claims a.end
     written_matches {shares} {open_claims} known = matches_more u (record_behind C tail type_id body) open_claims
@@ -201,6 +221,23 @@ module _ {C tail : ℕ} {type_id : ℤ} {len : ℕ} {front : List (ℕ × ℕ)} 
         omega arith);
     behind = m.behind;
   }
+
+  -- or its header alone: it is the claim after the tail
+  pub moved_opened : AreRising v.producer.claims → (u : View)
+      → u ≡ with_claims (v.producer.claims ++ with_header type_id len m.claim ∷ []) w
+      → Makes C tail type_id len front v a u
+  moved_opened rising u opened =
+      let is = m.is_moved in
+      let same : with_header type_id len m.claim ≡ claim_behind C tail type_id len =
+      ap (with_header type_id len) is.is
+      ∙ ap (λ (n : ℕ). record {
+        from = tail;
+        place = next_place C tail n;
+        message = blank type_id len;
+        stage = Stored Open;
+      }) is.same in
+      subst (Makes C tail type_id len front v a)
+      (sym (opened ∙ ap (λ (c : StagedClaim). with_claims (v.producer.claims ++ c ∷ []) w) same)) (moved_made rising)
 
 -- the claim is open in the hands of the producer that made it, and new
 pub made_new : {K B : Type 0} {G : Ghosts B} {ring : Ring K B G} {p q : Producer} {tail : ℕ} {type_id : ℤ} {len : ℕ} {front : List (ℕ × ℕ)}

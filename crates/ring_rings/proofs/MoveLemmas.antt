@@ -1,5 +1,5 @@
 -- The only producer moves the tail.
-use Rattle.std.proofs.Common.{◌≡◌, ℕ, ◌%◌, ℤ, [], None, sym, ap, ◌∙◌, subst, arith}
+use Rattle.std.proofs.Common.{◌≡◌, ℕ, ◌%◌, ℤ, [], None, false, sym, ap, ◌∙◌, subst, arith}
 use Rattle.ring_layout.specs.History.{span}
 use Rattle.ring_layout.specs.Places.{end_after}
 use Rattle.ring_layout.specs.declared.admission.Admission.{Admission}
@@ -10,21 +10,21 @@ use Rattle.ring_table.specs.Changes.{moved_claim}
 use Rattle.ring_table.specs.ProducerSteps.{EndBelow, MovesOwnTail}
 use Rattle.ring_table.specs.Views.{with_claim}
 use Rattle.ring_rings.specs.Claiming.{looked, tail_refusal_of, SeesRoom}
-use Rattle.ring_rings.specs.Making.{FindsRoom, GoesBehind, Moves}
+use Rattle.ring_rings.specs.Making.{FindsRoom, GoesBehind, Moves, MovesBehind}
 use Rattle.ring_rings.proofs.NewestLemmas.{same_span}
 
 -- room was found, and then the tail was moved after the claim
 pub moves_alone : (C tail : ℕ) (type_id : ℤ) (len : ℕ) (a : Admission) (v u w : View)
     → tail_refusal_of C tail type_id len ≡ None → GoesBehind C tail type_id len a → a.end % 8 ≡ 0
     → v.producer.seen_tail ≡ tail → FindsRoom C a.tail a.end v u → MovesOwnTail C a.end u w
-    → Moves C tail type_id len [] v a w
+    → MovesBehind false C type_id len v a w
 moves_alone C tail type_id len a v u w refusal admitted whole at found told =
     let seen : u.producer.seen_tail ≡ tail = ap (λ (x : View). x.producer.seen_tail) found.view ∙ at in
     let claim : StagedClaim = moved_claim C u.producer.seen_tail told.type_id told.len in
     let end : ℕ = end_after C tail (span len) in
     let spans = span_bounds len in
     let told_spans = span_bounds told.len in
-    record {
+    let moves : Moves C tail type_id len [] v a w = record {
       refusal = refusal;
       admitted = admitted;
       whole = whole;
@@ -44,4 +44,5 @@ moves_alone C tail type_id len a v u w refusal admitted whole at found told =
           ∙ ap (with_claim claim end) (found.view ∙ ap (λ (n : ℕ). looked found.loads n found.head v) at);
       behind = subst (λ (n : ℕ). EndBelow n v.producer.claims) at
           (subst (λ (x : View). EndBelow x.producer.seen_tail x.producer.claims) found.view told.behind);
-    }
+    } in
+    (subst (λ (n : ℕ). Moves C n type_id len [] v a w) (sym admitted.tail_is) moves, admitted.tail_is ∙ sym at)

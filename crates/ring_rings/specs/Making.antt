@@ -1,7 +1,6 @@
 -- How a claim is made, in parts.
-use Rattle.std.specs.Prelude.{◌≡◌, ◌≢◌, ℕ, ◌+◌, ◌%◌, ◌≤◌, ◌<◌, ◌==◌, ℤ, List, [], ◌∷◌, ◌++◌, length, None}
+use Rattle.std.specs.Prelude.{◌≡◌, ◌≢◌, ℕ, ◌+◌, ◌%◌, ◌≤◌, ◌<◌, ◌==◌, ℤ, List, [], ◌∷◌, ◌++◌, Bool, None}
 use Rattle.ring_layout.specs.History.{IsMessage, span}
-use Rattle.ring_layout.specs.Layout.{tail_index}
 use Rattle.ring_layout.specs.Places.{next_place, end_after, max_position}
 use Rattle.ring_table.specs.declared.claim.StagedClaim.{StagedClaim}
 use Rattle.ring_table.specs.declared.view.View.{View}
@@ -11,9 +10,11 @@ use Rattle.ring_table.specs.ProducerSteps.{EndBelow}
 use Rattle.ring_table.specs.Views.{with_claim}
 use Rattle.ring_layout.specs.declared.admission.Admission.{Admission}
 use Rattle.ring_layout.specs.Refusals.{all_shares}
-use Rattle.ring_rings.specs.declared.producer.room.Shortage.{Shortage}
-use Rattle.ring_rings.specs.declared.producer.room.Shortage.TheVariants.{Full, Passed}
-use Rattle.ring_rings.specs.Claiming.{GoesBy, LooksTwice, SeesRoom, claim_behind, looked, tail_refusal_of}
+use Rattle.ring_words.specs.declared.fault.ClaimFault.{ClaimFault}
+use Rattle.ring_words.specs.declared.fault.ClaimFault.TheVariants.{InsufficientCapacity}
+use Rattle.ring_rings.specs.declared.fault.TryFault.{TryFault}
+use Rattle.ring_rings.specs.declared.fault.TryFault.TheVariants.{Refused, Contended}
+use Rattle.ring_rings.specs.Claiming.{GoesBy, LooksTwice, SeesRoom, SeesTail, looked, tail_loads, tail_refusal_of}
 
 -- a valid message goes here past the tail
 pub record GoesBehind (C tail : ℕ) (type_id : ℤ) (len : ℕ) (a : Admission) : Type 0 where
@@ -32,7 +33,9 @@ pub record FindsRoom (C tail end : ℕ) (v w : View) : Type 0 where
   pub room : end ≤ head + C
 
 -- neither the cached head nor the head, which were loaded, has room up to `end`
-pub record FindsNoRoom (C tail end head : ℕ) (v w : View) : Type 0 where
+pub record FindsNoRoom (C tail end : ℕ) (fault : ClaimFault) (v w : View) : Type 0 where
+  pub head : ℕ
+  pub fault_is : fault ≡ InsufficientCapacity tail head
   pub loads : List (ℕ × ℕ)
   pub seen : ℕ
   pub view : w ≡ looked loads v.producer.seen_tail seen v
@@ -49,23 +52,9 @@ pub record FindsPassed (C tail end seen : ℕ) (v w : View) : Type 0 where
   pub greater : tail < seen
   pub others : v.producer.shares ≢ all_shares
 
-abbrev pub FindsShortage : ℕ → ℕ → ℕ → Shortage → View → View → Type 0
-FindsShortage C tail end (Full head) v w = FindsNoRoom C tail end head v w
-FindsShortage C tail end (Passed seen) v w = FindsPassed C tail end seen v w
-
--- the claim is made after the tail, after these loads and others
-pub record Makes (C tail : ℕ) (type_id : ℤ) (len : ℕ) (front : List (ℕ × ℕ)) (v : View) (a : Admission)
-    (w : View) : Type 0 where
-  pub refusal : tail_refusal_of C tail type_id len ≡ None
-  pub admitted : GoesBehind C tail type_id len a
-  pub whole : a.end % 8 ≡ 0
-  pub loads : List (ℕ × ℕ)
-  pub room : SeesRoom C tail (end_after C tail (span len)) loads
-  pub head : ℕ
-  pub view : w ≡ with_claim (claim_behind C tail type_id len) (end_after C tail (span len))
-      (looked (front ++ loads) tail head v)
-  pub few : length v.producer.claims ≤ a.place
-  pub behind : EndBelow tail v.producer.claims
+abbrev pub FindsShortage : ℕ → ℕ → ℕ → TryFault → View → View → Type 0
+FindsShortage C tail end (Refused fault) v w = FindsNoRoom C tail end fault v w
+FindsShortage C tail end (Contended from seen) v w = (from ≡ tail) × FindsPassed C tail end seen v w
 
 -- a claim whose tail is moved, and whose header is not stored: its type id and length may be provisional, with the span
 -- of len bytes
@@ -89,15 +78,10 @@ pub record Moves (C tail : ℕ) (type_id : ℤ) (len : ℕ) (front : List (ℕ �
   pub view : w ≡ with_claim claim (end_after C tail (span len)) (looked (front ++ loads) tail head v)
   pub behind : EndBelow tail v.producer.claims
 
--- after a tail that was loaded
-abbrev pub MovesBehind : ℕ → ℤ → ℕ → View → Admission → View → Type 0
-MovesBehind C type_id len v a w =
-    Moves C a.tail type_id len ((tail_index C, a.tail) ∷ []) v a w × (v.producer.seen_tail ≤ a.tail)
-
--- it is made after a tail that was loaded
-abbrev pub MakesBehind : ℕ → ℤ → ℕ → View → Admission → View → Type 0
-MakesBehind C type_id len v a w =
-    Makes C a.tail type_id len ((tail_index C, a.tail) ∷ []) v a w × (v.producer.seen_tail ≤ a.tail)
+-- after the tail that a producer of this kind goes by
+abbrev pub MovesBehind : Bool → ℕ → ℤ → ℕ → View → Admission → View → Type 0
+MovesBehind many C type_id len v a w =
+    Moves C a.tail type_id len (tail_loads many C a.tail) v a w × SeesTail many v a.tail
 
 -- c is the last claim of the view, made from the tail on for len bytes. No header is stored, and the others are before
 pub record IsNewest (tail place len : ℕ) (cs : List StagedClaim) (c : StagedClaim) (v : View) : Type 0 where

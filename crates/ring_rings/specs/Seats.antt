@@ -1,5 +1,5 @@
 -- What clauses say of rings, producers and consumers.
-use Rattle.std.specs.Prelude.{◌≡◌, ◌≢◌, ℕ, ◌+◌, ◌%◌, ◌≤◌, List}
+use Rattle.std.specs.Prelude.{◌≡◌, ◌≢◌, ℕ, ◌+◌, ◌%◌, ◌≤◌, List, Bool, false}
 use Rattle.ring_layout.specs.History.{IsMessage}
 use Rattle.ring_layout.specs.Places.{max_position}
 pub use Rattle.ring_layout.specs.Refusals.{all_shares}
@@ -49,9 +49,9 @@ pub record IsProducerOf {K B : Type 0} {G : Ghosts B} (ring : Ring K B G) (p : P
   pub table : p.seat.table_id ≡ G.table_of ring.table
   pub capacity : p.seat.me.0.capacity ≡ ring.capacity
 
--- if the ring is for one producer, this one holds all shares
-abbrev pub MayClaim : Type 0 → Producer → Type 0
-MayClaim is_for_one p = is_for_one → shares_of p ≡ all_shares
+-- if the ring is not for many producers, this one holds all shares
+abbrev pub MayClaim : Bool → Producer → Type 0
+MayClaim many p = many ≡ false → shares_of p ≡ all_shares
 
 -- The consumer ---------------------------------------------------------------
 

@@ -1,28 +1,49 @@
-//! How the kinds of rings claim, one as the other, for code that takes a ring of either.
-ghost use Rattle.std.specs.Prelude.{length, IfErr, IfOk, OnOk};
-ghost use Rattle.ring_rings.specs.Claiming.{Claiming, Refusing, Writing};
-ghost use Rattle.ring_rings.specs.Claiming.{Claims, ClaimsAlone, RefusesTry, RefusesTryAlone, Writes, WritesAlone};
+//! The kinds of rings: how a producer of each moves the tail. Claims and writes are the same for both.
+ghost use Rattle.std.specs.Prelude.{◌≡◌, ◌%◌, ◌<◌, ◌≤◌, length, Bool, false, true, IfErr, IfOk, MatchResult, OnErr, OnOk};
+ghost use Rattle.ring_layout.specs.Places.{max_position};
+ghost use Rattle.ring_layout.specs.Refusals.{all_shares};
+ghost use Rattle.ring_table.specs.Seats.{IsSameSeat, IsSeatOf};
+ghost use Rattle.ring_rings.specs.Claiming.{Claims, RefusesTry, Writes};
+ghost use Rattle.ring_rings.specs.Making.{MovesBehind};
 ghost use Rattle.ring_rings.specs.Seats.{capacity_of, view_of, IsNewClaimOf, IsProducerOf, KeepsHoldings};
 ghost use Rattle.ring_rings.specs.Seats.{MayClaim, OpensNone};
 
 use crate::claim::Claim;
 use crate::fault::TryFault;
+use crate::producer::admission::{admit, test_request};
+use crate::producer::headers::{store_headers, store_whole};
+use crate::producer::room::find_room;
 use crate::ring::{ManyToOne, OneToOne, Producer, Ring};
 use crate::steps::Steps;
+use ring_layout::Admission;
+use ring_table::{RingSeat, Wanted};
 
-/// A kind of ring: `OneToOne` or `ManyToOne`. `claims`, `writes` and `refuses` state what its calls do.
+/// A kind of ring: `OneToOne` or `ManyToOne`.
 pub trait Kind: Sized {
-    /// Its rings have one producer, which holds all shares when it claims.
-    ghost is_for_one: { Type 0 };
+    /// Its rings may have many producers. Otherwise a producer holds all shares when it claims, and knows the tail.
+    ghost many: { Bool };
 
-    /// What a claim does to a producer's view.
-    ghost claims: { Claiming };
-
-    /// What a write does to it.
-    ghost writes: { Writing };
-
-    /// What a refused try does to it.
-    ghost refuses: { Refusing };
+    /// Makes one try to move the tail past a message: by a store of the only producer, whose own tail is the ring's, or
+    /// by an exchange with a tail that was loaded. The claim has no header yet. The refusals are those of `claim_once`.
+    fn try_move<B: Steps>(
+        words: &B,
+        seat: &mut RingSeat,
+        capacity: u32,
+        own_tail: u64,
+        wanted: Wanted,
+    ) -> Result<Admission, TryFault>
+        requires seat { IsSeatOf (B.table_of words.now) (B.key_of words.now) capacity seat.old }
+        requires share { 0 < seat.old.me.0.producer.shares }
+        requires sole { many ≡ false → seat.old.me.0.producer.shares ≡ all_shares }
+        requires own { seat.old.me.0.producer.shares ≡ all_shares → seat.old.me.0.producer.seen_tail ≡ own_tail }
+        requires position { (own_tail % 8 ≡ 0) × (own_tail ≤ max_position) }
+        ensures seat { IsSameSeat seat.old seat.new }
+        ensures told { MatchResult result
+            (λ a. MovesBehind many capacity wanted.type_id wanted.len seat.old.me.0 a seat.new.me.0)
+            (λ fault. RefusesTry many capacity wanted.type_id wanted.len seat.old.me.0 fault seat.new.me.0) }
+        ensures own { OnErr result
+            (seat.old.me.0.producer.shares ≡ all_shares
+            → seat.new.me.0.producer.seen_tail ≡ seat.old.me.0.producer.seen_tail) };
 
     /// Makes one try to claim, as `OneToOneRing::claim` or `ManyToOneRing::claim_once` does. It never waits.
     fn claim_once<B: Steps>(
@@ -32,16 +53,27 @@ pub trait Kind: Sized {
         len: usize,
     ) -> Result<Claim, TryFault>
         requires producer { IsProducerOf ring.now producer.old }
-        requires sole { MayClaim is_for_one producer.old }
+        requires sole { MayClaim many producer.old }
         ensures producer { IsProducerOf ring.now producer.new }
         ensures claimed { IfOk result (λ t.
-            claims (capacity_of ring.now) type_id len (view_of producer.old) t (view_of producer.new)) }
+            Claims many (capacity_of ring.now) type_id len (view_of producer.old) t (view_of producer.new)) }
         ensures refused { IfErr result (λ fault.
-            refuses (capacity_of ring.now) type_id len (view_of producer.old) fault (view_of producer.new)) }
+            RefusesTry many (capacity_of ring.now) type_id len (view_of producer.old) fault (view_of producer.new)) }
         ensures opened { IfOk result (IsNewClaimOf ring.now producer.old producer.new) }
-        ensures holdings { KeepsHoldings ring.now producer.old producer.new };
+        ensures holdings { KeepsHoldings ring.now producer.old producer.new }
+    {
+        let wanted = Wanted { type_id, len };
+        let (words, own_tail) = (&ring.table, producer.own_tail);
+        let seat = &mut producer.seat;
+        let admission = Self::try_move(words, seat, ring.capacity, own_tail, wanted)?;
+        store_headers(words, seat, ring.capacity, admission, wanted);
+        producer.own_tail = admission.end;
+        producer.open_claims += 1;
+        Ok(Claim::new(ring.capacity, admission.place, wanted))
+    }
 
     /// Makes one try to write, as `OneToOneRing::write` or `ManyToOneRing::write_once` does. It never waits.
+    #[inline(always)]
     fn write_once<B: Steps>(
         ring: &Ring<Self, B>,
         producer: &mut Producer,
@@ -49,76 +81,66 @@ pub trait Kind: Sized {
         body: &[u8],
     ) -> Result<(), TryFault>
         requires producer { IsProducerOf ring.now producer.old }
-        requires sole { MayClaim is_for_one producer.old }
+        requires sole { MayClaim many producer.old }
         ensures producer { IsProducerOf ring.now producer.new }
         ensures written { OnOk result
-            (writes (capacity_of ring.now) type_id body.now (view_of producer.old) (view_of producer.new)) }
+            (Writes many (capacity_of ring.now) type_id body.now (view_of producer.old) (view_of producer.new)) }
         ensures refused { IfErr result (λ fault.
-            refuses (capacity_of ring.now) type_id (length body.now)
+            RefusesTry many (capacity_of ring.now) type_id (length body.now)
             (view_of producer.old) fault (view_of producer.new)) }
-        ensures holdings { OpensNone ring.now producer.old producer.new };
+        ensures holdings { OpensNone ring.now producer.old producer.new }
+    {
+        let wanted = Wanted {
+            type_id,
+            len: body.len(),
+        };
+        let (words, own_tail) = (&ring.table, producer.own_tail);
+        let seat = &mut producer.seat;
+        let admission = Self::try_move(words, seat, ring.capacity, own_tail, wanted)?;
+        store_whole(words, seat, ring.capacity, admission, wanted, body);
+        producer.own_tail = admission.end;
+        Ok(())
+    }
 }
 
 impl Kind for OneToOne {
-    ghost is_for_one = { Unit {0} };
-
-    ghost claims = { ClaimsAlone };
-
-    ghost writes = { WritesAlone };
-
-    ghost refuses = { RefusesTryAlone };
-
-    fn claim_once<B: Steps>(
-        ring: &Ring<Self, B>,
-        producer: &mut Producer,
-        type_id: i32,
-        len: usize,
-    ) -> Result<Claim, TryFault> {
-        match ring.claim(producer, type_id, len) {
-            Ok(claim) => Ok(claim),
-            Err(fault) => Err(TryFault::Refused(fault)),
-        }
-    }
+    ghost many = { false };
 
     #[inline(always)]
-    fn write_once<B: Steps>(
-        ring: &Ring<Self, B>,
-        producer: &mut Producer,
-        type_id: i32,
-        body: &[u8],
-    ) -> Result<(), TryFault> {
-        match ring.write(producer, type_id, body) {
-            Ok(()) => Ok(()),
-            Err(fault) => Err(TryFault::Refused(fault)),
-        }
+    fn try_move<B: Steps>(
+        words: &B,
+        seat: &mut RingSeat,
+        capacity: u32,
+        own_tail: u64,
+        wanted: Wanted,
+    ) -> Result<Admission, TryFault> {
+        test_request(capacity, wanted)?;
+        let admission = admit(capacity, own_tail, wanted)?;
+        find_room(words, seat, capacity, admission)?;
+        words.store_tail(seat, capacity, admission.end, wanted);
+        Ok(admission)
     }
 }
 
 impl Kind for ManyToOne {
-    ghost is_for_one = { ⊥ };
-
-    ghost claims = { Claims };
-
-    ghost writes = { Writes };
-
-    ghost refuses = { RefusesTry };
-
-    fn claim_once<B: Steps>(
-        ring: &Ring<Self, B>,
-        producer: &mut Producer,
-        type_id: i32,
-        len: usize,
-    ) -> Result<Claim, TryFault> {
-        ring.claim_once(producer, type_id, len)
-    }
+    ghost many = { true };
 
     #[inline(always)]
-    fn write_once<B: Steps>(
-        ring: &Ring<Self, B>,
-        producer: &mut Producer,
-        type_id: i32,
-        body: &[u8],
-    ) -> Result<(), TryFault> {
-        ring.write_once(producer, type_id, body)
+    fn try_move<B: Steps>(
+        words: &B,
+        seat: &mut RingSeat,
+        capacity: u32,
+        _own_tail: u64,
+        wanted: Wanted,
+    ) -> Result<Admission, TryFault> {
+        test_request(capacity, wanted)?;
+        let tail = words.load_tail(seat, capacity);
+        let admission = admit(capacity, tail, wanted)?;
+        find_room(words, seat, capacity, admission)?;
+        let seen = words.move_tail(seat, capacity, tail, admission.end, wanted);
+        if seen != tail {
+            return Err(TryFault::Contended { tail, seen });
+        }
+        Ok(admission)
     }
 }

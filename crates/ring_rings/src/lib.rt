@@ -1,10 +1,12 @@
 //! The rings that threads share: any number of producers or one, and one consumer.
 //!
 //! - `ring`: a ring, its producers and its consumer. `open` makes it, `close` takes it apart.
-//! - `producer`: `one_to_one` and `many_to_one` have the calls, `wait` those that try again. A claim is made of
-//!   `admission`, `room`, `claim` (one try), `headers`, `body` and `settle`. `service`: ids, heartbeats and positions.
+//! - `kind`: one claim and one write for both kinds, and how each moves the tail. They are made of `admission`, `room`,
+//!   `headers` and `body`.
+//! - `producer`: `one_to_one` and `many_to_one` have the calls, `wait` those that try again, `settle` what becomes of a
+//!   claim. `service`: ids, heartbeats and positions.
 //! - `consumer`: `read` has the calls, `turn` one turn of a read, made of `find`, `load` and `pass`. `heartbeat`.
-//! - `kind`: how the kinds claim, one as the other. `source`: what a conductor needs of a ring.
+//! - `source`: what a conductor needs of a ring.
 //! - `steps`: the steps as a trait, so that bodies may lie in words (`words`) or in slots (`slots`).
 //! - `claim`, `fault`: an open claim, and why calls refuse.
 #![tactic(auto)]

@@ -1,7 +1,6 @@
 //! What producers say of themselves, and how they are cut in two and put together.
 pub(crate) mod admission;
 pub(crate) mod body;
-pub(crate) mod claim;
 pub(crate) mod headers;
 pub(crate) mod many_to_one;
 pub(crate) mod one_to_one;

@@ -29,7 +29,7 @@ pub fn claimed<K: Kind, B: Steps>(
     len: usize,
 ) -> Claim
     requires producer { IsProducerOf ring.now producer.old }
-    requires sole { MayClaim K.is_for_one producer.old }
+    requires sole { MayClaim K.many producer.old }
     ensures producer { IsProducerOf ring.now producer.new }
     ensures opened { IsNewClaimOf ring.now producer.old producer.new result }
     ensures holdings { KeepsHoldings ring.now producer.old producer.new }

@@ -91,7 +91,7 @@ impl<K: Kind, B: Steps> Model for Form<K, B> {
 
     ghost view = { λ f. capacity_of f.ring };
 
-    ghost invariant = { λ f. Holds f.ring f.producer f.first f.second × MayClaim K.is_for_one f.producer
+    ghost invariant = { λ f. Holds f.ring f.producer f.first f.second × MayClaim K.many f.producer
         × IfSome f.other (λ o. Holds f.ring o.producer o.first o.second) × IsConsumerOf f.ring f.consumer };
 }
 

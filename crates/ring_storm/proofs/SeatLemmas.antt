@@ -1,5 +1,5 @@
 -- What a client's calls keep of its producer: claims whose places rise, its draws, and the producers joined into it.
-use Rattle.std.proofs.Common.{◌≡◌, ◌∙◌, ℕ, zero, suc, ◌≤◌, ℤ, List, [], ◌∷◌, ◌++◌, length, Result, Ok, Err, IfErr, OnOk, inl, inr, sym, ap, subst, arith}
+use Rattle.std.proofs.Common.{true, ◌≡◌, ◌∙◌, ℕ, zero, suc, ◌≤◌, ℤ, List, [], ◌∷◌, ◌++◌, length, Result, Ok, Err, IfErr, OnOk, inl, inr, sym, ap, subst, arith}
 use mathlib.Core.Option.{some-injective, some-ne-none}
 use lib.ListN.{get_elem?}
 use Rattle.ring_layout.specs.History.{span}
@@ -59,13 +59,13 @@ end_behind n [] c below le (suc k) d is = absurd (some-ne-none d (sym is))
 end_behind n (b ∷ cs) c below le zero d is = let here = below 0 d is in omega arith
 end_behind n (b ∷ cs) c below le (suc k) d is = end_behind n cs c (λ i. below (suc i)) le k d is
 
-written : (C : ℕ) (type_id : ℤ) (body : List ℕ) (v w : View) → Writes C type_id body v w → Leaves v w
+written : (C : ℕ) (type_id : ℤ) (body : List ℕ) (v w : View) → Writes true C type_id body v w → Leaves v w
 written C type_id body v w h =
     let c = record_behind C h.tail type_id body in
     let claims : w.producer.claims ≡ v.producer.claims ++ c ∷ [] = ap (λ (u : View). u.producer.claims) h.view in
     let tail : w.producer.seen_tail ≡ claim_end c = ap (λ (u : View). u.producer.seen_tail) h.view in
     let place = next_le C h.tail (span (length body)) in
-    let later = h.later in
+    let later = h.sees in
     record {
       risen = λ old. (
         subst AreRising (sym claims) (rising_more v.producer.seen_tail v.producer.claims c old.0 old.1 (omega arith)),
@@ -89,17 +89,17 @@ seen_later C type_id len v tail seen w h =
       | inr over ↦ let it = over.same in omega arith
     ]
 
-refused : (C : ℕ) (type_id : ℤ) (len : ℕ) (v : View) (f : TryFault) (w : View) → RefusesTry C type_id len v f w
+refused : (C : ℕ) (type_id : ℤ) (len : ℕ) (v : View) (f : TryFault) (w : View) → RefusesTry true C type_id len v f w
     → Leaves v w
 refused C type_id len v (Refused f) w (inl h) = same v w h.1
 refused C type_id len v (Refused f) w (inr (inl h)) =
     let seen = ap (λ (u : View). u.producer.seen_tail) h.view in
-    let later = h.later in
+    let later = h.sees in
     looks v w (ap (λ (u : View). u.producer.claims) h.view) (omega arith) (ap (λ (u : View). u.producer.service) h.view)
     (ap (λ (u : View). u.producer.joined) h.view)
 refused C type_id len v (Refused f) w (inr (inr h)) =
     let seen = ap (λ (u : View). u.producer.seen_tail) h.view in
-    let later = h.later in
+    let later = h.sees in
     looks v w (ap (λ (u : View). u.producer.claims) h.view) (omega arith) (ap (λ (u : View). u.producer.service) h.view)
     (ap (λ (u : View). u.producer.joined) h.view)
 refused C type_id len v (Contended tail seen) w h =
@@ -108,7 +108,7 @@ refused C type_id len v (Contended tail seen) w h =
 
 -- after one try to send, whatever came of it
 pub leaves : {T : Type 0} (C id : ℕ) (r : Request) (v w : View) (result : Result T SendFault)
-    → OnOk result (IsSendable r × SendsAs Writes C id r v w) → IfErr result (λ f. RefusesAs RefusesTry C id r v f w)
+    → OnOk result (IsSendable r × SendsAs (Writes true) C id r v w) → IfErr result (λ f. RefusesAs (RefusesTry true) C id r v f w)
     → Leaves v w
 leaves C id r v w (Ok done) sent not_sent =
     written C (type_id_of (asked r id)) (spelling_of (asked r id)) v w sent.1

@@ -35,7 +35,7 @@ nothing (x ∷ xs) few = let clash : ⊥ = omega (arith, few) in absurd clash
 
 -- Sending ------------------------------------------------------------------------
 
-written : (C : ℕ) (c : Instruction) (v w : View) → Writes C (type_id_of c) (spelling_of c) v w
+written : (C : ℕ) (c : Instruction) (v w : View) → Writes true C (type_id_of c) (spelling_of c) v w
     → Adds c v.producer.claims w.producer.claims
 written C c v w h = record {
   claim = record_behind C h.tail (type_id_of c) (spelling_of c);
@@ -45,7 +45,7 @@ written C c v w h = record {
 }
 
 refused : (C : ℕ) (c : Instruction) (v : View) (f : TryFault) (w : View)
-    → RefusesTry C (type_id_of c) (length (spelling_of c)) v f w → w.producer.claims ≡ v.producer.claims
+    → RefusesTry true C (type_id_of c) (length (spelling_of c)) v f w → w.producer.claims ≡ v.producer.claims
 refused C c v (Refused f) w (inl h) = ap (λ (u : View). u.producer.claims) h.1
 refused C c v (Refused f) w (inr (inl h)) = ap (λ (u : View). u.producer.claims) h.view
 refused C c v (Refused f) w (inr (inr h)) = ap (λ (u : View). u.producer.claims) h.view
@@ -53,26 +53,26 @@ refused C c v (Contended tail seen) w h = ap (λ (u : View). u.producer.claims) 
 
 module _ {T : Type 0} (C id : ℕ) (r : Request) (v w : View) where
   -- a try adds the command if it succeeds
-  adds : (result : Result T SendFault) → OnOk result (IsSendable r × SendsAs Writes C id r v w)
+  adds : (result : Result T SendFault) → OnOk result (IsSendable r × SendsAs (Writes true) C id r v w)
       → OnTrue (is_ok result) (Adds (asked r id) v.producer.claims w.producer.claims)
   adds (Ok done) h = written C (asked r id) v w h.1
   adds (Err f) h = tt
 
   -- and otherwise nothing
-  keeps : (result : Result T SendFault) → IfErr result (λ f. RefusesAs RefusesTry C id r v f w)
+  keeps : (result : Result T SendFault) → IfErr result (λ f. RefusesAs (RefusesTry true) C id r v f w)
       → OnFalse (is_ok result) (w.producer.claims ≡ v.producer.claims)
   keeps (Ok done) h = tt
   keeps (Err fault.TooLong) h = ap (λ (u : View). u.producer.claims) h.1
   keeps (Err (fault.Refused correlation reason)) h = refused C (asked r id) v reason w h.2
 
   pub adds_where : (result : Result T SendFault) (b : Bool) → b ≡ is_ok result
-      → OnOk result (IsSendable r × SendsAs Writes C id r v w)
+      → OnOk result (IsSendable r × SendsAs (Writes true) C id r v w)
       → OnTrue b (Adds (asked r id) v.producer.claims w.producer.claims)
   adds_where result b is h =
       subst (λ x. OnTrue x (Adds (asked r id) v.producer.claims w.producer.claims)) (sym is) (adds result h)
 
   pub keeps_where : (result : Result T SendFault) (b : Bool) → b ≡ is_ok result
-      → IfErr result (λ f. RefusesAs RefusesTry C id r v f w) → OnFalse b (w.producer.claims ≡ v.producer.claims)
+      → IfErr result (λ f. RefusesAs (RefusesTry true) C id r v f w) → OnFalse b (w.producer.claims ≡ v.producer.claims)
   keeps_where result b is h = subst (λ x. OnFalse x (w.producer.claims ≡ v.producer.claims)) (sym is) (keeps result h)
 
 -- Hearing ------------------------------------------------------------------------

@@ -2,6 +2,7 @@
 
 ghost use Rattle.std.specs.Prelude.{◌≡◌, IfErr, IfOk, OnOk};
 ghost use Rattle.ring_table.specs.ServiceSteps.{DrawsId, LoadsHeartbeat};
+ghost use Rattle.ring_rings.specs.Claiming.{RefusesTry, Writes};
 ghost use Rattle.ring_rings.specs.Seats.{capacity_of, IsProducerOf, MayClaim, OpensNone};
 ghost use Rattle.ring_board.specs.Seats.{IsReceiverOf};
 ghost use Rattle.ring_conductor.specs.Asking.{IsHeard, IsSendable, RefusesAs, RefusesSend, Sends, SendsAs};
@@ -74,12 +75,12 @@ impl Client {
         request: Request<'_>,
     ) -> Result<(), SendFault>
         requires producer { IsProducerOf ring.now (producer_of self.old) }
-        requires sole { MayClaim K.is_for_one (producer_of self.old) }
+        requires sole { MayClaim K.many (producer_of self.old) }
         ensures producer { IsProducerOf ring.now (producer_of self.new) }
-        ensures sent { OnOk result (IsSendable request.entry × SendsAs K.writes (capacity_of ring.now) correlation
-            request.entry (client_view self.old) (client_view self.new)) }
-        ensures refused { IfErr result (λ fault. RefusesAs K.refuses (capacity_of ring.now) correlation request.entry
-            (client_view self.old) fault (client_view self.new)) }
+        ensures sent { OnOk result (IsSendable request.entry × SendsAs (Writes K.many) (capacity_of ring.now)
+            correlation request.entry (client_view self.old) (client_view self.new)) }
+        ensures refused { IfErr result (λ fault. RefusesAs (RefusesTry K.many) (capacity_of ring.now) correlation
+            request.entry (client_view self.old) fault (client_view self.new)) }
         ensures holdings { OpensNone ring.now (producer_of self.old) (producer_of self.new) }
         ensures receiver { receiver_of self.new ≡ receiver_of self.old }
     {
@@ -113,11 +114,11 @@ impl Client {
         request: Request<'_>,
     ) -> Result<u64, SendFault>
         requires producer { IsProducerOf ring.now (producer_of self.old) }
-        requires sole { MayClaim K.is_for_one (producer_of self.old) }
+        requires sole { MayClaim K.many (producer_of self.old) }
         ensures producer { IsProducerOf ring.now (producer_of self.new) }
-        ensures sent { IfOk result (λ correlation. IsSendable request.entry × Sends K.writes (capacity_of ring.now)
-            request.entry (client_view self.old) correlation (client_view self.new)) }
-        ensures refused { IfErr result (λ fault. RefusesSend K.refuses (capacity_of ring.now) request.entry
+        ensures sent { IfOk result (λ correlation. IsSendable request.entry × Sends (Writes K.many)
+            (capacity_of ring.now) request.entry (client_view self.old) correlation (client_view self.new)) }
+        ensures refused { IfErr result (λ fault. RefusesSend (RefusesTry K.many) (capacity_of ring.now) request.entry
             (client_view self.old) fault (client_view self.new)) }
         ensures holdings { OpensNone ring.now (producer_of self.old) (producer_of self.new) }
         ensures receiver { receiver_of self.new ≡ receiver_of self.old }

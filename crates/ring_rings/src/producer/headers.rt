@@ -43,10 +43,6 @@ pub(crate) fn store_headers<B: Steps>(
     ensures opened { (cs : List StagedClaim) (c : StagedClaim)
         → IsNewest admission.tail admission.place wanted.len cs c seat.old.me.0
         → seat.new.me.0 ≡ with_claims (cs ++ with_header wanted.type_id wanted.len c ∷ []) seat.old.me.0 }
-
-    // The places rise, so that there are not too many claims.
-    ensures few { (cs : List StagedClaim) (c : StagedClaim)
-        → IsNewest admission.tail admission.place wanted.len cs c seat.old.me.0 → length cs ≤ admission.place }
 {
     let Admission { tail, place, .. } = admission;
     store_padding(words, seat, capacity, tail, place);

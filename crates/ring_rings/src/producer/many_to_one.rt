@@ -1,5 +1,5 @@
 //! The calls of a ring with any number of producers.
-ghost use Rattle.std.specs.Prelude.{◌≡◌, ◌↔◌, length, IfErr, IfOk, IsTrue, OnErr, OnOk, is_err};
+ghost use Rattle.std.specs.Prelude.{◌≡◌, ◌↔◌, length, true, IfErr, IfOk, IsTrue, OnErr, OnOk, is_err};
 ghost use Rattle.ring_table.specs.Staged.{AreRising};
 ghost use Rattle.ring_table.specs.Views.{producer_alone, without_share};
 ghost use Rattle.ring_rings.specs.Claiming.{Claims, RefusesTry, Writes};
@@ -9,12 +9,10 @@ ghost use Rattle.ring_rings.specs.Seats.{IsNewClaimOf, IsProducerOf, KeepsBoth, 
 
 use crate::claim::Claim;
 use crate::fault::TryFault;
-use crate::producer::claim::{try_claim, try_move};
-use crate::producer::headers::store_whole;
+use crate::kind::Kind;
 use crate::ring::{ManyToOne, Producer, Ring};
 use crate::steps::Steps;
 use ring_layout::{NoShares, has_spare_share};
-use ring_table::Wanted;
 
 impl<B: Steps> Ring<ManyToOne, B> {
     /// Makes one try to claim room for a message of `len` bytes, which are 0 until they are `put`. Several claims may
@@ -34,17 +32,13 @@ impl<B: Steps> Ring<ManyToOne, B> {
         requires producer { IsProducerOf self.now producer.old }
         ensures producer { IsProducerOf self.now producer.new }
         ensures claimed { IfOk result (λ t.
-            Claims (capacity_of self.now) type_id len (view_of producer.old) t (view_of producer.new)) }
+            Claims true (capacity_of self.now) type_id len (view_of producer.old) t (view_of producer.new)) }
         ensures refused { IfErr result (λ fault.
-            RefusesTry (capacity_of self.now) type_id len (view_of producer.old) fault (view_of producer.new)) }
+            RefusesTry true (capacity_of self.now) type_id len (view_of producer.old) fault (view_of producer.new)) }
         ensures opened { IfOk result (IsNewClaimOf self.now producer.old producer.new) }
         ensures claims { KeepsClaims self.now producer.old producer.new }
     {
-        let wanted = Wanted { type_id, len };
-        let admission = try_claim(&self.table, &mut producer.seat, self.capacity, wanted)?;
-        producer.own_tail = admission.end;
-        producer.open_claims += 1;
-        Ok(Claim::new(self.capacity, admission.place, wanted))
+        ManyToOne::claim_once(self, producer, type_id, len)
     }
 
     /// Makes one try to write a message: it is claimed, stored and committed. The refusals are those of `claim_once`.
@@ -58,21 +52,13 @@ impl<B: Steps> Ring<ManyToOne, B> {
         requires producer { IsProducerOf self.now producer.old }
         ensures producer { IsProducerOf self.now producer.new }
         ensures written { OnOk result
-            (Writes (capacity_of self.now) type_id body.now (view_of producer.old) (view_of producer.new)) }
+            (Writes true (capacity_of self.now) type_id body.now (view_of producer.old) (view_of producer.new)) }
         ensures refused { IfErr result (λ fault.
-            RefusesTry (capacity_of self.now) type_id (length body.now)
+            RefusesTry true (capacity_of self.now) type_id (length body.now)
             (view_of producer.old) fault (view_of producer.new)) }
         ensures claims { KeepsClaims self.now producer.old producer.new }
     {
-        let wanted = Wanted {
-            type_id,
-            len: body.len(),
-        };
-        let (words, seat) = (&self.table, &mut producer.seat);
-        let admission = try_move(words, seat, self.capacity, wanted)?;
-        store_whole(words, seat, self.capacity, admission, wanted, body);
-        producer.own_tail = admission.end;
-        Ok(())
+        ManyToOne::write_once(self, producer, type_id, body)
     }
 
     /// Makes another producer with one share of this one's, without claims, draws or heartbeats read. Returns

@@ -1,16 +1,15 @@
 //! The calls of a ring with one producer.
-ghost use Rattle.std.specs.Prelude.{◌≡◌, length, IfErr, IfOk, OnOk};
+ghost use Rattle.std.specs.Prelude.{◌≡◌, false, length, IfErr, IfOk, OnOk};
 ghost use Rattle.ring_layout.specs.Refusals.{all_shares};
-ghost use Rattle.ring_rings.specs.Claiming.{ClaimsAlone, RefusesAlone, WritesAlone};
+ghost use Rattle.ring_rings.specs.Claiming.{Claims, Refuses, Writes};
 ghost use Rattle.ring_rings.specs.Seats.{capacity_of, shares_of, view_of};
 ghost use Rattle.ring_rings.specs.Seats.{IsNewClaimOf, IsProducerOf, KeepsClaims};
 
 use crate::claim::Claim;
-use crate::producer::claim::{claim_alone, move_alone};
-use crate::producer::headers::store_whole;
+use crate::fault::TryFault;
+use crate::kind::Kind;
 use crate::ring::{OneToOne, Producer, Ring};
 use crate::steps::Steps;
-use ring_table::Wanted;
 use ring_words::ClaimFault;
 
 impl<B: Steps> Ring<OneToOne, B> {
@@ -29,18 +28,17 @@ impl<B: Steps> Ring<OneToOne, B> {
         requires sole { shares_of producer.old ≡ all_shares }
         ensures producer { IsProducerOf self.now producer.new }
         ensures claimed { IfOk result (λ t.
-            ClaimsAlone (capacity_of self.now) type_id len (view_of producer.old) t (view_of producer.new)) }
+            Claims false (capacity_of self.now) type_id len (view_of producer.old) t (view_of producer.new)) }
         ensures refused { IfErr result (λ fault.
-            RefusesAlone (capacity_of self.now) type_id len (view_of producer.old) fault (view_of producer.new)) }
+            Refuses false (capacity_of self.now) type_id len (view_of producer.old) fault (view_of producer.new)) }
         ensures opened { IfOk result (IsNewClaimOf self.now producer.old producer.new) }
         ensures claims { KeepsClaims self.now producer.old producer.new }
     {
-        let wanted = Wanted { type_id, len };
-        let tail = producer.own_tail;
-        let admission = claim_alone(&self.table, &mut producer.seat, self.capacity, tail, wanted)?;
-        producer.own_tail = admission.end;
-        producer.open_claims += 1;
-        Ok(Claim::new(self.capacity, admission.place, wanted))
+        match OneToOne::claim_once(self, producer, type_id, len) {
+            Ok(claim) => Ok(claim),
+            Err(TryFault::Refused(fault)) => Err(fault),
+            Err(TryFault::Contended { .. }) => unreachable!(),
+        }
     }
 
     /// Writes a message: it is claimed, stored and committed. The refusals are those of `claim`.
@@ -55,21 +53,16 @@ impl<B: Steps> Ring<OneToOne, B> {
         requires sole { shares_of producer.old ≡ all_shares }
         ensures producer { IsProducerOf self.now producer.new }
         ensures written { OnOk result
-            (WritesAlone (capacity_of self.now) type_id body.now (view_of producer.old) (view_of producer.new)) }
+            (Writes false (capacity_of self.now) type_id body.now (view_of producer.old) (view_of producer.new)) }
         ensures refused { IfErr result (λ fault.
-            RefusesAlone (capacity_of self.now) type_id (length body.now)
+            Refuses false (capacity_of self.now) type_id (length body.now)
             (view_of producer.old) fault (view_of producer.new)) }
         ensures claims { KeepsClaims self.now producer.old producer.new }
     {
-        let wanted = Wanted {
-            type_id,
-            len: body.len(),
-        };
-        let (words, tail) = (&self.table, producer.own_tail);
-        let seat = &mut producer.seat;
-        let admission = move_alone(words, seat, self.capacity, tail, wanted)?;
-        store_whole(words, seat, self.capacity, admission, wanted, body);
-        producer.own_tail = admission.end;
-        Ok(())
+        match OneToOne::write_once(self, producer, type_id, body) {
+            Ok(()) => Ok(()),
+            Err(TryFault::Refused(fault)) => Err(fault),
+            Err(TryFault::Contended { .. }) => unreachable!(),
+        }
     }
 }

@@ -1,5 +1,5 @@
 //! Claims and writes that try again while another producer is faster.
-ghost use Rattle.std.specs.Prelude.{◌≡◌, length, IfErr, IfOk, OnOk};
+ghost use Rattle.std.specs.Prelude.{◌≡◌, length, true, IfErr, IfOk, OnOk};
 ghost use Rattle.ring_rings.specs.Claiming.{AfterTries, Claims, Refuses, Writes};
 ghost use Rattle.ring_rings.specs.Seats.{capacity_of, view_of, IsNewClaimOf, IsProducerOf, KeepsClaims};
 
@@ -23,9 +23,9 @@ impl<B: Steps> Ring<ManyToOne, B> {
         requires producer { IsProducerOf self.now producer.old }
         ensures producer { IsProducerOf self.now producer.new }
         ensures claimed { IfOk result (λ t. AfterTries (capacity_of self.now) type_id len (view_of producer.old)
-            (λ v. Claims (capacity_of self.now) type_id len v t (view_of producer.new))) }
+            (λ v. Claims true (capacity_of self.now) type_id len v t (view_of producer.new))) }
         ensures refused { IfErr result (λ fault. AfterTries (capacity_of self.now) type_id len (view_of producer.old)
-            (λ v. Refuses (capacity_of self.now) type_id len v fault (view_of producer.new))) }
+            (λ v. Refuses true (capacity_of self.now) type_id len v fault (view_of producer.new))) }
         ensures opened { IfOk result (IsNewClaimOf self.now producer.old producer.new) }
         ensures claims { KeepsClaims self.now producer.old producer.new }
     {
@@ -52,10 +52,10 @@ impl<B: Steps> Ring<ManyToOne, B> {
         ensures producer { IsProducerOf self.now producer.new }
         ensures written { OnOk result
             (AfterTries (capacity_of self.now) type_id (length body.now) (view_of producer.old)
-            (λ v. Writes (capacity_of self.now) type_id body.now v (view_of producer.new))) }
+            (λ v. Writes true (capacity_of self.now) type_id body.now v (view_of producer.new))) }
         ensures refused { IfErr result (λ fault.
             AfterTries (capacity_of self.now) type_id (length body.now) (view_of producer.old)
-            (λ v. Refuses (capacity_of self.now) type_id (length body.now) v fault (view_of producer.new))) }
+            (λ v. Refuses true (capacity_of self.now) type_id (length body.now) v fault (view_of producer.new))) }
         ensures claims { KeepsClaims self.now producer.old producer.new }
     {
         let backoff = Backoff::new();

@@ -1,4 +1,5 @@
 use Rattle.std.proofs.Common.{◌∙◌, refl, ap, length}
+use Rattle.ring_rings.specs.Claiming.{RefusesTry, Writes}
 use Rattle.ring_conductor.proofs.AskingLemmas.{too_long, encoded, spelled, of_type, written_as, refused_as}
 use Rattle.ring_conductor.proofs.client.Client.send_as.Goals as goal
 
@@ -14,7 +15,7 @@ pub returns-in-Ok-clause-sent : goal.returns-in-Ok-clause-sent
 returns-in-Ok-clause-sent g c =
     let is = c.with_correlation-command.ensures in let r = c.args.request in let a = c.args.correlation in (
       encoded r a _ _ _ _ is (ap length c.as_mut_slice.ensures.value ∙ c.args.self.now.wide) c.in-Some.ensures,
-      written_as g.K.Kind.writes _ _ _ _ _ _ _ (of_type _ _ _ is c.type_id.ensures)
+      written_as (Writes g.K.Kind.many) _ _ _ _ _ _ _ (of_type _ _ _ is c.type_id.ensures)
           (spelled _ _ _ _ _ is c.in-Some.ensures) c.in-Ok.ensures.written,
     )
 
@@ -23,6 +24,6 @@ returns-in-Err-clause-refused g c =
     let is = c.with_correlation-command.ensures in let r = c.args.request in let a = c.args.correlation in (
       encoded r a _ _ _ _ is (ap length c.as_mut_slice.ensures.value ∙ c.args.self.now.wide) c.in-Some.ensures,
       refl,
-      refused_as g.K.Kind.refuses _ _ _ _ _ _ _ _ (of_type _ _ _ is c.type_id.ensures)
+      refused_as (RefusesTry g.K.Kind.many) _ _ _ _ _ _ _ _ (of_type _ _ _ is c.type_id.ensures)
           (ap length (spelled _ _ _ _ _ is c.in-Some.ensures)) c.in-Err.ensures.refused,
     )

@@ -1,4 +1,4 @@
-use Rattle.std.proofs.Common.{false, rules, sym, subst, true, ◌≡◌, List}
+use Rattle.std.proofs.Common.{rules, sym, subst, ◌≡◌, List}
 use Rattle.std.specs.Int.{w32}
 use Rattle.std.proofs.lemmas.Int.{to_z-of_z}
 use Rattle.ring_words.specs.Open.{ClaimAt}
@@ -24,7 +24,7 @@ returns-in-Many c =
     let own = c.self.inside in
     let claims = claims_in own.claims in
     let wrote = rw (to_z-of_z w32 c.args.type_id c.ranges.type_id, c.deref.ensures) at
-    c.write_in.ensures.wrote true own.identity claims in
+    c.write_in.ensures.wrote own.identity claims in
     let told = of_the_handle (λ p q. Wrote c.args.type_id c.args.body.now p q c.write_in.result) own.ring
     (Many c.in-Many.ring) own.identity own.producer c.write_in.new.producer claims c.args.self.now c.in-Many.is
     c.self.view_is wrote in
@@ -35,7 +35,7 @@ returns-in-One c =
     let own = c.self.inside in
     let claims = claims_in own.claims in
     let wrote = rw (to_z-of_z w32 c.args.type_id c.ranges.type_id, c.deref-in-One.ensures) at
-    c.write_in-in-One.ensures.wrote false own.identity claims in
+    c.write_in-in-One.ensures.wrote own.identity claims in
     let told = of_the_handle (λ p q. Wrote c.args.type_id c.args.body.now p q c.write_in-in-One.result) own.ring
     (One c.in-One.ring) own.identity own.producer c.write_in-in-One.new.producer claims c.args.self.now c.in-One.is
     c.self.view_is wrote in

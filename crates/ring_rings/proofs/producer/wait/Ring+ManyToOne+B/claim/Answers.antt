@@ -1,4 +1,4 @@
-use Rattle.std.proofs.Common.{of_z, subst, to_z, w32}
+use Rattle.std.proofs.Common.{of_z, subst, to_z, true, w32}
 use Rattle.ring_rings.specs.Claiming.{RefusesTry}
 use Rattle.ring_rings.specs.Seats.{capacity_of, view_of}
 use Rattle.ring_rings.proofs.WaitLemmas.{tried_more, tried_none}
@@ -10,7 +10,7 @@ loop-init g c = tried_none _ _ _ _ c.requires.producer
 pub loop-preserved : goal.loop-preserved
 loop-preserved g c =
     let t = c.in-Err-Contended in
-    let told = subst (λ f. RefusesTry (capacity_of c.args.self.now) (to_z w32 (of_z w32 c.args.type_id)) c.args.len
+    let told = subst (λ f. RefusesTry true (capacity_of c.args.self.now) (to_z w32 (of_z w32 c.args.type_id)) c.args.len
     (view_of c.loop.producer) f (view_of c.claim_once.new.producer)) t.field-0-is t.ensures.refused in
     tried_more c.args.self.now (to_z w32 (of_z w32 c.args.type_id)) c.args.len c.args.producer.now c.loop.producer
     c.claim_once.new.producer t.field-0-0 t.field-0-1 c.loop.invariant t.ensures.producer told t.ensures.claims

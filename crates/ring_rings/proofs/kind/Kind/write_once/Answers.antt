@@ -4,16 +4,16 @@ use Rattle.ring_layout.specs.Places.{next_place}
 use Rattle.ring_layout.proofs.CapacityLemmas.{capacity_blocks}
 use Rattle.ring_layout.proofs.PlaceLemmas.{next_within, span_bounds}
 use Rattle.std.proofs.lemmas.List.{length-replicate}
-use Rattle.ring_rings.proofs.MadeLemmas.{keeps_claims, moved_made, moved_newest, moved_recorded, written_claims, written_seat, written_view}
-use Rattle.ring_rings.proofs.producer.one_to_one.Ring+OneToOne+B.write.Goals as goal
+use Rattle.ring_rings.proofs.MadeLemmas.{keeps_claims, moved_made, moved_newest, moved_recorded, written_claims, written_leaves, written_seat, written_view}
+use Rattle.ring_rings.proofs.kind.Kind.write_once.Goals as goal
 
 pub store_whole-requires-clause-inside : goal.store_whole-requires-clause-inside
 store_whole-requires-clause-inside g c =
-    let C : ℕ = c.args.self.now.capacity in
+    let C : ℕ = c.args.ring.now.capacity in
     let len : ℕ = length c.args.body.now in
-    let admitted = c.in_ok-admission.ensures.told.admitted in
-    let tail : ℕ = c.args.producer.now.own_tail in
-    let lawful = c.args.self.now.lawful in
+    let admitted = c.in_ok-admission.ensures.told.0.admitted in
+    let tail : ℕ = c.in_ok-admission.admission.tail in
+    let lawful = c.args.ring.now.lawful in
     let bounds = span_bounds len in
     let short = admitted.message.short in
     let zeros = length-replicate {A = ℕ} len 0 in
@@ -25,7 +25,7 @@ store_whole-requires-clause-inside g c =
 
 pub invariant_of-producer-2 : goal.invariant_of-producer-2
 invariant_of-producer-2 g c =
-    let moved = c.in_ok-admission.ensures.told in
+    let moved = c.in_ok-admission.ensures.told.0 in
     let known = c.args.producer.now.known in
     let seat = written_seat (moved_made moved known.rising) c.args.body.now refl
     c.store_whole.new.seat.me.0 (moved_recorded moved c.args.body.now refl
@@ -40,15 +40,23 @@ invariant_of-producer-2 g c =
 
 pub returns-clause-written : goal.returns-clause-written
 returns-clause-written g c =
-    let moved = c.in_ok-admission.ensures.told in
+    let moved = c.in_ok-admission.ensures.told.0 in
     let view = written_view (moved_made moved c.args.producer.now.known.rising) c.args.body.now refl
     c.store_whole.new.seat.me.0 (moved_recorded moved c.args.body.now refl
     c.store_whole.new.seat.me.0 (c.store_whole.ensures.stored _ _ (moved_newest moved))) in
     search rules
 
-pub returns-clause-claims : goal.returns-clause-claims
-returns-clause-claims g c =
-    let moved = c.in_ok-admission.ensures.told in
-    keeps_claims _ (written_claims (moved_made moved c.args.producer.now.known.rising) c.args.body.now refl
-    c.store_whole.new.seat.me.0 (moved_recorded moved c.args.body.now refl
-    c.store_whole.new.seat.me.0 (c.store_whole.ensures.stored _ _ (moved_newest moved))))
+pub returns-clause-holdings : goal.returns-clause-holdings
+returns-clause-holdings g c =
+    let moved = c.in_ok-admission.ensures.told.0 in
+    let made = moved_made moved c.args.producer.now.known.rising in
+    let stored = moved_recorded moved c.args.body.now refl
+    c.store_whole.new.seat.me.0 (c.store_whole.ensures.stored _ _ (moved_newest moved)) in
+    let left = written_leaves made c.args.body.now refl c.store_whole.new.seat.me.0 stored in
+    record {
+      holdings = record {
+        claims = keeps_claims _ (written_claims made c.args.body.now refl c.store_whole.new.seat.me.0 stored);
+        shares = left.shares;
+      };
+      open_claims = left.open_claims;
+    }
