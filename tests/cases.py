@@ -111,7 +111,7 @@ def in_file(path, lines):
             words = tuple(line.split())
         elif not line.startswith("#"):
             if not count:
-                raise ValueError("%s:%d: no scenario is below the line before this one: %s" % (path, number, what))
+                raise ValueError("%s: no scenario is below this line: %s" % (path, what))
             what, words, count = line, (), 0
 
 
@@ -140,9 +140,21 @@ def long_cases():
                taken("listener") + last)
 
 
-def stored():
-    """The cases of tests/scenarios, and those that are too long for a file."""
+def in_folder():
+    """The cases of tests/scenarios."""
     for path in sorted(glob.glob(os.path.join(glob.escape(TOP), FOLDER, "*.txt"))):
         with open(path, encoding="utf-8") as file:
             yield from in_file(os.path.relpath(path, TOP), file.read().split("\n"))
-    yield from long_cases()
+
+
+def samples():
+    """The first case below each line of tests/scenarios that says what cases show."""
+    found = {}
+    for case in in_folder():
+        found.setdefault(re.sub(r":\d+: ", ": ", case.name), case)
+    return list(found.values())
+
+
+def stored():
+    """The cases of tests/scenarios, and those that are too long for a file."""
+    return [*in_folder(), *long_cases()]
