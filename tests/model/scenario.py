@@ -8,6 +8,7 @@ from .conductor import Conductor
 from .ring import ABORTED, COMMITTED, LAST_POSITION, OPEN, Refused, Ring, is_capacity
 
 MAX_INPUT, MAX_COMMAND = 1 << 20, 4096
+MOST_SHARES_OUT = 65535
 DEFAULTS = {"ring": 128, "board": 256, "commands": 1024, "replies": 1024, "counters": 4, "reuse_ms": 50}
 KINDS = {"TYPE": (-2**31, 2**31 - 1), "LIMIT": (0, 2**32 - 1), "LEN": (0, 2**64 - 1), "OFFSET": (0, 2**64 - 1),
          "N": (0, 2**64 - 1), "K": (0, 2**64 - 1), "ID": (0, 2**32 - 1), "VALUE": (-2**63, 2**63 - 1),
@@ -43,7 +44,8 @@ def value_of(word, kind):
             raise BadLine
         return "" if word == b"-" else word.decode()
     least, most = KINDS[kind]
-    if not re.fullmatch(rb"-?[0-9]+", word) or not least <= int(word) <= most:
+    digits = rb"-?[0-9]+" if least < 0 else rb"[0-9]+"
+    if not re.fullmatch(digits, word) or not least <= int(word) <= most:
         raise BadLine
     return int(word)
 
@@ -58,6 +60,11 @@ class Held:
         self.given += 1
         self.of[self.given] = thing
         return self.given
+
+    def add_share(self, thing):
+        if len(self.of) == MOST_SHARES_OUT:
+            raise Refused("12 NoShares")
+        return self.add(thing)
 
     def get(self, number):
         if number not in self.of:
@@ -143,7 +150,7 @@ class Run:
         return "ok\n"
 
     def do_subscribe(self):
-        return f"receiver {self.receivers.add(Receiver(self.board))}\n"
+        return f"receiver {self.receivers.add_share(Receiver(self.board))}\n"
 
     @staticmethod
     def received(receiver):
@@ -196,7 +203,7 @@ class Run:
         return f"work {taken} stopped {stop}\n"
 
     def do_listen(self):
-        return f"listener {self.listeners.add(Receiver(self.conductor.board))}\n"
+        return f"listener {self.listeners.add_share(Receiver(self.conductor.board))}\n"
 
     def do_hear(self, number):
         return self.received(self.listeners.get(number))
@@ -211,7 +218,7 @@ class Run:
         return f"owner {self.conductor.counters.used(number).owner}\n"
 
     def do_watch(self):
-        return f"watcher {self.watchers.add(None)}\n"
+        return f"watcher {self.watchers.add_share(None)}\n"
 
     def do_peek(self, number, counter):
         self.watchers.get(number)

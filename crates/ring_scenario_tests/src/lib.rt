@@ -1,4 +1,4 @@
-//! Tests of scenarios: what their lines print, and how they end.
+//! Tests of what no scenario shows: readers and writers that fail.
 #![tactic(auto)]
 
 #[cfg(test)]

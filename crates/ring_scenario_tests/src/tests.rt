@@ -1,74 +1,66 @@
-mod bad_lines;
-mod claims;
-mod examples;
+//! Readers and writers that fail.
 mod fakes;
-mod input_output;
-mod options;
-mod receivers;
-mod scripts;
-mod service;
-mod service_lines;
-mod storms;
 
-use ring_scenario::{Options, RunFault, run_scenario};
-use std::io::Read;
+use fakes::{FailingReader, FailingWriter};
+use ring_scenario::{MAX_READS, Options, RunFault, run_scenario};
+use std::io::{ErrorKind, Read, Write};
 use std::sync::Wait;
 use std::thread::Threads;
 
-/// Runs the script that a reader gives, with these options, and gives how it ended and what it printed.
-fn run_from<R: AllocGlobal + Threads + Wait, I: Read>(
+static SCRIPT: &[u8] = b"write 7 0102030405\nwrite 1 -\nread 1\nwrite 0 -\nread 9\nend\n";
+
+static OUTPUT: &[u8] =
+    b"ok\nok\nmessage 7 0102030405\nread 1 bytes 16 stopped limit\nrefused 4 BadType 0\nmessage 1 -\nread 1 bytes 8 stopped unpublished\nend messages 2 left 0\n";
+
+/// Runs what a reader gives, with default options.
+fn run<R: AllocGlobal + Threads + Wait, I: Read, O: Write>(
     rt: &R,
-    options: &Options,
     reader: &mut I,
-) -> (Result<(), RunFault>, Vec<u8>) {
-    let mut output = Vec::new(rt.alloc());
-    let outcome = run_scenario(rt, rt.alloc(), options, reader, &mut output);
-    (outcome, output)
+    writer: &mut O,
+) -> Result<(), RunFault> {
+    run_scenario(rt, rt.alloc(), &Options::default(), reader, writer)
 }
 
-/// The same of a script.
-fn run_with<R: AllocGlobal + Threads + Wait>(
-    rt: &R,
-    options: &Options,
-    script: &[u8],
-) -> (Result<(), RunFault>, Vec<u8>) {
-    let mut reader = script;
-    run_from(rt, options, &mut reader)
-}
-
-/// The same with default options.
-fn run<R: AllocGlobal + Threads + Wait>(rt: &R, script: &[u8]) -> (Result<(), RunFault>, Vec<u8>) {
-    run_with(rt, &Options::default(), script)
-}
-
-/// Tests whether a script ends at this line, which is a bad one, after it printed what is wanted.
-fn is_bad_at<R: AllocGlobal + Threads + Wait>(
-    rt: &R,
-    script: &[u8],
-    line: u32,
-    wanted: &[u8],
-) -> bool {
-    let (outcome, output) = run(rt, script);
-    outcome == Err(RunFault::BadLine { line }) && output.as_slice() == wanted
-}
-
-/// A script, and what it prints.
-#[derive(Clone, Copy)]
-struct Row {
-    what: &'static str,
-    script: &'static str,
-    wanted: &'static str,
-}
-
-impl Row {
-    /// Tests whether the script ends and prints what is wanted, with these options.
-    fn holds_with<R: AllocGlobal + Threads + Wait>(&self, rt: &R, options: &Options) -> bool {
-        let (outcome, output) = run_with(rt, options, self.script.as_bytes());
-        outcome == Ok(()) && output.as_slice() == self.wanted.as_bytes()
+#[test]
+fn tells_where_the_input_cannot_be_read(rt: HostRuntime) {
+    let reads = SCRIPT.len().div_ceil(7) as u32 + 1;
+    for fails_at in 1..reads + 2 {
+        let mut reader = FailingReader::new(SCRIPT, fails_at, ErrorKind::BrokenPipe);
+        let mut output = Vec::new(rt.alloc());
+        let outcome = run(&rt, &mut reader, &mut output);
+        if fails_at <= reads {
+            assert_eq!(rt; outcome, Err(RunFault::InputUnread));
+            assert!(rt; output.is_empty());
+        } else {
+            assert_eq!(rt; outcome, Ok(()));
+            assert_eq!(rt; output.as_slice(), OUTPUT);
+        }
     }
+}
 
-    /// The same with default options.
-    fn holds<R: AllocGlobal + Threads + Wait>(&self, rt: &R) -> bool {
-        self.holds_with(rt, &Options::default())
+#[test]
+fn gives_up_on_a_reader_that_is_always_interrupted(rt: HostRuntime) {
+    let mut reader = FailingReader::new(SCRIPT, 3, ErrorKind::Interrupted);
+    let mut output = Vec::new(rt.alloc());
+    let outcome = run(&rt, &mut reader, &mut output);
+    assert_eq!(rt; outcome, Err(RunFault::InputUnread));
+    assert_eq!(rt; reader.calls, MAX_READS);
+    assert!(rt; output.is_empty());
+}
+
+#[test]
+fn tells_where_the_output_cannot_be_written(rt: HostRuntime) {
+    for fails_at in 1..100 {
+        let mut reader = SCRIPT;
+        let mut writer = FailingWriter::new(rt.alloc(), fails_at);
+        let outcome = run(&rt, &mut reader, &mut writer);
+        if outcome == Ok(()) {
+            assert_eq!(rt; writer.written.as_slice(), OUTPUT);
+            assert!(rt; fails_at > 20);
+        } else {
+            assert_eq!(rt; outcome, Err(RunFault::OutputUnwritten));
+            assert!(rt; OUTPUT.starts_with(writer.written.as_slice()));
+            assert!(rt; fails_at < 60);
+        }
     }
 }
