@@ -125,7 +125,8 @@ def limit(runs):
 def from_c(runs):
     """Calls of felter.h in times the plain calls, by the length of a body."""
     run = runs.get("felter", runs["sets"])
-    yield from table(["times the calls in Rattle", "8 bytes", "32", "128", "1,024"], by_length(run, C_LENGTH_ROWS))
+    rows = [row for row in C_LENGTH_ROWS if run.ns(row[1], row[2], row[4][0], 1, "ns") is not None]
+    yield from table(["times the calls in Rattle", "8 bytes", "32", "128", "1,024"], by_length(run, rows))
 
 
 def readme(runs):

@@ -26,7 +26,7 @@
 
 #define MOST_PRODUCERS 16
 #define BATCH 64
-#define POINTS 64
+#define POINTS 256
 
 static void wrong(const char *what) {
     fprintf(stderr, "worker: wrong: %s\n", what);
@@ -151,8 +151,9 @@ static uint64_t alone(const struct point *of, uint64_t messages) {
 
 /* Producers and a consumer, each on a thread --------------------------------------------------------------------- */
 
+/* (each on lines of its own, since a call writes its handle) */
 struct sender {
-    felter_producer producer;
+    _Alignas(128) felter_producer producer;
     pthread_t thread;
     uint64_t id, messages;
     uint32_t size;
@@ -289,8 +290,12 @@ struct filled {
     uint64_t messages;
 };
 
+static bool has_threads(const struct point *of) {
+    return strcmp(of->workload, PAIR) == 0 || strcmp(of->workload, CROWD) == 0;
+}
+
 static uint64_t run_ring(const struct point *of, uint64_t messages) {
-    return of->workload[0] == 'W' && of->workload[1] != '1' ? flow(of, messages) : alone(of, messages);
+    return has_threads(of) ? flow(of, messages) : alone(of, messages);
 }
 
 static uint64_t run_trips(const struct point *of, uint64_t messages) {

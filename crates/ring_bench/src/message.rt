@@ -16,6 +16,9 @@ const WORD: usize = 8;
 /// What a body has after its first word.
 const FILL: u64 = 0x0707_0707_0707_0707;
 
+/// The bytes after a body that nothing else has, so that the bodies of two threads share no cache line.
+const APART: usize = 128;
+
 /// A body to be sent. Its first word is a number.
 #[derive(Drop)]
 pub struct Body {
@@ -28,7 +31,8 @@ impl Body {
         if size < WORD || size % WORD != 0 {
             return Err(Fault::NO_CONTENDER);
         }
-        let bytes = vec![in alloc; 7u8; size]?;
+        let mut bytes = vec![in alloc; 7u8; size.saturating_add(APART)]?;
+        bytes.truncate(size);
         Ok(Body { bytes })
     }
 

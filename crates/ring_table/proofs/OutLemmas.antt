@@ -1,5 +1,5 @@
 -- The steps that take a body's slots keep the rule.
-use Rattle.std.proofs.Common.{◌≡◌, ℕ, ℤ, zero, suc, ◌+◌, ◌*◌, ◌/◌, ◌≤◌, ◌<◌, List, [], ◌∷◌, ◌++◌, true, cond, set, slice_index, sym, refl, ap, ◌∙◌, subst, inl, inr, ⊎_elim, length, append-nil, eq-eqb, ne_eqb, arith}
+use Rattle.std.proofs.Common.{◌≡◌, ℕ, ℤ, zero, suc, ◌+◌, ◌*◌, ◌/◌, ◌≤◌, ◌<◌, List, [], ◌∷◌, ◌++◌, true, cond, set, slice_index, sym, refl, ap, ◌∙◌, subst, inl, inr, ⊎_elim, length, length-append, append-nil, eq-eqb, ne_eqb, arith}
 use Rattle.std.specs.Prelude.{All}
 use mathlib.Core.Option.{Option, some, some-injective, some-ne-none}
 use mathlib.Core.Logic.{dite}
@@ -7,7 +7,7 @@ use native.Mathlib.Decide.{ℕ_discrete}
 use lib.ListN.{get_elem?}
 use Rattle.std.proofs.lemmas.List.{length-replicate, set-get_or}
 use Rattle.atomic_table.specs.Table.{State, Allows, carried_after}
-use Rattle.atomic_table.proofs.Lists.{set_here}
+use Rattle.atomic_table.proofs.Lists.{at_last, set_here}
 use Rattle.ring_layout.specs.declared.message.ClaimState.TheVariants.{Open}
 use Rattle.ring_layout.specs.Headers.{open_header}
 use Rattle.ring_layout.specs.Places.{index}
@@ -68,6 +68,13 @@ has_owned (x ∷ xs) (suc n) j c e =
       ap (λ b. get_elem? (cond b (x.1 ∷ owned_by j xs) (owned_by j xs)) t.0)
           (ne_eqb x.0 j other) ∙ t.1,
     ))
+
+-- the last claim of a list is one
+one_newest : (xs ys : List StagedClaim) (c d : StagedClaim) → xs ++ c ∷ [] ≡ ys ++ d ∷ [] → c ≡ d
+one_newest xs ys c d e =
+    let more : length xs + 1 ≡ length ys + 1 = sym (length-append xs (c ∷ [])) ∙ (ap length e ∙ length-append ys (d ∷ []))
+    in some-injective c d
+    (sym (at_last xs c (length xs) refl) ∙ (ap (λ l. get_elem? l (length xs)) e ∙ at_last ys d (length xs) (omega arith)))
 
 -- one view has another body out
 pub outed : (B : Bodies) (C start : ℕ) (words : List ℕ) (views : List View) (r : Kept B C start words views) (id : ℕ)
@@ -187,12 +194,15 @@ module _ (C start : ℕ) where
         ),
       )
 
-  pub reserves_body : (slots id : ℕ) (me : Mine) → me.0.capacity ≡ C → me.0.out ≡ [] → me.1 ≡ [] → (k : ℕ)
-      (c : StagedClaim) → HasClaim me.0 k c → c.stage ≡ Padded
-      → Allows (Holds elsewhere C start) slots id me (index C c.place) (λ n. n)
-      (λ n me'. ReservesBody (index C c.place) me me' × AreRising me.0.producer.claims)
-  reserves_body slots id me cap none empty k c has is s r wide at small =
+  -- whatever word is loaded
+  pub reserves_body : (slots id word : ℕ) (me : Mine) → me.0.capacity ≡ C → me.0.out ≡ [] → me.1 ≡ []
+      → (others : List StagedClaim) (c : StagedClaim) → me.0.producer.claims ≡ others ++ c ∷ [] → c.stage ≡ Padded
+      → Allows (Holds elsewhere C start) slots id me word (λ n. n)
+      (λ n me'. ReservesBody me me' × AreRising me.0.producer.claims)
+  reserves_body slots id word me cap none empty others c newest is s r wide at small =
       let v : View = me.0 in
+      let k : ℕ = length others in
+      let has : HasClaim v k c = ap (λ l. get_elem? l k) newest ∙ at_last others c k refl in
       let un : IsSettled c.stage → ⊥ = λ z. subst IsSettled is z in
       let l = own_lies C start s.words s.homes s.views r.0 r.1 id v k c at has un in
       let alone = none_at_own C start s.words s.homes s.views r.0 r.1 id v k c at none has un in
@@ -206,7 +216,7 @@ module _ (C start : ℕ) where
         takes_from (i + 1) ys.0,
         valid_takes s.homes me.1 (i + 1) ys.0 ys.2,
         (
-          loaded s i (set s.views id w) (outed elsewhere C start s.words s.views r.0 id v at (m ∷ []) v.log),
+          loaded s word (set s.views id w) (outed elsewhere C start s.words s.views r.0 id v at (m ∷ []) v.log),
           takes_shelf C start s.words s.homes s.views r.0 r.1 id v w at refl refl m me.1 ys.0 (record {
             was = none;
             now = refl;
@@ -215,11 +225,14 @@ module _ (C start : ℕ) where
           }) l.body ys.1,
         ),
         (
-          λ k' c' has' is' same.
-              let one : c ≡ c' = own_claim s r.0 id v at cap k c has un k' c' has' (λ z. subst IsSettled is' z) same in (
+          λ others' c' newest' is'.
+              let one : c ≡ c' = one_newest others others' c c' (sym newest ∙ newest') in
+              let here : i ≡ index v.capacity c'.place = λ x. index (sym cap x) (one x).place in (
                 (λ x. with_out (placed_message (one x) ∷ []) v),
-                has_slots (i + 1) (words_of (length c'.message.body)) ys.0 me.1 empty
-                    (ys.1 ∙ ap (λ (z : StagedClaim). words_of (length z.message.body)) one),
+                subst (λ z. HasSlots (z + 1) (words_of (length c'.message.body)) (carried_after me.1
+                    (takes_from (i + 1) ys.0))) here
+                    (has_slots (i + 1) (words_of (length c'.message.body)) ys.0 me.1 empty
+                    (ys.1 ∙ ap (λ (z : StagedClaim). words_of (length z.message.body)) one)),
               ),
           rising elsewhere C start s.words s.views r.0 id v at,
         ),

@@ -17,6 +17,20 @@ pub holder : {old new : Seat ℕ View} → new.table_id ≡ old.table_id → new
     → new.me.0.capacity ≡ old.me.0.capacity → IsSameHolder old new
 holder table id capacity = record { table = table; id = id; capacity = capacity }
 
+-- at a word of the trailer, where any word would do
+pub slot_step_anywhere : {id : TableId} {key : Key} {capacity : ℕ} {seat : Seat ℕ View} → seat.table_id ≡ id
+    → id.words ≡ ring_words capacity → key.capacity ≡ capacity → (i word : ℕ) → word < 96 → i ≡ capacity / 8 + word
+    → (f : ℕ → ℕ) (told : ℕ → Mine → Type 0)
+    → Allows (Holds elsewhere capacity key.start) id.slots seat.id seat.me i f told
+    → (seat.table_id ≡ id) × (i < id.words)
+    × Allows (Holds elsewhere key.capacity key.start) id.slots seat.id seat.me i f told
+slot_step_anywhere {id} {key} {capacity} {seat} table words key_is i word inside is f told allows =
+    let wide : id.words ≡ ring_words capacity = words in (
+      table,
+      omega arith,
+      subst (λ (z : ℕ). Allows (Holds elsewhere z key.start) id.slots seat.id seat.me i f told) (sym key_is) allows,
+    )
+
 -- at the header of a record, whose position is p in the code and q in the lemma
 pub slot_step : {id : TableId} {key : Key} {capacity : ℕ} {seat : Seat ℕ View} → seat.table_id ≡ id
     → id.words ≡ ring_words capacity → key.capacity ≡ capacity → IsCapacity capacity

@@ -1,5 +1,5 @@
 -- What a producer learns by its steps: v is its view before, w after, n the number found.
-use Rattle.std.specs.Prelude.{◌≡◌, ◌≢◌, ℕ, ◌+◌, ◌%◌, ◌≤◌, ◌<◌, ℤ, FitsSigned, ◌^◌, List, All, length, slice_index}
+use Rattle.std.specs.Prelude.{◌≡◌, ◌≢◌, ℕ, ◌+◌, ◌%◌, ◌≤◌, ◌<◌, ℤ, FitsSigned, ◌^◌, List, [], ◌∷◌, ◌++◌, All, length, slice_index}
 use Rattle.std.specs.Int.{w32, w64, to_le_bytes}
 use mathlib.Core.Option.{some}
 use lib.ListN.{get_elem?}
@@ -85,6 +85,14 @@ pub record HasClaimAt (v : View) (place : ℕ) (P : StagedClaim → Type 0) : Ty
   pub nth : ℕ
   pub claim : StagedClaim
   pub there : HasClaim v nth claim
+  pub at_place : claim.place ≡ place
+  pub holds : P claim
+
+-- the newest claim of the view is at this place, and P holds of it
+pub record HasNewestAt (v : View) (place : ℕ) (P : StagedClaim → Type 0) : Type 0 where
+  pub others : List StagedClaim
+  pub claim : StagedClaim
+  pub claims_are : v.producer.claims ≡ others ++ claim ∷ []
   pub at_place : claim.place ≡ place
   pub holds : P claim
 

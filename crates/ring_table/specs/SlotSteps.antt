@@ -50,11 +50,11 @@ OpensBody word value me me' = (type_id : ℤ) (n : ℕ) → FitsSigned w32 type_
     → me'.0 ≡ with_out ((record { place = c.place; message = blank type_id n }) ∷ [])
     (with_changed c.place (with_header type_id n) me.0))
 
--- the slots of the own claim whose header, at this word, is not stored are taken
-abbrev pub ReservesBody : ℕ → Mine → Mine → Type 0
-ReservesBody word me me' = (k : ℕ) (c : StagedClaim) → HasClaim me.0 k c → c.stage ≡ Padded
-    → index me.0.capacity c.place ≡ word
-    → (me'.0 ≡ with_out (placed_message c ∷ []) me.0) × HasSlots (word + 1) (words_of (length c.message.body)) me'.1
+-- the slots of the newest claim, whose header is not stored, are taken
+abbrev pub ReservesBody : Mine → Mine → Type 0
+ReservesBody me me' = (others : List StagedClaim) (c : StagedClaim) → me.0.producer.claims ≡ others ++ c ∷ []
+    → c.stage ≡ Padded → (me'.0 ≡ with_out (placed_message c ∷ []) me.0)
+    × HasSlots (index me.0.capacity c.place + 1) (words_of (length c.message.body)) me'.1
 
 -- the committed header of the own claim whose body is out is stored, and the slots go home. The claim gets the type id
 -- of the header and the body whose words they have

@@ -4,7 +4,7 @@ ghost use Rattle.ring_table.specs.Filling.{Begins, Filling, IsSameTable};
 ghost use Rattle.ring_layout.specs.History.{IsMessage};
 ghost use Rattle.ring_table.specs.declared.claim.PlacedMessage.{PlacedMessage};
 ghost use Rattle.ring_table.specs.Changes.{blank, recorded, with_header};
-ghost use Rattle.ring_table.specs.ProducerSteps.{with_changed, HasClaimAt, NeedsHeader};
+ghost use Rattle.ring_table.specs.ProducerSteps.{with_changed, HasClaimAt, HasNewestAt, NeedsHeader};
 ghost use Rattle.ring_table.specs.Seats.{IsSameSeat, IsSeatOf};
 ghost use Rattle.ring_table.specs.SlotSteps.{body_loads, words_of, HasBody, HasLast, HasSlots};
 ghost use Rattle.ring_table.specs.Staged.{body_word, AreRising};
@@ -149,8 +149,8 @@ pub fn store_claimed_slots(
     give_body(ring, producer, capacity, place);
 }
 
-/// Writes the whole body of a claim into its slots, and then stores its committed header and no other. The claim is
-/// committed from then on, and has this body.
+/// Writes the whole body of the newest claim into its slots, and then stores its committed header and no other. The
+/// claim is committed from then on, and has this body.
 #[inline(always)]
 pub fn write_slots(
     ring: &SharedRing<InSlots>,
@@ -163,13 +163,13 @@ pub fn write_slots(
     requires seat { IsSeatOf ring.now.table_id ring.now.key capacity producer.old }
     requires message { IsMessage capacity (blank wanted.type_id wanted.len) }
     requires len { length body.now ≡ wanted.len }
-    requires claim { HasClaimAt producer.old.me.0 place (NeedsHeader wanted.len) }
+    requires newest { HasNewestAt producer.old.me.0 place (NeedsHeader wanted.len) }
     ensures seat { IsSameSeat producer.old producer.new }
     ensures view { producer.new.me.0
         ≡ with_changed place (recorded wanted.type_id body.now) producer.old.me.0 }
     ensures rising { AreRising producer.old.me.0.producer.claims }
 {
-    reserve_body(ring, producer, capacity, place);
+    reserve_body(ring, producer, capacity);
     fill_slots(ring, producer, word_index(capacity, place) + 1, body);
     commit_body(ring, producer, capacity, place, wanted);
 }

@@ -17,7 +17,7 @@ impl Play<u64, View> for OpenBody {
 pub struct ReserveBody;
 
 impl Play<u64, View> for ReserveBody {
-    ghost then = { λ st me n me'. ReservesBody st.word me me' × AreRising me.0.producer.claims };
+    ghost then = { λ st me n me'. ReservesBody me me' × AreRising me.0.producer.claims };
 }
 
 pub struct CommitBody;

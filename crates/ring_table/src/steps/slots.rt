@@ -7,7 +7,7 @@ ghost use Rattle.ring_layout.specs.Places.{index};
 ghost use Rattle.ring_table.specs.Staged.{AreRising};
 ghost use Rattle.ring_table.specs.Changes.{blank, with_header};
 ghost use Rattle.ring_table.specs.ConsumerSteps.{ClearsRecord, LoadsRecord};
-ghost use Rattle.ring_table.specs.ProducerSteps.{with_changed, HasClaimAt, NeedsHeader};
+ghost use Rattle.ring_table.specs.ProducerSteps.{with_changed, HasClaimAt, HasNewestAt, NeedsHeader};
 ghost use Rattle.ring_table.specs.Seats.{IsSameSeat, IsSeatOf};
 ghost use Rattle.ring_table.specs.SlotSteps.{with_out, words_of, GivesBody, HasLast, HasSlots, IsHolderOf, IsLent};
 ghost use Rattle.ring_table.specs.SlotSteps.{CommitsBody, IsOpen, IsPadded, IsReserved, IsSameHolder, IsTaken};
@@ -18,8 +18,9 @@ use crate::plays::slots::{
     ClearRecord, CommitBody, GiveBody, LendBody, LoadRecord, OpenBody, ReserveBody, ReturnBody,
     TakeBody,
 };
-use crate::steps::{RingSeat, SharedRing};
+use crate::steps::{RingSeat, SharedRing, trailer_word};
 use crate::view::Wanted;
+use ring_layout::ring_buffer_descriptor::HEAD_CACHE_POSITION_WORD;
 use ring_layout::{committed_header, open_header, word_index};
 
 /// Stores the header of a claim of `len` bytes, its length negated, and takes the slots of its body. The claim is open
@@ -45,15 +46,17 @@ pub fn open_body(
     ring.store::<OpenBody>(producer, word_index(capacity, place), header);
 }
 
-/// Takes the slots of an own claim whose header is not stored.
-pub fn reserve_body(ring: &SharedRing<InSlots>, producer: &mut RingSeat, capacity: u32, place: u64)
+/// Takes the slots of the newest claim, whose header is not stored.
+pub fn reserve_body(ring: &SharedRing<InSlots>, producer: &mut RingSeat, capacity: u32)
     requires seat { IsSeatOf ring.now.table_id ring.now.key capacity producer.old }
-    requires claim { HasClaimAt producer.old.me.0 place IsPadded }
+    requires newest { (place : ℕ) × HasNewestAt producer.old.me.0 place IsPadded }
     ensures seat { IsSameHolder producer.old producer.new }
-    ensures reserves { ReservesBody (index capacity place) producer.old.me producer.new.me }
+    ensures reserves { ReservesBody producer.old.me producer.new.me }
     ensures rising { AreRising producer.old.me.0.producer.claims }
 {
-    ring.load::<ReserveBody>(producer, word_index(capacity, place));
+    // Any word would do. This one was loaded for the claim, while the claim's own header is on a line that the consumer
+    // wrote last: it would be fetched to be read, and once more to be stored.
+    ring.load::<ReserveBody>(producer, trailer_word(capacity, HEAD_CACHE_POSITION_WORD));
 }
 
 /// Stores the committed header of an own claim, which had none, and gives its slots back with the words of a body of

@@ -1,6 +1,8 @@
-use Rattle.std.proofs.Common.{◌≡◌, ℕ, ◌+◌, ◌^◌, ◌<◌, List, [], All, length, sym, ap, ◌∙◌, subst, arith}
+use Rattle.std.proofs.Common.{◌≡◌, ℕ, ◌+◌, ◌^◌, ◌<◌, List, [], All, length, sym, refl, ap, ◌∙◌, subst, arith}
+use lib.ListN.{get_elem?}
 use Rattle.std.proofs.lemmas.List.{length-replicate}
 use Rattle.std.proofs.lemmas.List.Elements.{All-from_get_or}
+use Rattle.atomic_table.proofs.Lists.{at_last}
 use Rattle.ring_layout.specs.Headers.{committed_header}
 use Rattle.ring_layout.specs.Places.{index}
 use Rattle.ring_table.specs.Changes.{recorded}
@@ -12,43 +14,48 @@ use Rattle.ring_table.specs.Views.{View}
 use Rattle.ring_table.proofs.SlotBodies.{body_given}
 use Rattle.ring_table.proofs.bodies.write_slots.Goals as goal
 
-pub reserve_body-requires-clause-claim : goal.reserve_body-requires-clause-claim
-reserve_body-requires-clause-claim c = let h = c.requires.claim in record {
-  nth = h.nth;
-  claim = h.claim;
-  there = h.there;
-  at_place = h.at_place;
-  holds = h.holds.stage;
-}
+pub reserve_body-requires-clause-newest : goal.reserve_body-requires-clause-newest
+reserve_body-requires-clause-newest c = let h = c.requires.newest in (
+  c.args.place,
+  record {
+    others = h.others;
+    claim = h.claim;
+    claims_are = h.claims_are;
+    at_place = h.at_place;
+    holds = h.holds.stage;
+  },
+)
 
 pub fill_slots-requires-clause-has : goal.fill_slots-requires-clause-has
 fill_slots-requires-clause-has c =
-    let h = c.requires.claim in
-    let t = (c.reserve_body.ensures.reserves h.nth h.claim h.there h.holds.stage
-    (λ i. index (c.requires.seat.view_is i) (h.at_place i))).1 in
+    let h = c.requires.newest in
+    let t = (c.reserve_body.ensures.reserves h.others h.claim h.claims_are h.holds.stage).1 in
+    let here : index c.args.producer.now.me.0.capacity h.claim.place ≡ index c.args.capacity c.args.place =
+    λ i. index (c.requires.seat.view_is i) (h.at_place i) in
     let len = c.requires.len in
     let same_span = h.holds.same_span in
     let many : words_of (length h.claim.message.body) ≡ words_of (length c.args.body.now) = omega arith in
     record {
       values = t.values;
-      held_is = t.held_is ∙ ap (λ i. numbered (i + 1) t.values) (sym c.word_index.ensures);
+      held_is = t.held_is ∙ ap (λ i. numbered (i + 1) t.values) (here ∙ sym c.word_index.ensures);
       count = t.count ∙ many;
     }
 
 pub commit_body-requires-clause-body : goal.commit_body-requires-clause-body
 commit_body-requires-clause-body c =
-    let h = c.requires.claim in
+    let h = c.requires.newest in
     let body : List ℕ = c.args.body.now in
     let len = c.requires.len in
     let same_span = h.holds.same_span in
-    let same = c.fill_slots.ensures.seat.view ∙ (c.reserve_body.ensures.reserves h.nth h.claim h.there h.holds.stage
-    (λ i. index (c.requires.seat.view_is i) (h.at_place i))).0 in (
+    let same = c.fill_slots.ensures.seat.view
+    ∙ (c.reserve_body.ensures.reserves h.others h.claim h.claims_are h.holds.stage).0 in (
       body,
       len,
       record {
-        nth = h.nth;
+        nth = length h.others;
         claim = h.claim;
-        there = subst (λ (v : View). HasClaim v h.nth h.claim) (sym same) h.there;
+        there = subst (λ (v : View). HasClaim v (length h.others) h.claim) (sym same)
+            (ap (λ l. get_elem? l (length h.others)) h.claims_are ∙ at_last h.others h.claim (length h.others) refl);
         stage = h.holds.stage;
         at_place = h.at_place;
         out_is = ap (λ (v : View). v.out) same;
@@ -61,7 +68,7 @@ commit_body-requires-clause-body c =
 
 pub returns-clause-view : goal.returns-clause-view
 returns-clause-view c =
-    let h = c.requires.claim in
+    let h = c.requires.newest in
     let body : List ℕ = c.args.body.now in
     let v : View = c.args.producer.now.me.0 in
     let len : length body ≡ c.args.wanted.len = c.requires.len in
@@ -71,8 +78,8 @@ returns-clause-view c =
     let small : 8 + length body < 2 ^ 31 = omega arith in
     let bytes : All (λ b. b < 256) body =
     All-from_get_or (λ b. b < 256) body 0 (λ i _. omega (arith, c.type_inv.body i)) in
-    let same = c.fill_slots.ensures.seat.view ∙ (c.reserve_body.ensures.reserves h.nth h.claim h.there h.holds.stage
-    (λ i. index (c.requires.seat.view_is i) (h.at_place i))).0 in
+    let same = c.fill_slots.ensures.seat.view
+    ∙ (c.reserve_body.ensures.reserves h.others h.claim h.claims_are h.holds.stage).0 in
     let f = recorded c.args.wanted.type_id body in
     let given = c.commit_body.ensures.commits.1 (placed_message h.claim) _ c.args.wanted.type_id body
     (ap (λ (v : View). v.out) same) c.requires.message.type_fits small

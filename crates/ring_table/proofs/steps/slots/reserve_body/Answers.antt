@@ -1,28 +1,22 @@
-use Rattle.std.proofs.Common.{ap, ◌∙◌, sym}
-use Rattle.ring_layout.specs.Places.{index}
+use Rattle.std.proofs.Common.{ap, arith}
 use Rattle.ring_table.specs.Staged.{AreRising}
 use Rattle.ring_table.specs.SlotSteps.{ReservesBody}
 use Rattle.ring_table.specs.Views.{View}
-use Rattle.ring_table.proofs.SlotCalls.{slot_step, holder}
+use Rattle.ring_table.proofs.SlotCalls.{slot_step_anywhere, holder}
 use Rattle.ring_table.proofs.OutLemmas.{reserves_body}
 use Rattle.ring_table.proofs.steps.slots.reserve_body.Goals as goal
 
 pub load-requires : goal.load-requires
 load-requires c =
     let s = c.requires.seat in
-    let h = c.requires.claim in
-    slot_step s.table_is s.words_are s.key_is s.lawful _ c.args.place _ c.word_index.ensures h.at_place (λ n. n)
-    (λ i me n me'. ReservesBody i me me' × AreRising me.0.producer.claims)
-    (reserves_body c.args.capacity c.args.ring.now.key.start _ _ c.args.producer.now.me s.view_is s.home s.none h.nth
-    h.claim h.there h.holds)
-
-pub returns-clause-reserves : goal.returns-clause-reserves
-returns-clause-reserves c = rw (sym c.word_index.ensures) c.load.ensures.2.0
+    let h = c.requires.newest.1 in
+    slot_step_anywhere s.table_is s.words_are s.key_is _ 32 (omega arith) c.trailer_word.ensures (λ n. n)
+    (λ n me'. ReservesBody c.args.producer.now.me me' × AreRising c.args.producer.now.me.0.producer.claims)
+    (reserves_body c.args.capacity c.args.ring.now.key.start _ _ _ c.args.producer.now.me s.view_is s.home s.none h.others
+    h.claim h.claims_are h.holds)
 
 pub returns-clause-seat : goal.returns-clause-seat
 returns-clause-seat c =
     let e = c.load.ensures in
-    let s = c.requires.seat in
-    let h = c.requires.claim in
-    holder e.0 e.1 (ap (λ (v : View). v.capacity) (e.2.0 h.nth h.claim h.there h.holds
-    ((λ x. index (s.view_is x) (h.at_place x)) ∙ sym c.word_index.ensures)).0)
+    let h = c.requires.newest.1 in
+    holder e.0 e.1 (ap (λ (v : View). v.capacity) (e.2.0 h.others h.claim h.claims_are h.holds).0)
