@@ -14,7 +14,7 @@ pub fn read_input<R: Read>(alloc: Global, reader: &mut R) -> Result<Vec<u8>, Run
     ensures whole { IfOk result (λ input. IfSome (R.remaining reader.old) (λ bytes. input.items ≡ bytes)) }
     ensures short { IfOk result (λ input. vec_len input ≤ MAX_INPUT) }
     ensures lawful { result ≢ Err RunFault.BadCapacity × result ≢ Err RunFault.BadCount
-        × ((line : ℕ) → result ≢ Err (RunFault.BadLine line)) }
+        × result ≢ Err RunFault.OutputUnwritten × ((line : ℕ) → result ≢ Err (RunFault.BadLine line)) }
     ensures long { result ≡ Err RunFault.InputTooLong
         → IfSome (R.remaining reader.old) (λ bytes. MAX_INPUT < length bytes) }
 {

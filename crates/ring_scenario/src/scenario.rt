@@ -160,7 +160,7 @@ fn count_live(counters: &CountersManager) -> usize
 
 fn write_text<O: Write>(writer: &mut O, text: &str) -> Result<(), RunFault>
     ensures written { OnOk result (Appends (O.contents writer.old) (O.contents writer.new) text.now) }
-    ensures fault { IfErr result IsOfWriting }
+    ensures fault { IfErr result (λ fault. fault ≡ RunFault.OutputUnwritten) }
 {
     writer
         .write_all(text.as_bytes())

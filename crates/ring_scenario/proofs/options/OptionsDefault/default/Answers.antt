@@ -1,0 +1,6 @@
+use Rattle.std.specs.Prelude.{refl}
+use Rattle.ring_scenario.proofs.options.OptionsDefault.default.Goals as goal
+
+pub returns : goal.returns
+unfolding lib.Count.ones
+returns c = refl
