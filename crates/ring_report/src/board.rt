@@ -1,29 +1,19 @@
 //! The report of a broadcast buffer.
-use crate::picture::Mark;
 use crate::records::{Listed, Shown, Tally};
-use crate::report::{Report, fields};
+use crate::report::{Field, Report};
+use crate::state::State;
 use crate::view::View;
 use ring_layout::byte_index;
 use ring_snapshot::{BoardRecord, BoardSnapshot};
 use std::alloc::{AllocError, Global};
 use std::fmt::Write;
 
-fn state_name(is_padding: bool, is_valid: bool) -> &'static str {
+fn state_of(is_padding: bool, is_valid: bool) -> State {
     match (is_padding, is_valid) {
-        (false, true) => "valid",
-        (false, false) => "lapped",
-        (true, true) => "padding",
-        (true, false) => "lapped padding",
-    }
-}
-
-fn mark_of(is_padding: bool, is_valid: bool) -> Mark {
-    if is_padding {
-        Mark::AbortedOrPadding
-    } else if is_valid {
-        Mark::Committed
-    } else {
-        Mark::Lapped
+        (false, true) => State::Valid,
+        (false, false) => State::Lapped,
+        (true, true) => State::Padding,
+        (true, false) => State::LappedPadding,
     }
 }
 
@@ -38,8 +28,7 @@ impl<'a> From<BoardRecord<'a>> for Shown<'a> {
         Shown {
             place: record.place,
             index: record.index,
-            state: state_name(is_padding, is_valid),
-            mark: mark_of(is_padding, is_valid),
+            state: state_of(is_padding, is_valid),
             type_id: record.type_id,
             length: record.length,
             body: if is_padding { None } else { Some(record.body) },
@@ -47,8 +36,29 @@ impl<'a> From<BoardRecord<'a>> for Shown<'a> {
     }
 }
 
-/// Adds what is unusual about the whole.
-fn add_notes(text: &mut String, board: &BoardSnapshot<'_>) -> Result<(), AllocError> {
+/// Adds the numbers of the whole, and of its records.
+fn add_numbers(
+    report: &mut Report,
+    board: &BoardSnapshot<'_>,
+    tally: Tally,
+) -> Result<(), AllocError> {
+    report.fields.extend_from_slice(&[
+        Field::new("capacity", u64::from(board.capacity())),
+        Field::new("tail_intent", board.intent()),
+        Field::new("tail", board.tail()),
+        Field::new("latest", board.latest()),
+    ])?;
+    report.counts.extend_from_slice(&[
+        Field::new("valid", u64::from(tally.committed)),
+        Field::new("lapped", u64::from(tally.lapped)),
+        Field::new("padding", u64::from(tally.passed)),
+    ])
+}
+
+/// Adds all of it in one line.
+fn sum_up(text: &mut String, board: &BoardSnapshot<'_>, tally: Tally) -> Result<(), AllocError> {
+    let (valid, lapped, padding) = (tally.committed, tally.lapped, tally.passed);
+    write!(text, "{valid} valid, {lapped} lapped, {padding} padding")?;
     let (intent, tail) = (board.intent(), board.tail());
     if intent > tail {
         write!(text, "; transmitting from {tail} to {intent}")?;
@@ -57,45 +67,6 @@ fn add_notes(text: &mut String, board: &BoardSnapshot<'_>) -> Result<(), AllocEr
         text.push_str("; the begin of the lap is overwritten")?;
     }
     Ok(())
-}
-
-fn summary(alloc: Global, board: &BoardSnapshot<'_>, tally: Tally) -> Result<String, AllocError> {
-    let Tally {
-        committed: valid,
-        lapped,
-        passed: padding,
-        ..
-    } = tally;
-    let mut text = format!(in alloc; "{valid} valid, {lapped} lapped, {padding} padding")?;
-    add_notes(&mut text, board)?;
-    Ok(text)
-}
-
-/// Adds what the records say of the whole.
-fn sum_up(
-    alloc: Global,
-    report: &mut Report,
-    board: &BoardSnapshot<'_>,
-    tally: Tally,
-) -> Result<(), AllocError> {
-    let counts = [
-        ("valid", u64::from(tally.committed)),
-        ("lapped", u64::from(tally.lapped)),
-        ("padding", u64::from(tally.passed)),
-    ];
-    report.counts = fields(alloc, &counts)?;
-    report.summary = summary(alloc, board, tally)?;
-    Ok(())
-}
-
-/// The numbers of the whole, with their names.
-fn numbers(board: &BoardSnapshot<'_>) -> [(&'static str, u64); 4] {
-    [
-        ("capacity", u64::from(board.capacity())),
-        ("tail_intent", board.intent()),
-        ("tail", board.tail()),
-        ("latest", board.latest()),
-    ]
 }
 
 /// Letters, and the byte indexes before which they are.
@@ -111,6 +82,7 @@ fn signs(board: &BoardSnapshot<'_>) -> [(char, u64); 3] {
 /// Adds the records of the current lap, or those from a position on.
 fn list(
     alloc: Global,
+    report: &mut Report,
     listed: &mut Listed,
     board: &BoardSnapshot<'_>,
     from: Option<u64>,
@@ -120,8 +92,8 @@ fn list(
         None => board.records(),
     };
     match begun {
-        Ok(records) => listed.gather(alloc, records),
-        Err(finding) => listed.find(alloc, finding),
+        Ok(records) => listed.gather(alloc, &mut report.rows, &mut report.findings, records),
+        Err(finding) => report.find(alloc, finding),
     }
 }
 
@@ -129,17 +101,21 @@ impl Report {
     /// What is in the words of a broadcast buffer: the current lap, or what is listed from the position that is asked
     /// for. Its findings are as those of `of_ring`.
     pub fn of_board(alloc: Global, words: &[u64], view: View) -> Result<Report, AllocError> {
+        let mut report = Report::empty(alloc, "board", "records");
+        report.add_board(alloc, words, view)?;
+        Ok(report)
+    }
+
+    /// Adds what is in the words of a broadcast buffer.
+    fn add_board(&mut self, alloc: Global, words: &[u64], view: View) -> Result<(), AllocError> {
         let board = match BoardSnapshot::new(words) {
             Ok(board) => board,
-            Err(finding) => {
-                return Report::refused(alloc, "board", "records", "not a board", finding);
-            }
+            Err(finding) => return self.refuse(alloc, "not a board", finding),
         };
-        let mut listed = Listed::new(alloc, board.capacity(), view)?;
-        list(alloc, &mut listed, &board, view.from)?;
-        let tally = listed.tally();
-        let mut report = listed.report(alloc, "board", &numbers(&board), &signs(&board))?;
-        sum_up(alloc, &mut report, &board, tally)?;
-        Ok(report)
+        let mut listed = Listed::new(board.capacity(), view);
+        list(alloc, self, &mut listed, &board, view.from)?;
+        listed.draw(self, &signs(&board))?;
+        add_numbers(self, &board, listed.tally())?;
+        sum_up(&mut self.summary, &board, listed.tally())
     }
 }

@@ -32,20 +32,11 @@ impl Colour {
     }
 }
 
-/// The colour of a state.
-fn state_colour(state: &str) -> Colour {
-    match state {
-        "open" | "not stored yet" => Colour::Yellow,
-        "committed" | "valid" | "in use" => Colour::Plain,
-        _ => Colour::Dim,
-    }
-}
-
-/// The colour of a row: that of its state, which is its first text.
+/// The colour of a row: that of its state.
 pub fn row_colour(row: &[Cell]) -> Colour {
     for cell in row {
-        if let Cell::Text(state) = cell {
-            return state_colour(state.as_str());
+        if let Cell::State(state) = cell {
+            return state.colour();
         }
     }
     Colour::Plain

@@ -1,27 +1,57 @@
 //! The report of counters.
 use crate::bodies;
-use crate::report::{Cell, Report, columns, fields};
+use crate::report::{Cell, Column, Field, Report};
+use crate::state::State;
 use crate::view::{Bodies, View};
 use ring_layout::counter_descriptor::NOT_FREE_FOR_REUSE;
 use ring_snapshot::{Body, Counter, CounterState, CountersSnapshot};
 use std::alloc::{AllocError, Global};
+use std::fmt::Write;
 
-/// The columns of a list of counters, each with whether it has numbers.
-static COLUMNS: [(&str, bool); 8] = [
-    ("id", true),
-    ("state", false),
-    ("type", true),
-    ("value", true),
-    ("registration", true),
-    ("owner", true),
-    ("deadline", true),
-    ("label", false),
+/// The columns of a list of counters, the last one for keys.
+static COLUMNS: [Column; 9] = [
+    Column {
+        name: "id",
+        is_number: true,
+    },
+    Column {
+        name: "state",
+        is_number: false,
+    },
+    Column {
+        name: "type",
+        is_number: true,
+    },
+    Column {
+        name: "value",
+        is_number: true,
+    },
+    Column {
+        name: "registration",
+        is_number: true,
+    },
+    Column {
+        name: "owner",
+        is_number: true,
+    },
+    Column {
+        name: "deadline",
+        is_number: true,
+    },
+    Column {
+        name: "label",
+        is_number: false,
+    },
+    Column {
+        name: "key",
+        is_number: false,
+    },
 ];
 
-fn state_name(state: CounterState) -> &'static str {
+fn state_of(state: CounterState) -> State {
     match state {
-        CounterState::Allocated => "in use",
-        CounterState::Reclaimed => "freed",
+        CounterState::Allocated => State::InUse,
+        CounterState::Reclaimed => State::Freed,
     }
 }
 
@@ -57,93 +87,48 @@ fn label_cell(alloc: Global, label: Body<'_>) -> Result<Cell, AllocError> {
     bodies::cell(alloc, Bodies::Text, bytes.as_slice())
 }
 
-/// Adds the cell of its key, if bytes are shown.
-fn add_key(
-    alloc: Global,
-    row: &mut Vec<Cell>,
-    bodies: Bodies,
-    key: Body<'_>,
-) -> Result<(), AllocError> {
-    if bodies != Bodies::None {
-        row.push(key_cell(alloc, bodies, key)?)?;
-    }
-    Ok(())
-}
-
-/// Its cells, one for each column.
-fn row(alloc: Global, bodies: Bodies, counter: Counter<'_>) -> Result<Vec<Cell>, AllocError> {
-    let state = String::from_str(alloc, state_name(counter.state))?;
-    let label = label_cell(alloc, counter.label)?;
-    let mut row = vec![in alloc;
+/// Its cells up to the label, one for each column.
+fn cells(alloc: Global, counter: &Counter<'_>) -> Result<Vec<Cell>, AllocError> {
+    let cells = vec![in alloc;
         Cell::Unsigned(u64::from(counter.id)),
-        Cell::Text(state),
+        Cell::State(state_of(counter.state)),
         Cell::Signed(i64::from(counter.type_id)),
         Cell::Signed(counter.value),
         Cell::Unsigned(counter.registration),
         Cell::Unsigned(counter.owner),
         deadline_cell(counter.deadline),
-        label,
     ]?;
-    add_key(alloc, &mut row, bodies, counter.key)?;
-    Ok(row)
+    Ok(cells)
 }
 
-/// What is gathered of counters.
-#[derive(Drop)]
-struct Gathered {
-    /// The rows and the findings.
-    report: Report,
+/// Adds the cell of its label, and that of its key if bytes are shown.
+fn push_texts(
+    alloc: Global,
+    row: &mut Vec<Cell>,
+    bodies: Bodies,
+    counter: Counter<'_>,
+) -> Result<(), AllocError> {
+    row.push(label_cell(alloc, counter.label)?)?;
+    if bodies != Bodies::None {
+        row.push(key_cell(alloc, bodies, counter.key)?)?;
+    }
+    Ok(())
+}
+
+/// How many counters were added.
+#[derive(Clone, Copy, Default)]
+struct Tally {
     in_use: u32,
     freed: u32,
 }
 
-impl Gathered {
+impl Tally {
     /// Counts a counter.
     fn count(&mut self, state: CounterState) {
         match state {
             CounterState::Allocated => self.in_use = self.in_use.saturating_add(1),
             CounterState::Reclaimed => self.freed = self.freed.saturating_add(1),
         }
-    }
-
-    /// Adds a counter.
-    fn add(&mut self, alloc: Global, view: View, counter: Counter<'_>) -> Result<(), AllocError> {
-        self.count(counter.state);
-        if self.report.rows.len() as u64 >= view.limit.unwrap_or(u64::MAX) {
-            self.report.unlisted = self.report.unlisted.saturating_add(1);
-            return Ok(());
-        }
-        let row = row(alloc, view.bodies, counter)?;
-        self.report.rows.push(row)?;
-        Ok(())
-    }
-
-    /// Adds the counters from the first id on, or from the one that is asked for.
-    fn gather(
-        &mut self,
-        alloc: Global,
-        counters: &CountersSnapshot<'_>,
-        view: View,
-    ) -> Result<(), AllocError> {
-        let first = u32::try_from(view.from.unwrap_or(0)).unwrap_or(u32::MAX);
-        for entry in counters.counters_from(first) {
-            match entry {
-                Ok(counter) => self.add(alloc, view, counter)?,
-                Err(finding) => self.report.find(alloc, finding)?,
-            }
-        }
-        Ok(())
-    }
-
-    /// Adds what holds of the whole, of this many ids.
-    fn sum_up(&mut self, alloc: Global, ids: u32, bodies: Bodies) -> Result<(), AllocError> {
-        let (in_use, freed) = (self.in_use, self.freed);
-        let counts = [("in_use", u64::from(in_use)), ("freed", u64::from(freed))];
-        self.report.fields = fields(alloc, &[("ids", u64::from(ids))])?;
-        self.report.columns = columns(alloc, COLUMNS.as_slice(), bodies, "key")?;
-        self.report.counts = fields(alloc, &counts)?;
-        self.report.summary = format!(in alloc; "{in_use} in use, {freed} freed, of {ids} ids")?;
-        Ok(())
     }
 }
 
@@ -156,19 +141,66 @@ impl Report {
         values: &[u64],
         view: View,
     ) -> Result<Report, AllocError> {
-        let counters = match CountersSnapshot::new(metadata, values) {
-            Ok(counters) => counters,
-            Err(finding) => {
-                return Report::refused(alloc, "counters", "counters", "not counters", finding);
+        let mut report = Report::empty(alloc, "counters", "counters");
+        match CountersSnapshot::new(metadata, values) {
+            Ok(counters) => report.add_counters(alloc, &counters, view)?,
+            Err(finding) => report.refuse(alloc, "not counters", finding)?,
+        }
+        Ok(report)
+    }
+
+    /// Adds a row for a counter, if fewer than the limit are listed.
+    fn add_counter(
+        &mut self,
+        alloc: Global,
+        view: View,
+        counter: Counter<'_>,
+    ) -> Result<(), AllocError> {
+        if self.rows.len() as u64 >= view.limit.unwrap_or(u64::MAX) {
+            self.unlisted = self.unlisted.saturating_add(1);
+            return Ok(());
+        }
+        let mut row = cells(alloc, &counter)?;
+        push_texts(alloc, &mut row, view.bodies, counter)?;
+        self.rows.push(row)?;
+        Ok(())
+    }
+
+    /// Adds the counters from the first id on, or from the one that is asked for, and what holds of the whole.
+    fn add_counters(
+        &mut self,
+        alloc: Global,
+        counters: &CountersSnapshot<'_>,
+        view: View,
+    ) -> Result<(), AllocError> {
+        let mut tally = Tally::default();
+        let first = u32::try_from(view.from.unwrap_or(0)).unwrap_or(u32::MAX);
+        for entry in counters.counters_from(first) {
+            match entry {
+                Ok(counter) => {
+                    tally.count(counter.state);
+                    self.add_counter(alloc, view, counter)?;
+                }
+                Err(finding) => self.find(alloc, finding)?,
             }
+        }
+        self.columns = if view.bodies == Bodies::None {
+            &COLUMNS[..8]
+        } else {
+            &COLUMNS
         };
-        let mut gathered = Gathered {
-            report: Report::empty(alloc, "counters", "counters"),
-            in_use: 0,
-            freed: 0,
-        };
-        gathered.gather(alloc, &counters, view)?;
-        gathered.sum_up(alloc, counters.count(), view.bodies)?;
-        Ok(gathered.report)
+        self.sum_up(counters.count(), tally)
+    }
+
+    /// Adds what holds of the whole, of this many ids.
+    fn sum_up(&mut self, ids: u32, tally: Tally) -> Result<(), AllocError> {
+        let Tally { in_use, freed } = tally;
+        self.fields
+            .extend_from_slice(&[Field::new("ids", u64::from(ids))])?;
+        self.counts.extend_from_slice(&[
+            Field::new("in_use", u64::from(in_use)),
+            Field::new("freed", u64::from(freed)),
+        ])?;
+        write!(self.summary, "{in_use} in use, {freed} freed, of {ids} ids")
     }
 }

@@ -69,26 +69,22 @@ fn skip<R: Read>(reader: &mut R, bytes: u64) -> Result<(), Cause> {
     Err(Cause::TooShort)
 }
 
-/// Reads this many bytes, or to the end.
+/// Adds this many bytes, or those up to the end.
 fn read_bytes<R: Read>(
-    alloc: Global,
+    bytes: &mut Vec<u8>,
     reader: &mut R,
     length: Option<u64>,
     limit: u64,
-) -> Result<Vec<u8>, Cause> {
+) -> Result<(), Cause> {
     // (one byte more shows that the section is too large)
     let wanted = length.unwrap_or(limit.saturating_add(1));
     if length.is_some() && wanted > limit {
         return Err(Cause::TooLarge);
     }
-    let mut bytes = Vec::new(alloc);
     let mut chunk = [0u8; CHUNK];
     for _ in 0..u64::MAX {
-        let n = read_some(
-            reader,
-            &mut chunk,
-            wanted.saturating_sub(bytes.len() as u64),
-        )?;
+        let left = wanted.saturating_sub(bytes.len() as u64);
+        let n = read_some(reader, &mut chunk, left)?;
         if n == 0 {
             break;
         }
@@ -100,7 +96,7 @@ fn read_bytes<R: Read>(
     } else if length.is_some() && read < wanted {
         Err(Cause::TooShort)
     } else {
-        Ok(bytes)
+        Ok(())
     }
 }
 
@@ -128,27 +124,40 @@ fn go_to<R: Read + Seek>(reader: &mut R, at: u64) -> Result<(), Cause> {
     }
 }
 
-fn bytes_of_file<R: AllocGlobal + Files>(
-    rt: &R,
+/// Adds the bytes of a section of an open file.
+fn read_section<R: Read + Seek>(
+    bytes: &mut Vec<u8>,
+    file: &mut R,
     section: Section<'_>,
     limit: u64,
-) -> Result<Vec<u8>, Cause> {
-    let mut file = match fs::open(rt, section.file) {
-        Ok(file) => file,
-        Err(error) => return Err(Cause::Unopened(error.kind())),
-    };
-    go_to(&mut file, section.at)?;
-    read_bytes(rt.alloc(), &mut file, section.length, limit)
+) -> Result<(), Cause> {
+    go_to(file, section.at)?;
+    read_bytes(bytes, file, section.length, limit)
 }
 
-fn bytes_of_input<R: AllocGlobal + Input>(
+/// Adds the bytes of a section of a file.
+fn read_file<R: AllocGlobal + Files>(
     rt: &R,
+    bytes: &mut Vec<u8>,
     section: Section<'_>,
     limit: u64,
-) -> Result<Vec<u8>, Cause> {
+) -> Result<(), Cause> {
+    match fs::open(rt, section.file) {
+        Ok(mut file) => read_section(bytes, &mut file, section, limit),
+        Err(error) => Err(Cause::Unopened(error.kind())),
+    }
+}
+
+/// Adds the bytes of a section of standard input.
+fn read_input<R: AllocGlobal + Input>(
+    rt: &R,
+    bytes: &mut Vec<u8>,
+    section: Section<'_>,
+    limit: u64,
+) -> Result<(), Cause> {
     let mut reader = rt.reader();
     skip(&mut reader, section.at)?;
-    read_bytes(rt.alloc(), &mut reader, section.length, limit)
+    read_bytes(bytes, &mut reader, section.length, limit)
 }
 
 /// The words of a section that has at most `limit` bytes, as those of `section_words`.
@@ -157,11 +166,12 @@ pub fn words_of<R: AllocGlobal + Files + Input>(
     section: Section<'_>,
     limit: u64,
 ) -> Result<Vec<u64>, Cause> {
-    let bytes = if section.file == "-" {
-        bytes_of_input(rt, section, limit)?
+    let mut bytes = Vec::new(rt.alloc());
+    if section.file == "-" {
+        read_input(rt, &mut bytes, section, limit)?;
     } else {
-        bytes_of_file(rt, section, limit)?
-    };
+        read_file(rt, &mut bytes, section, limit)?;
+    }
     words_of_bytes(rt.alloc(), bytes.as_slice())
 }
 

@@ -8,6 +8,7 @@ fn value_of(alloc: Global, cell: &Cell) -> Result<Value, AllocError> {
         Cell::Nothing => Value::Null,
         Cell::Unsigned(value) => Value::from(*value),
         Cell::Signed(value) => Value::from(*value),
+        Cell::State(state) => Value::try_from_str(alloc, state.name())?,
         Cell::Text(text) => Value::try_from_str(alloc, text.as_str())?,
     })
 }
@@ -42,7 +43,8 @@ fn add_fields(
     fields: &[Field],
 ) -> Result<(), AllocError> {
     for field in fields {
-        put(object, alloc, field.name, value_of(alloc, &field.value)?)?;
+        let value = field.value.map_or(Value::Null, Value::from);
+        put(object, alloc, field.name, value)?;
     }
     Ok(())
 }
@@ -82,7 +84,7 @@ impl Report {
 
     /// Adds the list, how many rows were left out, and the findings.
     fn add_list(&self, object: &mut Map<String, Value>, alloc: Global) -> Result<(), AllocError> {
-        let rows = rows_value(alloc, self.columns.as_slice(), self.rows.as_slice())?;
+        let rows = rows_value(alloc, self.columns, self.rows.as_slice())?;
         put(object, alloc, self.list, rows)?;
         put(object, alloc, "unlisted", Value::from(self.unlisted))?;
         let findings = texts_value(alloc, self.findings.as_slice())?;

@@ -2,8 +2,8 @@
 //! from a file or given as words, to a table that a person reads, JSON, or Prometheus' text.
 //!
 //! - `ring`, `board`, `counters`: the report of each. `records`: the lists that the first two have in common.
-//! - `report`: what is shown. `table`, `json`, `prometheus` and `rates` print it; `picture`, `bodies` and `colour` are
-//!   its parts.
+//! - `report`, `state`: what is shown. `table`, `json`, `prometheus` and `rates` print it; `picture`, `bodies` and
+//!   `colour` are its parts.
 //! - `input`, `input_fault`: a section of a file, as words. `settled`: words that others may change meanwhile. `view`:
 //!   what is wanted of a report.
 #![tactic(auto)]
@@ -22,6 +22,7 @@ mod records;
 mod report;
 mod ring;
 mod settled;
+mod state;
 mod table;
 mod view;
 
@@ -29,4 +30,5 @@ pub use input::{Section, section_words, words_of, words_of_bytes};
 pub use input_fault::{Cause, InputFault};
 pub use report::{Cell, Column, Field, Report};
 pub use settled::{Words, formatted_words, note_unsettled, ring_words, settled_words};
+pub use state::State;
 pub use view::{Bodies, View};

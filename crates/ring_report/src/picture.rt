@@ -1,8 +1,8 @@
 //! A buffer as one line.
-use std::alloc::{AllocError, Global};
+use std::alloc::AllocError;
 
 /// The most pieces of a buffer.
-const MAX_WIDTH: u32 = 512;
+const MAX_WIDTH: usize = 512;
 
 /// What a piece of the buffer is shown as, the weakest first: of two the stronger one is shown.
 #[derive(Clone, Copy, PartialEq, Eq, PartialOrd, Ord)]
@@ -31,23 +31,22 @@ impl Mark {
 }
 
 /// A buffer in equal pieces.
-#[derive(Drop)]
+#[derive(Clone, Copy)]
 pub struct Picture {
     capacity: u32,
     width: u32,
-    marks: Vec<Mark>,
+    /// Those of the pieces, and then others.
+    marks: [Mark; MAX_WIDTH],
 }
 
 impl Picture {
     /// A buffer with nothing in it, in at most `width` pieces.
-    pub fn new(alloc: Global, capacity: u32, width: u32) -> Result<Picture, AllocError> {
-        let width = (capacity / 8).min(width.min(MAX_WIDTH)).max(1);
-        let marks = vec![in alloc; Mark::Free; width as usize]?;
-        Ok(Picture {
+    pub fn new(capacity: u32, width: u32) -> Picture {
+        Picture {
             capacity,
-            width,
-            marks,
-        })
+            width: (capacity / 8).min(width.min(MAX_WIDTH as u32)).max(1),
+            marks: [Mark::Free; MAX_WIDTH],
+        }
     }
 
     /// The piece of a byte index.
@@ -61,42 +60,26 @@ impl Picture {
         let first = self.piece(u64::from(index));
         let end = u64::from(index).saturating_add(bytes.max(1) - 1);
         let last = self.piece(end.min(u64::from(self.capacity.max(1)) - 1));
-        for (k, own) in self.marks.iter_mut().enumerate() {
-            if k >= first && k <= last && *own < mark {
-                *own = mark;
+        for k in first..=last {
+            if let Some(own) = self.marks.get_mut(k) {
+                if *own < mark {
+                    *own = mark;
+                }
             }
         }
     }
 
-    /// Adds the letters of this piece.
-    fn push_letters(
-        &self,
-        line: &mut String,
-        k: usize,
-        signs: &[(char, u64)],
-    ) -> Result<(), AllocError> {
-        for (letter, index) in signs {
-            if self.piece(*index) == k {
-                line.push(*letter)?;
+    /// Adds the line, with letters before the pieces of these byte indexes.
+    pub fn push_line(&self, line: &mut String, signs: &[(char, u64)]) -> Result<(), AllocError> {
+        line.push('[')?;
+        for (k, mark) in self.marks.iter().enumerate().take(self.width as usize) {
+            for (letter, index) in signs {
+                if self.piece(*index) == k {
+                    line.push(*letter)?;
+                }
             }
-        }
-        Ok(())
-    }
-
-    /// Adds the pieces, with letters before those of these byte indexes.
-    fn push_pieces(&self, line: &mut String, signs: &[(char, u64)]) -> Result<(), AllocError> {
-        for (k, mark) in self.marks.iter().enumerate() {
-            self.push_letters(line, k, signs)?;
             line.push(mark.letter())?;
         }
-        Ok(())
-    }
-
-    /// The line, with letters before the pieces of these byte indexes.
-    pub fn line(&self, alloc: Global, signs: &[(char, u64)]) -> Result<String, AllocError> {
-        let mut line = String::from_str(alloc, "[")?;
-        self.push_pieces(&mut line, signs)?;
-        line.push(']')?;
-        Ok(line)
+        line.push(']')
     }
 }

@@ -1,5 +1,6 @@
 //! A report in the text format of Prometheus.
 use crate::report::{Cell, Report, number};
+use crate::state::State;
 use std::alloc::{AllocError, Global};
 use std::fmt::Write;
 
@@ -123,7 +124,7 @@ fn push_escaped(text: &mut String, value: &str) -> Result<(), AllocError> {
 fn push_counter(text: &mut String, row: &[Cell]) -> Result<(), AllocError> {
     let [
         Cell::Unsigned(id),
-        Cell::Text(state),
+        Cell::State(State::InUse),
         Cell::Signed(type_id),
         Cell::Signed(value),
         _,
@@ -135,9 +136,6 @@ fn push_counter(text: &mut String, row: &[Cell]) -> Result<(), AllocError> {
     else {
         return Ok(());
     };
-    if state.as_str() != "in use" {
-        return Ok(());
-    }
     write!(
         text,
         "felter_counter{{id=\"{id}\",type=\"{type_id}\",label=\""

@@ -5,20 +5,40 @@ ghost use Rattle.ring_report.specs.Rows.{IsAppended, IsRowOf};
 
 use crate::bodies;
 use crate::picture::{Mark, Picture};
-use crate::report::{Cell, Report, columns, fields};
+use crate::report::{Cell, Column, Report, add_finding};
+use crate::state::State;
 use crate::view::{Bodies, View};
 use ring_layout::align8;
 use ring_snapshot::Body;
 use std::alloc::{AllocError, Global};
 use std::fmt::Display;
 
-/// The columns of a list of records, each with whether it has numbers.
-static COLUMNS: [(&str, bool); 5] = [
-    ("place", true),
-    ("index", true),
-    ("state", false),
-    ("type", true),
-    ("length", true),
+/// The columns of a list of records, the last one for bodies.
+static COLUMNS: [Column; 6] = [
+    Column {
+        name: "place",
+        is_number: true,
+    },
+    Column {
+        name: "index",
+        is_number: true,
+    },
+    Column {
+        name: "state",
+        is_number: false,
+    },
+    Column {
+        name: "type",
+        is_number: true,
+    },
+    Column {
+        name: "length",
+        is_number: true,
+    },
+    Column {
+        name: "body",
+        is_number: false,
+    },
 ];
 
 /// A record as it is shown.
@@ -26,8 +46,7 @@ static COLUMNS: [(&str, bool); 5] = [
 pub struct Shown<'a> {
     pub place: u64,
     pub index: u32,
-    pub state: &'static str,
-    pub mark: Mark,
+    pub state: State,
     pub type_id: i32,
     pub length: u32,
     /// Its message, if it has one.
@@ -46,9 +65,10 @@ fn body_cell(alloc: Global, bodies: Bodies, body: Option<Body<'_>>) -> Result<Ce
 fn mark(picture: &mut Picture, capacity: u32, shown: &Shown<'_>) {
     let span = align8(u64::from(shown.length));
     let room = u64::from(capacity.saturating_sub(shown.index));
-    picture.mark(shown.index, span.min(room), shown.mark);
+    let mark = shown.state.mark();
+    picture.mark(shown.index, span.min(room), mark);
     if span > room {
-        picture.mark(0, span - room, shown.mark);
+        picture.mark(0, span - room, mark);
     }
 }
 
@@ -58,11 +78,10 @@ impl<'a> Shown<'a> {
         ensures { IfOk result (λ row. IsRowOf self.entry.place self.entry.index self.entry.type_id self.entry.length
             row.items) }
     {
-        let state = String::from_str(alloc, self.state)?;
         let mut row = vec![in alloc;
             Cell::Unsigned(self.place),
             Cell::Unsigned(u64::from(self.index)),
-            Cell::Text(state),
+            Cell::State(self.state),
             Cell::Signed(i64::from(self.type_id)),
             Cell::Unsigned(u64::from(self.length)),
         ]?;
@@ -111,8 +130,8 @@ impl Tally {
     }
 }
 
-/// What is gathered of the records of a buffer.
-#[derive(Drop)]
+/// What is gathered of the records of a buffer, besides what is added to its report.
+#[derive(Clone, Copy)]
 pub struct Listed {
     capacity: u32,
     bodies: Bodies,
@@ -120,49 +139,46 @@ pub struct Listed {
     limit: u64,
     picture: Picture,
     tally: Tally,
-    rows: Vec<Vec<Cell>>,
+    /// How many rows were left out.
     unlisted: u64,
-    findings: Vec<String>,
 }
 
 impl Listed {
     /// Nothing yet of a buffer.
-    pub fn new(alloc: Global, capacity: u32, view: View) -> Result<Listed, AllocError> {
-        Ok(Listed {
+    pub fn new(capacity: u32, view: View) -> Listed {
+        Listed {
             capacity,
             bodies: view.bodies,
             limit: view.limit.unwrap_or(u64::MAX),
-            picture: Picture::new(alloc, capacity, view.width)?,
+            picture: Picture::new(capacity, view.width),
             tally: Tally::default(),
-            rows: Vec::new(alloc),
             unlisted: 0,
-            findings: Vec::new(alloc),
-        })
+        }
     }
 
     /// Adds a record: as one row if fewer than the limit are listed.
-    fn add(&mut self, alloc: Global, shown: Shown<'_>) -> Result<(), AllocError>
-        ensures listed { OnOk result (length self.old.rows.items < self.old.limit
-            → IsAppended self.old.rows.items self.new.rows.items (λ row. IsRowOf shown.entry.place shown.entry.index
+    fn add(
+        &mut self,
+        alloc: Global,
+        rows: &mut Vec<Vec<Cell>>,
+        shown: Shown<'_>,
+    ) -> Result<(), AllocError>
+        ensures listed { OnOk result (length rows.old.items < self.old.limit
+            → IsAppended rows.old.items rows.new.items (λ row. IsRowOf shown.entry.place shown.entry.index
             shown.entry.type_id shown.entry.length row.items)) }
-        ensures left_out { OnOk result (self.old.limit ≤ length self.old.rows.items
-            → self.new.rows.items ≡ self.old.rows.items) }
+        ensures left_out { OnOk result (self.old.limit ≤ length rows.old.items
+            → rows.new.items ≡ rows.old.items) }
         ensures limit { self.new.limit ≡ self.old.limit }
     {
         mark(&mut self.picture, self.capacity, &shown);
-        self.tally.add(shown.mark, shown.place, shown.length);
-        if self.rows.len() as u64 >= self.limit {
+        self.tally
+            .add(shown.state.mark(), shown.place, shown.length);
+        if rows.len() as u64 >= self.limit {
             self.unlisted = self.unlisted.saturating_add(1);
             return Ok(());
         }
         let row = shown.row(alloc, self.bodies)?;
-        self.rows.push(row)?;
-        Ok(())
-    }
-
-    /// Adds what is wrong with the words.
-    pub fn find<F: Display + Drop>(&mut self, alloc: Global, finding: F) -> Result<(), AllocError> {
-        self.findings.push(format!(in alloc; "{finding}")?)?;
+        rows.push(row)?;
         Ok(())
     }
 
@@ -172,14 +188,20 @@ impl Listed {
         R: Into<Shown<'a>> + Drop,
         F: Display + Drop,
         I: Iterator<Item = Result<R, F>> + Drop,
-    >(&mut self, alloc: Global, records: I) -> Result<(), AllocError>
+    >(
+        &mut self,
+        alloc: Global,
+        rows: &mut Vec<Vec<Cell>>,
+        findings: &mut Vec<String>,
+        records: I,
+    ) -> Result<(), AllocError>
         requires can { I.can_next records }
         requires ends { IsFinite (I.remaining records) }
     {
         for entry in records {
             match entry {
-                Ok(record) => self.add(alloc, record.into())?,
-                Err(finding) => self.find(alloc, finding)?,
+                Ok(record) => self.add(alloc, rows, record.into())?,
+                Err(finding) => add_finding(alloc, findings, finding)?,
             }
         }
         Ok(())
@@ -190,36 +212,16 @@ impl Listed {
         self.tally
     }
 
-    /// Adds numbers with their names, the columns, and the picture, with letters before the pieces of these byte
-    /// indexes.
-    fn draw(
-        &self,
-        alloc: Global,
-        report: &mut Report,
-        named: &[(&'static str, u64)],
-        signs: &[(char, u64)],
-    ) -> Result<(), AllocError> {
-        report.fields = fields(alloc, named)?;
-        report.columns = columns(alloc, COLUMNS.as_slice(), self.bodies, "body")?;
-        report.picture = self.picture.line(alloc, signs)?;
-        Ok(())
-    }
-
-    /// The report of it: numbers with their names, and letters before the pieces of these byte indexes. What the
-    /// records say of the whole is not yet in it.
-    pub fn report(
-        self,
-        alloc: Global,
-        kind: &'static str,
-        named: &[(&'static str, u64)],
-        signs: &[(char, u64)],
-    ) -> Result<Report, AllocError> {
-        let mut report = Report::empty(alloc, kind, "records");
-        self.draw(alloc, &mut report, named, signs)?;
+    /// Adds the columns, what was left out, the bytes of messages, and the picture, with letters before the pieces of
+    /// these byte indexes.
+    pub fn draw(&self, report: &mut Report, signs: &[(char, u64)]) -> Result<(), AllocError> {
+        report.columns = if self.bodies == Bodies::None {
+            &COLUMNS[..5]
+        } else {
+            &COLUMNS
+        };
         report.unlisted = self.unlisted;
         report.message_bytes = self.tally.message_bytes;
-        report.rows = self.rows;
-        report.findings = self.findings;
-        Ok(report)
+        self.picture.push_line(&mut report.picture, signs)
     }
 }

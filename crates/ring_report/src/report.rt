@@ -1,5 +1,5 @@
 //! What is shown, whatever it is and however it is printed.
-use crate::view::Bodies;
+use crate::state::State;
 use std::alloc::{AllocError, Global};
 use std::fmt::Display;
 
@@ -12,17 +12,29 @@ pub enum Cell {
     Unsigned(u64),
     /// A number.
     Signed(i64),
+    /// The state of a record or a counter.
+    State(State),
     /// A text.
     Text(String),
 }
 
-/// A value with a name.
-#[derive(Debug, Drop)]
+/// A number with a name.
+#[derive(Clone, Copy, Debug, PartialEq, Eq)]
 pub struct Field {
     /// Its name.
     pub name: &'static str,
-    /// The value.
-    pub value: Cell,
+    /// The number, `null` in JSON if there is none.
+    pub value: Option<u64>,
+}
+
+impl Field {
+    /// A number with this name.
+    pub(crate) fn new(name: &'static str, value: u64) -> Field {
+        Field {
+            name,
+            value: Some(value),
+        }
+    }
 }
 
 /// A column of the list.
@@ -46,7 +58,7 @@ pub struct Report {
     /// The list's name: `records` or `counters`.
     pub list: &'static str,
     /// The list's columns.
-    pub columns: Vec<Column>,
+    pub columns: &'static [Column],
     /// The list's rows, each with a cell for each column.
     pub rows: Vec<Vec<Cell>>,
     /// How many rows were left out, since no more were to be listed.
@@ -76,7 +88,7 @@ impl Report {
             fields: Vec::new(alloc),
             picture: String::new(alloc),
             list,
-            columns: Vec::new(alloc),
+            columns: &[],
             rows: Vec::new(alloc),
             unlisted: 0,
             counts: Vec::new(alloc),
@@ -87,18 +99,15 @@ impl Report {
         }
     }
 
-    /// The report of memory that is not what it is said to be.
-    pub(crate) fn refused<F: Display + Drop>(
+    /// Adds that the memory is not what it is said to be.
+    pub(crate) fn refuse<F: Display + Drop>(
+        &mut self,
         alloc: Global,
-        kind: &'static str,
-        list: &'static str,
         summary: &str,
         finding: F,
-    ) -> Result<Report, AllocError> {
-        let mut report = Report::empty(alloc, kind, list);
-        report.summary.push_str(summary)?;
-        report.find(alloc, finding)?;
-        Ok(report)
+    ) -> Result<(), AllocError> {
+        self.find(alloc, finding)?;
+        self.summary.push_str(summary)
     }
 
     /// Adds what is wrong with the memory.
@@ -107,78 +116,26 @@ impl Report {
         alloc: Global,
         finding: F,
     ) -> Result<(), AllocError> {
-        self.findings.push(format!(in alloc; "{finding}")?)?;
-        Ok(())
+        add_finding(alloc, &mut self.findings, finding)
     }
+}
+
+/// Adds the text of a finding.
+pub(crate) fn add_finding<F: Display + Drop>(
+    alloc: Global,
+    findings: &mut Vec<String>,
+    finding: F,
+) -> Result<(), AllocError> {
+    findings.push(format!(in alloc; "{finding}")?)?;
+    Ok(())
 }
 
 /// The number with this name, if there is one.
 pub(crate) fn number(fields: &[Field], name: &str) -> Option<u64> {
     for field in fields {
         if field.name == name {
-            if let Cell::Unsigned(value) = &field.value {
-                return Some(*value);
-            }
+            return field.value;
         }
     }
     None
-}
-
-/// Numbers, each with its name.
-pub fn fields(alloc: Global, named: &[(&'static str, u64)]) -> Result<Vec<Field>, AllocError> {
-    let mut fields = Vec::new(alloc);
-    for (name, value) in named {
-        fields.push(Field {
-            name: *name,
-            value: Cell::Unsigned(*value),
-        })?;
-    }
-    Ok(fields)
-}
-
-/// Numbers that there may be, each with its name.
-pub fn details(
-    alloc: Global,
-    named: &[(&'static str, Option<u64>)],
-) -> Result<Vec<Field>, AllocError> {
-    let mut fields = Vec::new(alloc);
-    for (name, value) in named {
-        fields.push(Field {
-            name: *name,
-            value: match value {
-                Some(value) => Cell::Unsigned(*value),
-                None => Cell::Nothing,
-            },
-        })?;
-    }
-    Ok(fields)
-}
-
-/// Adds the columns of these names, each with whether it has numbers.
-fn add_columns(
-    columns: &mut Vec<Column>,
-    named: &[(&'static str, bool)],
-) -> Result<(), AllocError> {
-    for (name, is_number) in named {
-        columns.push(Column {
-            name: *name,
-            is_number: *is_number,
-        })?;
-    }
-    Ok(())
-}
-
-/// The columns of these names, each with whether it has numbers; and a last one for bytes, if these are shown.
-pub fn columns(
-    alloc: Global,
-    named: &[(&'static str, bool)],
-    bodies: Bodies,
-    last: &'static str,
-) -> Result<Vec<Column>, AllocError> {
-    let mut columns = Vec::new(alloc);
-    add_columns(&mut columns, named)?;
-    if bodies != Bodies::None {
-        add_columns(&mut columns, &[(last, false)])?;
-    }
-    Ok(columns)
 }

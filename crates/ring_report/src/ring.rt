@@ -1,30 +1,20 @@
 //! The report of a ring.
-use crate::picture::Mark;
 use crate::records::{Listed, Shown, Tally};
-use crate::report::{Report, details, fields};
+use crate::report::{Field, Report};
+use crate::state::State;
 use crate::view::View;
 use ring_layout::byte_index;
 use ring_snapshot::{Record, RecordState, RingSnapshot};
 use std::alloc::{AllocError, Global};
 use std::fmt::Write;
 
-fn state_name(state: RecordState) -> &'static str {
+fn state_of(state: RecordState) -> State {
     match state {
-        RecordState::Open => "open",
-        RecordState::Committed => "committed",
-        RecordState::Aborted => "aborted",
-        RecordState::AbortedOrPadding => "aborted or padding",
-        RecordState::Unstored => "not stored yet",
-    }
-}
-
-fn mark_of(state: RecordState) -> Mark {
-    match state {
-        RecordState::Open => Mark::Open,
-        RecordState::Committed => Mark::Committed,
-        RecordState::Aborted => Mark::Aborted,
-        RecordState::AbortedOrPadding => Mark::AbortedOrPadding,
-        RecordState::Unstored => Mark::Unstored,
+        RecordState::Open => State::Open,
+        RecordState::Committed => State::Committed,
+        RecordState::Aborted => State::Aborted,
+        RecordState::AbortedOrPadding => State::AbortedOrPadding,
+        RecordState::Unstored => State::Unstored,
     }
 }
 
@@ -39,8 +29,7 @@ impl<'a> From<Record<'a>> for Shown<'a> {
         Shown {
             place: record.place,
             index: record.index,
-            state: state_name(record.state),
-            mark: mark_of(record.state),
+            state: state_of(record.state),
             type_id: record.type_id,
             length: record.length,
             body: if has_message { Some(record.body) } else { None },
@@ -54,8 +43,48 @@ fn free(ring: &RingSnapshot<'_>) -> Option<u64> {
     u64::from(ring.capacity()).checked_sub(used)
 }
 
-/// Adds what is unusual about the whole, and how many bytes are free.
-fn add_notes(text: &mut String, ring: &RingSnapshot<'_>, tally: Tally) -> Result<(), AllocError> {
+/// Adds the numbers of the whole.
+fn add_numbers(report: &mut Report, ring: &RingSnapshot<'_>) -> Result<(), AllocError> {
+    report.fields.extend_from_slice(&[
+        Field::new("capacity", u64::from(ring.capacity())),
+        Field::new("head", ring.head()),
+        Field::new("tail", ring.tail()),
+        Field::new("head_cache", ring.head_cache()),
+        Field::new("correlation", ring.correlation()),
+        Field::new("heartbeat", ring.heartbeat()),
+    ])
+}
+
+/// Adds what the records say of the whole.
+fn add_counts(
+    report: &mut Report,
+    ring: &RingSnapshot<'_>,
+    tally: Tally,
+) -> Result<(), AllocError> {
+    report.counts.extend_from_slice(&[
+        Field::new("committed", u64::from(tally.committed)),
+        Field::new("open", u64::from(tally.open)),
+        Field::new("aborted_or_padding", u64::from(tally.passed)),
+    ])?;
+    report.details.extend_from_slice(&[
+        Field {
+            name: "blocked_at",
+            value: tally.blocked,
+        },
+        Field {
+            name: "free",
+            value: free(ring),
+        },
+    ])
+}
+
+/// Adds all of it in one line.
+fn sum_up(text: &mut String, ring: &RingSnapshot<'_>, tally: Tally) -> Result<(), AllocError> {
+    let (committed, open, passed) = (tally.committed, tally.open, tally.passed);
+    write!(
+        text,
+        "{committed} committed, {open} open, {passed} aborted or padding"
+    )?;
     if tally.unstored {
         text.push_str(", then headers not yet stored")?;
     }
@@ -66,51 +95,6 @@ fn add_notes(text: &mut String, ring: &RingSnapshot<'_>, tally: Tally) -> Result
         write!(text, "; blocked at {place}")?;
     }
     Ok(())
-}
-
-fn summary(alloc: Global, ring: &RingSnapshot<'_>, tally: Tally) -> Result<String, AllocError> {
-    let Tally {
-        committed,
-        open,
-        passed,
-        ..
-    } = tally;
-    let mut text = format!(in alloc;
-        "{committed} committed, {open} open, {passed} aborted or padding"
-    )?;
-    add_notes(&mut text, ring, tally)?;
-    Ok(text)
-}
-
-/// Adds what the records say of the whole.
-fn sum_up(
-    alloc: Global,
-    report: &mut Report,
-    ring: &RingSnapshot<'_>,
-    tally: Tally,
-) -> Result<(), AllocError> {
-    let counts = [
-        ("committed", u64::from(tally.committed)),
-        ("open", u64::from(tally.open)),
-        ("aborted_or_padding", u64::from(tally.passed)),
-    ];
-    let numbers = [("blocked_at", tally.blocked), ("free", free(ring))];
-    report.counts = fields(alloc, &counts)?;
-    report.details = details(alloc, &numbers)?;
-    report.summary = summary(alloc, ring, tally)?;
-    Ok(())
-}
-
-/// The numbers of the whole, with their names.
-fn numbers(ring: &RingSnapshot<'_>) -> [(&'static str, u64); 6] {
-    [
-        ("capacity", u64::from(ring.capacity())),
-        ("head", ring.head()),
-        ("tail", ring.tail()),
-        ("head_cache", ring.head_cache()),
-        ("correlation", ring.correlation()),
-        ("heartbeat", ring.heartbeat()),
-    ]
 }
 
 /// Letters, and the byte indexes before which they are.
@@ -125,13 +109,14 @@ fn signs(ring: &RingSnapshot<'_>) -> [(char, u64); 2] {
 /// Adds the records from the head on, or from a position on.
 fn list(
     alloc: Global,
+    report: &mut Report,
     listed: &mut Listed,
     ring: &RingSnapshot<'_>,
     from: Option<u64>,
 ) -> Result<(), AllocError> {
     match ring.records_from(from.unwrap_or(ring.head())) {
-        Ok(records) => listed.gather(alloc, records),
-        Err(finding) => listed.find(alloc, finding),
+        Ok(records) => listed.gather(alloc, &mut report.rows, &mut report.findings, records),
+        Err(finding) => report.find(alloc, finding),
     }
 }
 
@@ -139,15 +124,22 @@ impl Report {
     /// What is in the words of a ring, from its head on, or from the position that is asked for. Words that are not
     /// those of a ring, positions that make no sense, and what is wrong with the records are its findings.
     pub fn of_ring(alloc: Global, words: &[u64], view: View) -> Result<Report, AllocError> {
+        let mut report = Report::empty(alloc, "ring", "records");
+        report.add_ring(alloc, words, view)?;
+        Ok(report)
+    }
+
+    /// Adds what is in the words of a ring.
+    fn add_ring(&mut self, alloc: Global, words: &[u64], view: View) -> Result<(), AllocError> {
         let ring = match RingSnapshot::new(words) {
             Ok(ring) => ring,
-            Err(finding) => return Report::refused(alloc, "ring", "records", "not a ring", finding),
+            Err(finding) => return self.refuse(alloc, "not a ring", finding),
         };
-        let mut listed = Listed::new(alloc, ring.capacity(), view)?;
-        list(alloc, &mut listed, &ring, view.from)?;
-        let tally = listed.tally();
-        let mut report = listed.report(alloc, "ring", &numbers(&ring), &signs(&ring))?;
-        sum_up(alloc, &mut report, &ring, tally)?;
-        Ok(report)
+        let mut listed = Listed::new(ring.capacity(), view);
+        list(alloc, self, &mut listed, &ring, view.from)?;
+        listed.draw(self, &signs(&ring))?;
+        add_numbers(self, &ring)?;
+        add_counts(self, &ring, listed.tally())?;
+        sum_up(&mut self.summary, &ring, listed.tally())
     }
 }

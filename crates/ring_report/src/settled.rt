@@ -4,11 +4,25 @@ use crate::input_fault::InputFault;
 use crate::report::Report;
 use ring_snapshot::{BoardSnapshot, RingSnapshot, formatted_header, join_bodies};
 use std::alloc::{AllocError, Global};
+use std::fmt::{self, Display, Formatter, Write};
 use std::io::Input;
 use std::rt::Files;
 
 /// How often memory is read again at most.
 const READS: u32 = 3;
+
+/// The finding that positions changed all the time.
+#[derive(Clone, Copy)]
+struct Unsettled;
+
+impl Display for Unsettled {
+    fn fmt<W: Write>(&self, f: &mut Formatter<W>) -> fmt::Result {
+        write!(
+            f,
+            "Unsettled: positions changed during each of {READS} reads"
+        )
+    }
+}
 
 /// Words, and whether their positions stayed the same while they were read.
 #[derive(Drop)]
@@ -44,9 +58,9 @@ pub fn settled_words<'a, R: AllocGlobal + Files + Input>(
         if is_settled {
             break;
         }
-        let again = section_words(rt, section)?;
-        is_settled = positions(again.as_slice(), is_ring) == positions(words.as_slice(), is_ring);
-        words = again;
+        let before = positions(words.as_slice(), is_ring);
+        words = section_words(rt, section)?;
+        is_settled = positions(words.as_slice(), is_ring) == before;
     }
     Ok(Words { words, is_settled })
 }
@@ -72,6 +86,15 @@ fn add_bodies<'a, R: AllocGlobal + Files + Input>(
     Ok(())
 }
 
+/// The positions of a ring that are now in a section.
+fn positions_in<'a, R: AllocGlobal + Files + Input>(
+    rt: &R,
+    section: Section<'a>,
+) -> Result<Option<(u64, u64)>, InputFault<'a>> {
+    let words = section_words(rt, section)?;
+    Ok(positions(words.as_slice(), true))
+}
+
 /// The words of a ring whose bodies lie apart, as those of `settled_words`. Bodies are read after the words, so that
 /// what is shown as committed was whole, and both between two looks at the positions.
 fn joined_words<'a, R: AllocGlobal + Files + Input>(
@@ -79,7 +102,7 @@ fn joined_words<'a, R: AllocGlobal + Files + Input>(
     section: Section<'a>,
     bodies_at: u64,
 ) -> Result<Words, InputFault<'a>> {
-    let mut before = section_words(rt, section)?;
+    let mut before = positions_in(rt, section)?;
     let mut words = Vec::new(rt.alloc());
     let mut is_settled = false;
     for _ in 0..READS {
@@ -88,8 +111,8 @@ fn joined_words<'a, R: AllocGlobal + Files + Input>(
         }
         words = section_words(rt, section)?;
         add_bodies(rt, &mut words, section.file, bodies_at)?;
-        let after = section_words(rt, section)?;
-        is_settled = positions(after.as_slice(), true) == positions(before.as_slice(), true);
+        let after = positions_in(rt, section)?;
+        is_settled = after == before;
         before = after;
     }
     Ok(Words { words, is_settled })
@@ -113,12 +136,10 @@ pub fn note_unsettled(
     report: Result<Report, AllocError>,
     is_settled: bool,
 ) -> Result<Report, AllocError> {
-    if is_settled {
-        return report;
-    }
     let mut report = report?;
-    let text = format!(in alloc; "Unsettled: positions changed during each of {READS} reads")?;
-    report.findings.push(text)?;
+    if !is_settled {
+        report.find(alloc, Unsettled)?;
+    }
     Ok(report)
 }
 

@@ -2,14 +2,33 @@
 use crate::colour::{Colour, push_colored, push_picture, row_colour};
 use crate::report::{Cell, Column, Field, Report};
 use std::alloc::{AllocError, Global};
+use std::fmt::Write;
 
-/// The text of a value.
-fn cell_text(alloc: Global, cell: &Cell) -> Result<String, AllocError> {
+/// How many characters a number has.
+fn digits(value: u64) -> usize {
+    value.checked_ilog10().unwrap_or(0) as usize + 1
+}
+
+/// How many characters a value has.
+fn cell_len(cell: &Cell) -> usize {
     match cell {
-        Cell::Nothing => Ok(String::new(alloc)),
-        Cell::Unsigned(value) => format!(in alloc; "{value}"),
-        Cell::Signed(value) => format!(in alloc; "{value}"),
-        Cell::Text(text) => String::from_str(alloc, text.as_str()),
+        Cell::Nothing => 0,
+        Cell::Unsigned(value) => digits(*value),
+        Cell::Signed(value) if *value < 0 => digits(value.unsigned_abs()).saturating_add(1),
+        Cell::Signed(value) => digits(value.unsigned_abs()),
+        Cell::State(state) => state.name().len(),
+        Cell::Text(text) => text.len(),
+    }
+}
+
+/// Pushes the text of a value.
+fn push_cell(line: &mut String, cell: &Cell) -> Result<(), AllocError> {
+    match cell {
+        Cell::Nothing => Ok(()),
+        Cell::Unsigned(value) => write!(line, "{value}"),
+        Cell::Signed(value) => write!(line, "{value}"),
+        Cell::State(state) => line.push_str(state.name()),
+        Cell::Text(text) => line.push_str(text.as_str()),
     }
 }
 
@@ -20,140 +39,127 @@ fn push_spaces(text: &mut String, count: usize) -> Result<(), AllocError> {
     Ok(())
 }
 
-/// Pushes a line without the spaces at its end.
-fn end_line(text: &mut String, line: &str) -> Result<(), AllocError> {
-    text.push_str(line.trim_end())?;
-    text.push('\n')
-}
-
-/// The line of what holds of the whole.
-fn push_fields(alloc: Global, text: &mut String, report: &Report) -> Result<(), AllocError> {
-    let mut line = String::from_str(alloc, report.kind)?;
-    for field in report.fields.iter() {
-        push_field(alloc, &mut line, field)?;
+/// How many spaces are before and after a text of this many characters, with which its column and two spaces are full.
+fn spaces(column: &Column, len: usize, width: usize) -> (usize, usize) {
+    let spaces = width.saturating_sub(len);
+    if column.is_number {
+        (spaces, 2)
+    } else {
+        (0, spaces.saturating_add(2))
     }
-    end_line(text, line.as_str())
 }
 
-fn push_field(alloc: Global, line: &mut String, field: &Field) -> Result<(), AllocError> {
-    let value = cell_text(alloc, &field.value)?;
-    push_spaces(line, 2)?;
-    line.push_str(field.name)?;
-    line.push(' ')?;
-    line.push_str(value.as_str())
+/// Pushes the name of a column, with the spaces of its width.
+fn push_name(line: &mut String, column: &Column, width: usize) -> Result<(), AllocError> {
+    let (before, after) = spaces(column, column.name.len(), width);
+    push_spaces(line, before)?;
+    line.push_str(column.name)?;
+    push_spaces(line, after)
 }
 
-/// The texts of the list: its names, and then its rows.
-fn lines(alloc: Global, report: &Report) -> Result<Vec<Vec<String>>, AllocError> {
-    let mut lines = Vec::new(alloc);
-    lines.push(names(alloc, report.columns.as_slice())?)?;
-    for row in report.rows.iter() {
-        lines.push(row_texts(alloc, row.as_slice())?)?;
-    }
-    Ok(lines)
-}
-
-fn names(alloc: Global, columns: &[Column]) -> Result<Vec<String>, AllocError> {
-    let mut names = Vec::new(alloc);
-    for column in columns {
-        names.push(String::from_str(alloc, column.name)?)?;
-    }
-    Ok(names)
-}
-
-fn row_texts(alloc: Global, row: &[Cell]) -> Result<Vec<String>, AllocError> {
-    let mut texts = Vec::new(alloc);
-    for cell in row {
-        texts.push(cell_text(alloc, cell)?)?;
-    }
-    Ok(texts)
-}
-
-/// How wide each column is.
-fn widths(alloc: Global, lines: &[Vec<String>], columns: usize) -> Result<Vec<usize>, AllocError> {
-    let mut widths = vec![in alloc; 0usize; columns]?;
-    for line in lines {
-        for (width, text) in widths.iter_mut().zip(line.iter()) {
-            *width = text.len().max(*width);
-        }
-    }
-    Ok(widths)
-}
-
-/// Pushes a word, with spaces up to the width of its column and two after it.
+/// Pushes a value, with the spaces of its column's width.
 fn push_word(
     line: &mut String,
-    is_number: bool,
-    word: &str,
+    column: &Column,
+    cell: &Cell,
     width: usize,
 ) -> Result<(), AllocError> {
-    let spaces = width.saturating_sub(word.len());
-    push_spaces(line, if is_number { spaces } else { 0 })?;
-    line.push_str(word)?;
-    push_spaces(line, if is_number { 0 } else { spaces })?;
-    push_spaces(line, 2)
+    let (before, after) = spaces(column, cell_len(cell), width);
+    push_spaces(line, before)?;
+    push_cell(line, cell)?;
+    push_spaces(line, after)
 }
 
-/// One line of the list in a colour, each text in its column.
-fn push_line(
-    alloc: Global,
-    text: &mut String,
-    columns: &[Column],
-    words: &[String],
-    widths: &[usize],
-    colour: Colour,
-) -> Result<(), AllocError> {
-    let mut line = String::new(alloc);
-    for (column, (word, width)) in columns.iter().zip(words.iter().zip(widths)) {
-        push_word(&mut line, column.is_number, word.as_str(), *width)?;
+/// Pushes a number of the whole with its name.
+fn push_field(text: &mut String, field: &Field) -> Result<(), AllocError> {
+    write!(text, "  {}", field.name)?;
+    match field.value {
+        Some(value) => write!(text, " {value}"),
+        None => Ok(()),
     }
-    push_colored(text, colour, line.as_str().trim_end())
-}
-
-/// The colour of a line of the list, of which the first has the names of the columns.
-fn line_colour(report: &Report, line: usize, is_colored: bool) -> Colour {
-    match report.rows.as_slice().get(line.wrapping_sub(1)) {
-        Some(row) if is_colored => row_colour(row.as_slice()),
-        _ => Colour::Plain,
-    }
-}
-
-/// The lines of the list, of these texts. Those of rows are in the colour of their state, if there are colours.
-fn push_lines(
-    alloc: Global,
-    text: &mut String,
-    report: &Report,
-    lines: &[Vec<String>],
-    is_colored: bool,
-) -> Result<(), AllocError> {
-    let columns = report.columns.as_slice();
-    let widths = widths(alloc, lines, columns.len())?;
-    for (k, line) in lines.iter().enumerate() {
-        let colour = line_colour(report, k, is_colored);
-        push_line(
-            alloc,
-            text,
-            columns,
-            line.as_slice(),
-            widths.as_slice(),
-            colour,
-        )?;
-    }
-    Ok(())
-}
-
-/// The lines of the list.
-fn push_list(
-    alloc: Global,
-    text: &mut String,
-    report: &Report,
-    is_colored: bool,
-) -> Result<(), AllocError> {
-    let lines = lines(alloc, report)?;
-    push_lines(alloc, text, report, lines.as_slice(), is_colored)
 }
 
 impl Report {
+    /// The width of a column: that of its name or of its longest value.
+    fn width(&self, column: usize, name: &str) -> usize {
+        let mut width = name.len();
+        for row in self.rows.iter() {
+            if let Some(cell) = row.get(column) {
+                width = width.max(cell_len(cell));
+            }
+        }
+        width
+    }
+
+    /// How wide each column is.
+    fn widths(&self, alloc: Global) -> Result<Vec<usize>, AllocError> {
+        let mut widths = Vec::new(alloc);
+        for (k, column) in self.columns.iter().enumerate() {
+            widths.push(self.width(k, column.name))?;
+        }
+        Ok(widths)
+    }
+
+    /// Pushes the line of the names of the columns.
+    fn push_names(
+        &self,
+        text: &mut String,
+        line: &mut String,
+        widths: &[usize],
+    ) -> Result<(), AllocError> {
+        line.clear();
+        for (column, width) in self.columns.iter().zip(widths) {
+            push_name(line, column, *width)?;
+        }
+        push_colored(text, Colour::Plain, line.as_str().trim_end())
+    }
+
+    /// Pushes the line of a row, each value in its column.
+    fn push_row(
+        &self,
+        text: &mut String,
+        line: &mut String,
+        widths: &[usize],
+        row: &[Cell],
+        colour: Colour,
+    ) -> Result<(), AllocError> {
+        line.clear();
+        for (column, (cell, width)) in self.columns.iter().zip(row.iter().zip(widths)) {
+            push_word(line, column, cell, *width)?;
+        }
+        push_colored(text, colour, line.as_str().trim_end())
+    }
+
+    /// Pushes the names of the columns, and the rows.
+    fn push_lines(
+        &self,
+        text: &mut String,
+        line: &mut String,
+        widths: &[usize],
+        is_colored: bool,
+    ) -> Result<(), AllocError> {
+        self.push_names(text, line, widths)?;
+        for row in self.rows.iter() {
+            let row = row.as_slice();
+            let colour = if is_colored {
+                row_colour(row)
+            } else {
+                Colour::Plain
+            };
+            self.push_row(text, line, widths, row, colour)?;
+        }
+        Ok(())
+    }
+
+    /// Pushes the line of what holds of the whole.
+    fn push_whole(&self, text: &mut String) -> Result<(), AllocError> {
+        text.push_str(self.kind)?;
+        for field in self.fields.iter() {
+            push_field(text, field)?;
+        }
+        text.push('\n')
+    }
+
     /// The report as a table: a line of what holds of the whole, the picture of a buffer, the list with the names of
     /// its columns, how many rows were left out, and the summary. The findings are not in it.
     pub fn to_table(&self, alloc: Global) -> Result<String, AllocError> {
@@ -179,20 +185,16 @@ impl Report {
         text.push('\n')
     }
 
-    /// Pushes the list, if it has rows, and how many of them were left out.
+    /// Pushes the lines of the list. Those of rows are in the colour of their state, if there are colours.
     fn push_list(
         &self,
         alloc: Global,
         text: &mut String,
         is_colored: bool,
     ) -> Result<(), AllocError> {
-        if !self.rows.is_empty() {
-            push_list(alloc, text, self, is_colored)?;
-        }
-        if self.unlisted > 0 {
-            writeln!(text, "({} more)", self.unlisted)?;
-        }
-        Ok(())
+        let widths = self.widths(alloc)?;
+        let mut line = String::new(alloc);
+        self.push_lines(text, &mut line, widths.as_slice(), is_colored)
     }
 
     /// Pushes the report as a table.
@@ -202,9 +204,14 @@ impl Report {
         text: &mut String,
         is_colored: bool,
     ) -> Result<(), AllocError> {
-        push_fields(alloc, text, self)?;
+        self.push_whole(text)?;
         self.push_picture(text, is_colored)?;
-        self.push_list(alloc, text, is_colored)?;
+        if !self.rows.is_empty() {
+            self.push_list(alloc, text, is_colored)?;
+        }
+        if self.unlisted > 0 {
+            writeln!(text, "({} more)", self.unlisted)?;
+        }
         text.push_str(self.summary.as_str())?;
         text.push('\n')
     }

@@ -79,27 +79,20 @@ fn part(file: &str, at: u64, length: u64) -> Section<'_> {
     }
 }
 
-/// Shows the ring.
-fn show_ring<'a, R: AllocGlobal + Files + Input + Print + Eprint>(
+/// Shows the ring or the broadcast buffer.
+fn show_buffer<'a, R: AllocGlobal + Files + Input + Print + Eprint>(
     rt: &R,
     section: Section<'a>,
+    is_ring: bool,
     view: View,
     format: Format,
 ) -> Result<bool, ShowFault<'a>> {
     let words = section_words(rt, section)?;
-    let report = Report::of_ring(rt.alloc(), words.as_slice(), view)?;
-    print_report(rt, &report, format)
-}
-
-/// Shows the broadcast buffer.
-fn show_board<'a, R: AllocGlobal + Files + Input + Print + Eprint>(
-    rt: &R,
-    section: Section<'a>,
-    view: View,
-    format: Format,
-) -> Result<bool, ShowFault<'a>> {
-    let words = section_words(rt, section)?;
-    let report = Report::of_board(rt.alloc(), words.as_slice(), view)?;
+    let report = if is_ring {
+        Report::of_ring(rt.alloc(), words.as_slice(), view)?
+    } else {
+        Report::of_board(rt.alloc(), words.as_slice(), view)?
+    };
     print_report(rt, &report, format)
 }
 
@@ -126,8 +119,8 @@ pub fn show_cnc<'a, R: AllocGlobal + Files + Input + Print + Eprint>(
     let board_at = HEADER.saturating_add(parts.ring);
     let metadata_at = board_at.saturating_add(parts.board);
     let values_at = metadata_at.saturating_add(parts.metadata);
-    let mut is_sound = show_ring(rt, part(file, HEADER, parts.ring), view, format)?;
-    is_sound &= show_board(rt, part(file, board_at, parts.board), view, format)?;
+    let mut is_sound = show_buffer(rt, part(file, HEADER, parts.ring), true, view, format)?;
+    is_sound &= show_buffer(rt, part(file, board_at, parts.board), false, view, format)?;
     let metadata = part(file, metadata_at, parts.metadata);
     let values = part(file, values_at, parts.values);
     is_sound &= show_counters(rt, metadata, values, view, format)?;

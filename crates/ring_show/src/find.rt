@@ -2,7 +2,7 @@
 use crate::bodies::note_bodies;
 use crate::fault::ShowFault;
 use crate::found::{Found, Kind, METADATA, add_buffer, add_counter, print_found};
-use crate::memory::{Memory, Region};
+use crate::memory::{Region, add_regions, file_of};
 use ring_report::{Cause, Section, formatted_words, words_of};
 use ring_snapshot::{next_board, next_counter, next_ring};
 use std::alloc::Global;
@@ -158,32 +158,47 @@ fn search_region<R: AllocGlobal + Files + Input>(
     Ok(())
 }
 
-/// Adds what is found in all of the memory.
+/// Adds what is found in all of the memory, and then where the bodies of rings are.
 fn search_memory<R: AllocGlobal + Files + Input>(
     rt: &R,
-    memory: &Memory,
+    file: &str,
+    regions: &[Region],
     found: &mut Vec<Found>,
-    wanted: Wanted<'_>,
 ) -> Result<(), ShowFault<'static>> {
-    for region in memory.regions.iter() {
-        search_region(rt, memory.file.as_str(), *region, found, wanted)?;
+    for region in regions {
+        search_region(rt, file, *region, found, Wanted::All)?;
+    }
+    if found.iter().any(|it| it.kind == Kind::Ring) {
+        for region in regions {
+            search_region(rt, file, *region, found, Wanted::Bodies(regions))?;
+        }
     }
     Ok(())
 }
 
-/// Lists the rings, broadcast buffers and counters in memory. The status is 0 if there is one, otherwise 1.
+/// Lists what is found in these pieces of memory of a file. Returns whether there is nothing.
+fn list_memory<R: AllocGlobal + Files + Input + Print>(
+    rt: &R,
+    file: &str,
+    regions: &[Region],
+) -> Result<bool, ShowFault<'static>> {
+    let mut found = Vec::new(rt.alloc());
+    search_memory(rt, file, regions, &mut found)?;
+    for it in found.iter() {
+        print_found(rt, file, *it)?;
+    }
+    Ok(found.is_empty())
+}
+
+/// Lists the rings, broadcast buffers and counters in the memory of a process, if the name is a number, otherwise in a
+/// file. The status is 0 if there is one, otherwise 1.
 pub fn find_all<'a, R: AllocGlobal + Files + Input + Print>(
     rt: &R,
-    memory: &Memory,
+    name: &'a str,
 ) -> Result<ExitCode, ShowFault<'a>> {
-    let mut found = Vec::new(rt.alloc());
-    search_memory(rt, memory, &mut found, Wanted::All)?;
-    if found.iter().any(|it| it.kind == Kind::Ring) {
-        let regions = memory.regions.as_slice();
-        search_memory(rt, memory, &mut found, Wanted::Bodies(regions))?;
-    }
-    for it in found.iter() {
-        print_found(rt, memory.file.as_str(), *it)?;
-    }
-    Ok(ExitCode::from(u8::from(found.is_empty())))
+    let file = file_of(rt.alloc(), name)?;
+    let mut regions = Vec::new(rt.alloc());
+    add_regions(rt, &mut regions, name)?;
+    let is_empty = list_memory(rt, file.as_str(), regions.as_slice())?;
+    Ok(ExitCode::from(u8::from(is_empty)))
 }

@@ -112,13 +112,25 @@ pub fn add_counter(found: &mut Vec<Found>, new: Found) -> Result<(), ShowFault<'
     Ok(())
 }
 
-/// The summary of a ring or a broadcast buffer.
-fn buffer_report(alloc: Global, kind: Kind, words: &[u64]) -> Result<Report, AllocError> {
-    if kind == Kind::Board {
-        return Report::of_board(alloc, words, SUMMARY);
-    }
+/// The summary of a ring.
+fn ring_report(alloc: Global, words: &[u64]) -> Result<Report, AllocError> {
     let words = formatted_words(alloc, words)?;
     Report::of_ring(alloc, words.as_slice(), SUMMARY)
+}
+
+/// The report of counters. Their values are elsewhere, so that words of 0 are taken in their place.
+fn counters_report(alloc: Global, words: &[u64]) -> Result<Report, AllocError> {
+    let values = vec![in alloc; 0u64; words.len() / 4]?;
+    Report::of_counters(alloc, words, values.as_slice(), FIRST)
+}
+
+/// The report of what was found in these words.
+fn report_of(alloc: Global, kind: Kind, words: &[u64]) -> Result<Report, AllocError> {
+    match kind {
+        Kind::Ring => ring_report(alloc, words),
+        Kind::Board => Report::of_board(alloc, words, SUMMARY),
+        Kind::Counters => counters_report(alloc, words),
+    }
 }
 
 /// How sure it is that this is a ring or a broadcast buffer, which has this many records.
@@ -130,13 +142,13 @@ fn sureness(kind: Kind, records: u64) -> &'static str {
     }
 }
 
-/// The lines of a ring or a broadcast buffer, of which this is the report.
-fn buffer_lines(
-    alloc: Global,
+/// Adds the lines of a ring or a broadcast buffer, of which this is the report.
+fn push_buffer(
+    text: &mut String,
     file: &str,
     found: Found,
     report: &Report,
-) -> Result<String, AllocError> {
+) -> Result<(), AllocError> {
     let Found {
         address,
         at,
@@ -145,109 +157,87 @@ fn buffer_lines(
     } = found;
     let sure = sureness(found.kind, report.unlisted);
     let (kind, length) = (report.kind, found.length());
-    format!(in alloc;
+    write!(
+        text,
         "\
 {kind} at 0x{address:x}  capacity {capacity}  ({sure})
   {}
   ring-show {kind} {file} --at 0x{at:x} --length {length}",
         report.summary
-    )
-}
-
-/// Adds where the bodies of a ring begin, if they lie apart, and ends the line.
-fn end_line(text: &mut String, bodies_at: Option<u64>) -> Result<(), AllocError> {
-    if let Some(bodies_at) = bodies_at {
+    )?;
+    if let Some(bodies_at) = found.bodies_at {
         write!(text, " --bodies-at 0x{bodies_at:x}")?;
     }
     text.push('\n')
 }
 
-/// The lines of a ring or a broadcast buffer.
-fn buffer_text(
-    alloc: Global,
-    file: &str,
-    found: Found,
-    words: &[u64],
-) -> Result<String, AllocError> {
-    let report = buffer_report(alloc, found.kind, words)?;
-    let mut text = buffer_lines(alloc, file, found, &report)?;
-    end_line(&mut text, found.bodies_at)?;
-    Ok(text)
-}
-
-/// Adds the id and the label of a counter. Returns whether it has a label.
-fn push_label(text: &mut String, row: &[Cell]) -> Result<bool, AllocError> {
-    let [Cell::Unsigned(id), _, _, _, _, _, _, Cell::Text(label), ..] = row else {
-        return Ok(false);
+/// Tests whether a counter has a label.
+fn has_label(row: &[Cell]) -> bool {
+    let [_, _, _, _, _, _, _, Cell::Text(label), ..] = row else {
+        return false;
     };
-    write!(text, "  {id} {label}")?;
-    Ok(!label.is_empty())
+    !label.is_empty()
 }
 
-/// Adds the ids and the labels of counters. Returns whether one has a label.
-fn push_labels(text: &mut String, rows: &[Vec<Cell>]) -> Result<bool, AllocError> {
-    let mut is_sure = false;
+/// Adds the id and the label of a counter.
+fn push_label(text: &mut String, row: &[Cell]) -> Result<(), AllocError> {
+    let [Cell::Unsigned(id), _, _, _, _, _, _, Cell::Text(label), ..] = row else {
+        return Ok(());
+    };
+    write!(text, "  {id} {label}")
+}
+
+/// Adds the ids and the labels of counters.
+fn push_labels(text: &mut String, rows: &[Vec<Cell>]) -> Result<(), AllocError> {
     for row in rows {
-        is_sure |= push_label(text, row.as_slice())?;
+        push_label(text, row.as_slice())?;
     }
-    Ok(is_sure)
+    Ok(())
 }
 
-/// The report of counters. Their values are elsewhere, so that words of 0 are taken in their place.
-fn counters_report(alloc: Global, words: &[u64]) -> Result<Report, AllocError> {
-    let values = vec![in alloc; 0u64; words.len() / 4]?;
-    Report::of_counters(alloc, words, values.as_slice(), FIRST)
-}
-
-/// The lines of counters, of which this is the report.
-fn counters_lines(
-    alloc: Global,
+/// Adds the lines of counters, of which this is the report.
+fn push_counters(
+    text: &mut String,
     file: &str,
     found: Found,
     report: &Report,
-) -> Result<String, AllocError> {
-    let mut labels = String::new(alloc);
-    let is_sure = push_labels(&mut labels, report.rows.as_slice())?;
-    let sure = if is_sure {
-        "sure"
-    } else {
-        "no label, so less sure"
-    };
+) -> Result<(), AllocError> {
     let Found {
         address,
         at,
         capacity,
         ..
     } = found;
-    format!(in alloc;
-        "\
-counters at 0x{address:x}  capacity {capacity}  ({sure})
-  {}:{labels}
-  ring-show counters {file} {file} --at 0x{at:x} --length {capacity} --values-at ADDRESS --values-length {}
-",
-        report.summary,
-        capacity / 4
+    let rows = report.rows.as_slice();
+    let sure = if rows.iter().any(|row| has_label(row.as_slice())) {
+        "sure"
+    } else {
+        "no label, so less sure"
+    };
+    write!(
+        text,
+        "counters at 0x{address:x}  capacity {capacity}  ({sure})\n  {}:",
+        report.summary
+    )?;
+    push_labels(text, rows)?;
+    let values = capacity / 4;
+    write!(
+        text,
+        "
+  ring-show counters {file} {file} --at 0x{at:x} --length {capacity} --values-at ADDRESS --values-length {values}
+"
     )
-}
-
-/// The lines of counters.
-fn counters_text(
-    alloc: Global,
-    file: &str,
-    found: Found,
-    words: &[u64],
-) -> Result<String, AllocError> {
-    let report = counters_report(alloc, words)?;
-    counters_lines(alloc, file, found, &report)
 }
 
 /// The lines of what was found in these words.
 fn text_of(alloc: Global, file: &str, found: Found, words: &[u64]) -> Result<String, AllocError> {
-    if found.kind == Kind::Counters {
-        counters_text(alloc, file, found, words)
-    } else {
-        buffer_text(alloc, file, found, words)
+    let report = report_of(alloc, found.kind, words)?;
+    let mut text = String::new(alloc);
+    match found.kind {
+        Kind::Counters => push_counters(&mut text, file, found, &report)?,
+        Kind::Ring | Kind::Board => push_buffer(&mut text, file, found, &report)?,
     }
+    Ok(text)
 }
 
 /// Prints the lines of what was found: its address, its capacity, how sure that is, its summary, and the command that

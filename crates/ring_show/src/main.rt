@@ -2,6 +2,7 @@
 //! and prints a table that a person reads, JSON, or the text format of Prometheus.
 #![tactic(auto)]
 
+mod arguments;
 mod bodies;
 mod cnc;
 mod fault;
@@ -17,7 +18,6 @@ mod watch;
 use cnc::show_cnc;
 use fault::ShowFault;
 use find::find_all;
-use memory::memory_of;
 use options::Task;
 use screen::{Screen, screen_of};
 use std::env;
@@ -79,10 +79,7 @@ fn do_task<'a, R: AllocGlobal + Clock + Files + Input + Print + Eprint>(
 ) -> Result<ExitCode, ShowFault<'a>> {
     match task {
         Task::Show(options) => show_often(rt, options, screen.is_terminal),
-        Task::Find(name) => {
-            let memory = memory_of(rt, name)?;
-            find_all(rt, &memory)
-        }
+        Task::Find(name) => find_all(rt, name),
         Task::Cnc { file, view, format } => show_cnc(rt, file, view, format),
     }
 }

@@ -17,13 +17,6 @@ pub struct Region {
     pub length: u64,
 }
 
-/// The file to be read, and the pieces of memory in it.
-#[derive(Drop)]
-pub struct Memory {
-    pub file: String,
-    pub regions: Vec<Region>,
-}
-
 /// The piece that a line of `/proc/PID/maps` names, if the program can write it.
 fn mapped(line: &str) -> Option<Region> {
     let (range, rest) = line.split_once(' ')?;
@@ -40,27 +33,27 @@ fn mapped(line: &str) -> Option<Region> {
     })
 }
 
-/// The pieces of memory that the lines of `/proc/PID/maps` name and the program can write.
-fn mapped_regions(alloc: Global, maps: &str) -> Result<Vec<Region>, AllocError> {
-    let mut regions = Vec::new(alloc);
+/// Adds the pieces of memory that the lines of `/proc/PID/maps` name and the program can write.
+fn add_mapped(regions: &mut Vec<Region>, maps: &str) -> Result<(), AllocError> {
     for line in maps.lines() {
         if let Some(region) = mapped(line) {
             regions.push(region)?;
         }
     }
-    Ok(regions)
+    Ok(())
 }
 
-/// The pieces of memory of a process that it can write.
-fn process_regions<'a, R: AllocGlobal + Files>(
+/// Adds the pieces of memory of a process that it can write.
+fn add_process<'a, R: AllocGlobal + Files>(
     rt: &R,
+    regions: &mut Vec<Region>,
     pid: &'a str,
-) -> Result<Vec<Region>, ShowFault<'a>> {
+) -> Result<(), ShowFault<'a>> {
     let path = format!(in rt.alloc(); "/proc/{pid}/maps")?;
-    let Ok(maps) = fs::read_to_string(rt, path.as_str()) else {
-        return Err(ShowFault::NoProcess { pid });
-    };
-    Ok(mapped_regions(rt.alloc(), maps.as_str())?)
+    match fs::read_to_string(rt, path.as_str()) {
+        Ok(maps) => Ok(add_mapped(regions, maps.as_str())?),
+        Err(_unread) => Err(ShowFault::NoProcess { pid }),
+    }
 }
 
 /// The first word of a core file: `ELF` in its 64-bit form, little-endian.
@@ -116,20 +109,22 @@ fn head_of<'a, R: AllocGlobal + Files + Input>(
     section_words(rt, section)
 }
 
-/// The pieces of memory that the program headers of a core file name.
-fn loaded_regions(alloc: Global, headers: &[u64]) -> Result<Vec<Region>, AllocError> {
-    let mut regions = Vec::new(alloc);
+/// Adds the pieces of memory that the program headers of a core file name.
+fn add_loaded(regions: &mut Vec<Region>, headers: &[u64]) -> Result<(), AllocError> {
     for header in headers.chunks(7) {
         if let Some(region) = loaded(header) {
             regions.push(region)?;
         }
     }
-    Ok(regions)
+    Ok(())
 }
 
-/// All of a file, if it says how long it is.
-fn whole_file<R: AllocGlobal + Files>(rt: &R, file: &str) -> Result<Vec<Region>, AllocError> {
-    let mut regions = Vec::new(rt.alloc());
+/// Adds all of a file, if it says how long it is.
+fn add_whole<R: AllocGlobal + Files>(
+    rt: &R,
+    regions: &mut Vec<Region>,
+    file: &str,
+) -> Result<(), AllocError> {
     if let Ok(metadata) = fs::metadata(rt, file) {
         regions.push(Region {
             address: 0,
@@ -137,51 +132,46 @@ fn whole_file<R: AllocGlobal + Files>(rt: &R, file: &str) -> Result<Vec<Region>,
             length: metadata.len(),
         })?;
     }
-    Ok(regions)
+    Ok(())
 }
 
-/// The pieces of memory in a core file; of any other file all of it.
-fn file_regions<'a, R: AllocGlobal + Files + Input>(
+/// Adds the pieces of memory in a core file; of any other file all of it.
+fn add_file<'a, R: AllocGlobal + Files + Input>(
     rt: &R,
+    regions: &mut Vec<Region>,
     file: &'a str,
-) -> Result<Vec<Region>, ShowFault<'a>> {
+) -> Result<(), ShowFault<'a>> {
     let head = head_of(rt, file)?;
     let Some(table) = program_headers(file, head.as_slice()) else {
-        return Ok(whole_file(rt, file)?);
+        return Ok(add_whole(rt, regions, file)?);
     };
     let headers = section_words(rt, table)?;
-    Ok(loaded_regions(rt.alloc(), headers.as_slice())?)
+    Ok(add_loaded(regions, headers.as_slice())?)
 }
 
-/// The memory of a process.
-fn memory_of_process<'a, R: AllocGlobal + Files>(
-    rt: &R,
-    pid: &'a str,
-) -> Result<Memory, ShowFault<'a>> {
-    let file = format!(in rt.alloc(); "/proc/{pid}/mem")?;
-    let regions = process_regions(rt, pid)?;
-    Ok(Memory { file, regions })
+/// Tests whether a name is the number of a process.
+fn is_pid(name: &str) -> bool {
+    !name.is_empty() && name.bytes().all(|byte| byte.is_ascii_digit())
 }
 
-/// The memory in a file.
-fn memory_of_file<'a, R: AllocGlobal + Files + Input>(
-    rt: &R,
-    name: &'a str,
-) -> Result<Memory, ShowFault<'a>> {
-    let file = String::from_str(rt.alloc(), name)?;
-    let regions = file_regions(rt, name)?;
-    Ok(Memory { file, regions })
-}
-
-/// The memory of a process, if the name is a number, or that in a file.
-pub fn memory_of<'a, R: AllocGlobal + Files + Input>(
-    rt: &R,
-    name: &'a str,
-) -> Result<Memory, ShowFault<'a>> {
-    let is_pid = !name.is_empty() && name.bytes().all(|byte| byte.is_ascii_digit());
-    if is_pid {
-        memory_of_process(rt, name)
+/// The file that has the memory of a process, if the name is a number, otherwise the one with this name.
+pub fn file_of(alloc: Global, name: &str) -> Result<String, AllocError> {
+    if is_pid(name) {
+        format!(in alloc; "/proc/{name}/mem")
     } else {
-        memory_of_file(rt, name)
+        String::from_str(alloc, name)
+    }
+}
+
+/// Adds the pieces of memory of a process, if the name is a number, otherwise those in a file.
+pub fn add_regions<'a, R: AllocGlobal + Files + Input>(
+    rt: &R,
+    regions: &mut Vec<Region>,
+    name: &'a str,
+) -> Result<(), ShowFault<'a>> {
+    if is_pid(name) {
+        add_process(rt, regions, name)
+    } else {
+        add_file(rt, regions, name)
     }
 }

@@ -1,8 +1,9 @@
 //! The command line.
+use crate::arguments::ARGUMENTS;
 use crate::fault::ShowFault;
 use crate::help;
 use crate::screen::Screen;
-use clap::{Arg, ArgAction, ArgMatches, Command, Error, value_parser};
+use clap::{ArgMatches, Command, Error};
 use ring_report::{Bodies, Section, View};
 use std::alloc::{AllocError, Global};
 
@@ -58,121 +59,39 @@ pub struct Options<'a> {
     pub times: u64,
 }
 
-static BODIES: [&str; 3] = ["hex", "text", "none"];
+/// The subcommands, and what is said of them.
+static SUBCOMMANDS: [(&str, &str); 5] = [
+    (
+        "ring",
+        "Lists the records of a ring between its head and its tail",
+    ),
+    (
+        "board",
+        "Lists the records of a broadcast buffer's current lap",
+    ),
+    (
+        "counters",
+        "Lists the counters in use and those that were freed, by rising id",
+    ),
+    (
+        "find",
+        "Looks for rings, broadcast buffers and counters in the memory of a process, in a core file or in a copy of memory",
+    ),
+    (
+        "cnc",
+        "Shows the ring, the broadcast buffer and the counters of Aeron's command-and-control file",
+    ),
+];
 
-static FORMATS: [&str; 3] = ["table", "json", "prometheus"];
-
-fn option<'a>(alloc: Global, name: &'a str, value: &'a str, text: &'a str) -> Arg<'a> {
-    Arg::new(alloc, name)
-        .long(name)
-        .value_name(value)
-        .action(ArgAction::Set)
-        .help(text)
-}
-
-fn number<'a>(alloc: Global, name: &'a str, value: &'a str, text: &'a str) -> Arg<'a> {
-    option(alloc, name, value, text).value_parser(value_parser!(u64))
-}
-
-fn choice<'a>(
-    alloc: Global,
-    name: &'a str,
-    choices: &'a [&'a str],
-    text: &'a str,
-    default: &'a str,
-) -> Arg<'a> {
-    Arg::new(alloc, name)
-        .long(name)
-        .action(ArgAction::Set)
-        .value_parser(choices)
-        .help(text)
-        .default_value(default)
-}
-
-fn file<'a>(alloc: Global, name: &'a str, text: &'a str) -> Arg<'a> {
-    Arg::new(alloc, name)
-        .required(true)
-        .action(ArgAction::Set)
-        .help(text)
-}
-
-/// A command with one argument more, unless memory ran out before.
-fn with<'a>(
-    command: Result<Command<'a>, AllocError>,
-    arg: Arg<'a>,
-) -> Result<Command<'a>, AllocError> {
-    command?.arg(arg)
-}
-
-/// A command with one subcommand more, unless memory ran out before.
-fn above<'a>(
-    command: Result<Command<'a>, AllocError>,
-    subcommand: Result<Command<'a>, AllocError>,
-) -> Result<Command<'a>, AllocError> {
-    command?.subcommand(subcommand?)
-}
-
-/// A subcommand with the options on what is printed.
-fn printed<'a>(alloc: Global, name: &'a str, about: &'a str) -> Result<Command<'a>, AllocError> {
-    let bodies = choice(alloc, "bodies", BODIES.as_slice(), help::BODIES, "hex");
-    let format = choice(alloc, "format", FORMATS.as_slice(), help::FORMAT, "table");
-    let command = Ok(Command::new(alloc, name).about(about));
-    let command = with(command, number(alloc, "limit", "N", help::LIMIT));
-    let command = with(command, number(alloc, "width", "N", help::WIDTH));
-    with(with(command, bodies), format)
-}
-
-/// A subcommand with the options that all have which show a known place.
-fn shown<'a>(alloc: Global, name: &'a str, about: &'a str) -> Result<Command<'a>, AllocError> {
-    let command = printed(alloc, name, about);
-    let command = with(command, option(alloc, "at", "BYTES", help::AT));
-    let command = with(command, option(alloc, "length", "BYTES", help::LENGTH));
-    let command = with(command, number(alloc, "every", "MS", help::EVERY));
-    with(command, number(alloc, "times", "N", help::TIMES))
-}
-
-/// A subcommand that lists the records of one file.
-fn listed<'a>(alloc: Global, name: &'a str, about: &'a str) -> Result<Command<'a>, AllocError> {
-    let command = shown(alloc, name, about);
-    let command = with(command, file(alloc, "FILE", help::FILE));
-    with(command, number(alloc, "from", "POSITION", help::FROM))
-}
-
-/// The subcommand that lists a ring.
-fn ringed<'a>(alloc: Global) -> Result<Command<'a>, AllocError> {
-    let command = listed(alloc, "ring", help::RING);
-    with(
-        command,
-        option(alloc, "bodies-at", "BYTES", help::BODIES_AT),
-    )
-}
-
-/// The subcommand that lists counters.
-fn counted<'a>(alloc: Global) -> Result<Command<'a>, AllocError> {
-    let command = shown(alloc, "counters", help::COUNTERS);
-    let command = with(command, file(alloc, "METADATA", help::METADATA));
-    let command = with(command, file(alloc, "VALUES", help::VALUES));
-    let command = with(
-        command,
-        option(alloc, "values-at", "BYTES", help::VALUES_AT),
-    );
-    let command = with(
-        command,
-        option(alloc, "values-length", "BYTES", help::LENGTH),
-    );
-    with(command, number(alloc, "from", "ID", help::FROM_ID))
-}
-
-/// The subcommand that looks for rings, broadcast buffers and counters.
-fn found<'a>(alloc: Global) -> Result<Command<'a>, AllocError> {
-    let command = Command::new(alloc, "find").about(help::FIND);
-    command.arg(file(alloc, "MEMORY", help::MEMORY))
-}
-
-/// The subcommand that shows a command-and-control file.
-fn filed<'a>(alloc: Global) -> Result<Command<'a>, AllocError> {
-    let command = printed(alloc, "cnc", help::CNC);
-    with(command, file(alloc, "FILE", help::CNC_FILE))
+/// A subcommand with its arguments.
+fn subcommand<'a>(alloc: Global, name: &'a str, about: &'a str) -> Result<Command<'a>, AllocError> {
+    let mut command = Command::new(alloc, name).about(about);
+    for argument in ARGUMENTS.iter() {
+        if argument.is_of(name) {
+            command = command.arg(argument.arg(alloc))?;
+        }
+    }
+    Ok(command)
 }
 
 /// The command without its subcommands.
@@ -183,10 +102,11 @@ fn bare<'a>(alloc: Global) -> Result<Command<'a>, AllocError> {
 }
 
 fn command<'a>(alloc: Global) -> Result<Command<'a>, AllocError> {
-    let command = above(bare(alloc), ringed(alloc));
-    let command = above(command, listed(alloc, "board", help::BOARD));
-    let command = above(command, counted(alloc));
-    above(above(command, found(alloc)), filed(alloc))
+    let mut command = bare(alloc)?;
+    for (name, about) in SUBCOMMANDS {
+        command = command.subcommand(subcommand(alloc, name, about)?)?;
+    }
+    Ok(command)
 }
 
 /// The name of the subcommand, and its arguments, from the words of a command line, the program's name first.

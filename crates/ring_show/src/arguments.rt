@@ -1,0 +1,163 @@
+//! The arguments of the subcommands.
+use clap::{Arg, ArgAction, value_parser};
+use std::alloc::Global;
+
+/// What an argument takes.
+#[derive(Clone, Copy)]
+enum Kind {
+    /// The name of a file, which has to be there.
+    Name,
+    /// An option with a number of bytes, which is called this.
+    Bytes(&'static str),
+    /// An option with a decimal number, which is called this.
+    Number(&'static str),
+    /// An option with one of these words, the last one if it is left out.
+    Choice(&'static [&'static str], &'static str),
+}
+
+/// An argument of some subcommands.
+#[derive(Clone, Copy)]
+pub struct Argument {
+    /// The names of these subcommands.
+    of: &'static str,
+    name: &'static str,
+    kind: Kind,
+    help: &'static str,
+}
+
+/// All arguments, in the order of the help.
+pub static ARGUMENTS: [Argument; 18] = [
+    Argument {
+        of: "ring board counters cnc",
+        name: "limit",
+        kind: Kind::Number("N"),
+        help: "List at most this many; all are counted",
+    },
+    Argument {
+        of: "ring board counters cnc",
+        name: "width",
+        kind: Kind::Number("N"),
+        help: "Draw a buffer in at most this many pieces [default: what COLUMNS has room for at a terminal, or 64]",
+    },
+    Argument {
+        of: "ring board counters cnc",
+        name: "bodies",
+        kind: Kind::Choice(&["hex", "text", "none"], "hex"),
+        help: "How bytes are shown",
+    },
+    Argument {
+        of: "ring board counters cnc",
+        name: "format",
+        kind: Kind::Choice(&["table", "json", "prometheus"], "table"),
+        help: "A table, JSON, or the text format of Prometheus",
+    },
+    Argument {
+        of: "ring board counters",
+        name: "at",
+        kind: Kind::Bytes("BYTES"),
+        help: "Where the copy begins in the file, in bytes, decimal or 0x.. [default: 0]",
+    },
+    Argument {
+        of: "ring board counters",
+        name: "length",
+        kind: Kind::Bytes("BYTES"),
+        help: "The number of its bytes [default: up to the end of the file]",
+    },
+    Argument {
+        of: "ring board counters",
+        name: "every",
+        kind: Kind::Number("MS"),
+        help: "Look again every MS milliseconds, and show rates",
+    },
+    Argument {
+        of: "ring board counters",
+        name: "times",
+        kind: Kind::Number("N"),
+        help: "End after N looks [default: with --every until it is interrupted]",
+    },
+    Argument {
+        of: "ring board",
+        name: "FILE",
+        kind: Kind::Name,
+        help: "The file with the copy; - is standard input",
+    },
+    Argument {
+        of: "ring board",
+        name: "from",
+        kind: Kind::Number("POSITION"),
+        help: "List from this position on, the start of a record",
+    },
+    Argument {
+        of: "ring",
+        name: "bodies-at",
+        kind: Kind::Bytes("BYTES"),
+        help: "Where the bodies begin in the file, if they lie apart from the ring's words",
+    },
+    Argument {
+        of: "counters",
+        name: "METADATA",
+        kind: Kind::Name,
+        help: "The file with the copy of the metadata, to which --at and --length belong",
+    },
+    Argument {
+        of: "counters",
+        name: "VALUES",
+        kind: Kind::Name,
+        help: "The file with the copy of the values; it may be the same file",
+    },
+    Argument {
+        of: "counters",
+        name: "values-at",
+        kind: Kind::Bytes("BYTES"),
+        help: "Where the copy of the values begins in its file [default: 0]",
+    },
+    Argument {
+        of: "counters",
+        name: "values-length",
+        kind: Kind::Bytes("BYTES"),
+        help: "The number of its bytes [default: up to the end of the file]",
+    },
+    Argument {
+        of: "counters",
+        name: "from",
+        kind: Kind::Number("ID"),
+        help: "List from this id on",
+    },
+    Argument {
+        of: "find",
+        name: "MEMORY",
+        kind: Kind::Name,
+        help: "The number of a process, or a file",
+    },
+    Argument {
+        of: "cnc",
+        name: "FILE",
+        kind: Kind::Name,
+        help: "The file",
+    },
+];
+
+impl Argument {
+    /// Tests whether a subcommand has it.
+    pub fn is_of(&self, subcommand: &str) -> bool {
+        self.of.contains(subcommand)
+    }
+
+    /// It as `clap` has it.
+    pub fn arg<'a>(&self, alloc: Global) -> Arg<'a> {
+        let name = self.name;
+        let arg = Arg::new(alloc, name).action(ArgAction::Set).help(self.help);
+        match self.kind {
+            Kind::Name => arg.required(true),
+            Kind::Bytes(value) => arg.long(name).value_name(value),
+            Kind::Number(value) => {
+                arg.long(name)
+                    .value_name(value)
+                    .value_parser(value_parser!(u64))
+            }
+            Kind::Choice(choices, default) => {
+                arg.long(name).value_parser(choices).default_value(default)
+            }
+        }
+    }
+}
