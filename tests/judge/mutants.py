@@ -36,7 +36,7 @@ CONDITION = re.compile(r"\bif (?=[a-z_][\w.:]*\([^{}<>=]*\) \{)")
 RANGE = re.compile(r"(?<=[\w)])\.\.(?=[\w(])")
 NUMBER = re.compile(r"(?<![\w.])\d[\d_]*(?![\w.])|(?<![\w.])\d[\d_]*(?=\.\.)|(?<=\.\.)\d[\d_]*(?!\w)")
 TRUTH = re.compile(r"\b(true|false)\b")
-LENGTH = re.compile(r"\.len\(\)(?! as\b)")
+LENGTH = re.compile(r"\.len\(\)(?! as\b|\.)")
 FIELD_OF = re.compile(r"(?:\b([a-z_]\w*)|[\])?])\.([a-z_]\w*)\b(?!\()")
 CONSTANT = re.compile(r"(?<![\w:])((?:[a-z_]\w*::)*)([A-Z][A-Z\d_]+)\b(?!::)")
 # Two neighbours in a list of arguments or of elements.
