@@ -4,12 +4,10 @@ ghost use Rattle.ring_rings.specs.Seats.{IsConsumerOf, IsProducerOf, MayClaim};
 
 use crate::fault::Fault;
 use crate::message::{Body, Sum, TYPE_ID};
-use crate::request::{Contender, Request, Workload};
+use crate::request::{Request, Workload};
 use crate::sample::Sample;
 use crate::task::{Task, time};
-use ring_rings::{
-    Consumer, Kind, ManyToOne, OneToOne, Producer, Ring, RingTable, SlotTable, Steps,
-};
+use ring_rings::{Consumer, Kind, Producer, Ring, Steps};
 use ring_words::SoloRing;
 use std::alloc::Global;
 use std::rt::Clock;
@@ -156,7 +154,9 @@ fn body_of(alloc: Global, request: &Request) -> Result<Body, Fault> {
     }
 }
 
-fn run_seated<K: Kind, B: Steps + Drop, R: Clock>(
+/// Writes and reads at least this many messages with a shared ring. `NO_CONTENDER` if the size is no multiple of 8;
+/// `NO_BUFFER` if there is no ring of that capacity; `REFUSED`, `STUCK` and `WRONG_MESSAGE` if messages are lost.
+pub fn run_batches<K: Kind, B: Steps + Drop, R: Clock>(
     rt: &R,
     alloc: Global,
     request: &Request,
@@ -167,7 +167,8 @@ fn run_seated<K: Kind, B: Steps + Drop, R: Clock>(
     run_lane(rt, lane, body, times)
 }
 
-fn run_solo<R: Clock>(
+/// The same with the ring of one owner.
+pub fn run_solo<R: Clock>(
     rt: &R,
     alloc: Global,
     request: &Request,
@@ -176,24 +177,4 @@ fn run_solo<R: Clock>(
     let body = body_of(alloc, request)?;
     let lane = SoloRing::new(alloc, request.capacity)?;
     run_lane(rt, lane, body, times)
-}
-
-/// Writes and reads at least this many messages. `NO_CONTENDER` if the size is no multiple of 8; `NO_BUFFER` if there
-/// is no ring of that capacity; `REFUSED`, `STUCK` and `WRONG_MESSAGE` if messages are lost.
-pub fn run_batches<R: Clock>(
-    rt: &R,
-    alloc: Global,
-    request: &Request,
-    times: u64,
-) -> Result<Sample, Fault> {
-    match request.contender {
-        Contender::Solo => run_solo(rt, alloc, request, times),
-        Contender::OneToOne => run_seated::<OneToOne, RingTable, R>(rt, alloc, request, times),
-        Contender::ManyToOne => run_seated::<ManyToOne, RingTable, R>(rt, alloc, request, times),
-        Contender::PlainOneToOne => run_seated::<OneToOne, SlotTable, R>(rt, alloc, request, times),
-        Contender::PlainManyToOne => {
-            run_seated::<ManyToOne, SlotTable, R>(rt, alloc, request, times)
-        }
-        _ => Err(Fault::NO_CONTENDER),
-    }
 }

@@ -1,14 +1,15 @@
 //! Finds how much fills the time that is asked for, and measures.
-use crate::batches::run_batches;
+use crate::batches::{run_batches, run_solo};
 use crate::broadcast::run_broadcast;
 use crate::counting::run_counters;
 use crate::fault::Fault;
 use crate::flow::run_flow;
 use crate::job::Job;
-use crate::request::Request;
+use crate::request::{Contender, Request};
 use crate::sample::Sample;
 use crate::storm::run_storm;
 use crate::trips::run_trips;
+use ring_rings::{Closes, Kind, ManyToOne, OneToOne, RingTable, SlotTable};
 use std::alloc::Global;
 use std::rt::Clock;
 use std::sync::Wait;
@@ -35,6 +36,42 @@ const TRIES: u32 = 8;
 /// The greatest step from one try to the next.
 const MOST_GROWTH: u64 = 64;
 
+/// Runs a job with a shared ring of a kind this many times.
+fn run_ring<R: Clock + Threads + Sync, K: Kind + Sync, B: Closes + Drop + Sync>(
+    rt: &R,
+    alloc: Global,
+    request: &Request,
+    job: Job,
+    times: u64,
+) -> Result<Sample, Fault> {
+    match job {
+        Job::Trips => run_trips::<R, K, B>(rt, alloc, request, times),
+        _ => run_batches::<K, B, R>(rt, alloc, request, times),
+    }
+}
+
+/// Runs a job with the ring that is asked for. `NO_CONTENDER` if it does not take part.
+fn run_any_ring<R: Clock + Threads + Sync>(
+    rt: &R,
+    alloc: Global,
+    request: &Request,
+    job: Job,
+    times: u64,
+) -> Result<Sample, Fault> {
+    match request.contender {
+        Contender::Solo => run_solo(rt, alloc, request, times),
+        Contender::OneToOne => run_ring::<R, OneToOne, RingTable>(rt, alloc, request, job, times),
+        Contender::ManyToOne => run_ring::<R, ManyToOne, RingTable>(rt, alloc, request, job, times),
+        Contender::PlainOneToOne => run_ring::<R, OneToOne, SlotTable>(
+            rt, alloc, request, job, times,
+        ),
+        Contender::PlainManyToOne => run_ring::<R, ManyToOne, SlotTable>(
+            rt, alloc, request, job, times,
+        ),
+        _ => Err(Fault::NO_CONTENDER),
+    }
+}
+
 /// Runs a job this many times.
 fn run<R: Clock + Threads + Sync + Wait>(
     rt: &R,
@@ -44,8 +81,7 @@ fn run<R: Clock + Threads + Sync + Wait>(
     times: u64,
 ) -> Result<Sample, Fault> {
     match job {
-        Job::Batches => run_batches(rt, alloc, request, times),
-        Job::Trips => run_trips(rt, alloc, request, times),
+        Job::Batches | Job::Trips => run_any_ring(rt, alloc, request, job, times),
         Job::Flow => run_flow(rt, alloc, request, times),
         Job::Broadcast => run_broadcast(rt, alloc, request, times),
         Job::Sets | Job::Gets | Job::Cycles | Job::WatchedSets => run_counters(

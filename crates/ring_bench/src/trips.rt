@@ -6,15 +6,15 @@ ghost use Rattle.ring_conductor.specs.Asking.{producer_of, receiver_of, IsSeated
 ghost use Rattle.ring_conductor.specs.Conducting.{IsConductorOf};
 
 use crate::fault::Fault;
-use crate::request::{Contender, Request};
+use crate::request::Request;
 use crate::rest::{Rest, TRIES};
 use crate::sample::{Detail, Sample};
 use crate::task::{Task, time};
 use ring_board::Board;
 use ring_conductor::Request::{Allocate, Set};
-use ring_conductor::{Client, Conductor, Polled, Reply};
+use ring_conductor::{Client, Conductor, Polled, Reply, Request as Command};
 use ring_counters::{CounterValues, CountersManager};
-use ring_rings::{Closes, Kind, ManyToOne, OneToOne, Ring, RingTable, SlotTable};
+use ring_rings::{Closes, Kind, Ring};
 use std::alloc::Global;
 use std::rt::Clock;
 use std::sync::atomic::{AtomicBool, Ordering};
@@ -58,19 +58,36 @@ fn receive(board: &Board, client: &mut Client, correlation: u64) -> Result<Reply
     Err(Fault::STUCK)
 }
 
-/// Sets the counter 0, and waits for the reply.
-fn set<K: Kind, B: Closes>(
+/// Sends a command, and waits for the reply.
+fn ask<K: Kind, B: Closes>(
     ring: &Ring<K, B>,
     board: &Board,
     client: &mut Client,
-    value: i64,
+    command: Command<'_>,
+) -> Result<Reply, Fault>
+    requires { IsSeatedAt K.many ring.now board.now client.old }
+    ensures { IsSeatedAt K.many ring.now board.now client.new }
+{
+    let correlation = client.send(ring, command)?;
+    receive(board, client, correlation)
+}
+
+/// Allocates the counter 0, and waits for the reply.
+fn allocate<K: Kind, B: Closes>(
+    ring: &Ring<K, B>,
+    board: &Board,
+    client: &mut Client,
 ) -> Result<(), Fault>
     requires { IsSeatedAt K.many ring.now board.now client.old }
     ensures { IsSeatedAt K.many ring.now board.now client.new }
 {
-    let correlation = client.send(ring, Set { id: 0, value })?;
-    match receive(board, client, correlation)? {
-        Reply::Done { .. } => Ok(()),
+    let command = Allocate {
+        type_id: 1,
+        key: &[],
+        label: &[],
+    };
+    match ask(ring, board, client, command)? {
+        Reply::Allocated { id: 0, .. } => Ok(()),
         _ => Err(Fault::WRONG_MESSAGE),
     }
 }
@@ -79,12 +96,16 @@ impl<'a, K: Kind, B: Closes, R: Clock> Task for Caller<'a, K, B, R> {
     ghost is_ready = { λ s. IsSeatedAt K.many s.ring.now s.board.now s.client };
 
     fn step(&mut self, number: u64) -> Result<(), Fault> {
-        set(
+        let value = number.cast_signed();
+        match ask(
             self.ring,
             self.board,
             &mut self.client,
-            number.cast_signed(),
-        )?;
+            Set { id: 0, value },
+        )? {
+            Reply::Done { .. } => {}
+            _ => return Err(Fault::WRONG_MESSAGE),
+        }
         let now = Instant::now(self.rt)?;
         let nanos = now.duration_since(self.last).as_nanos();
         self.trips.push(u32::try_from(nanos).unwrap_or(u32::MAX))?;
@@ -121,29 +142,6 @@ impl<K: Kind, B: Closes + Drop> Service<K, B> {
             conductor,
             client: Client::new(producer, receiver),
         })
-    }
-
-    /// Allocates the counter 0.
-    fn allocate(&mut self) -> Result<(), Fault>
-        requires conductor { IsConductorOf IsConsumerOf self.old.ring self.old.board self.old.values
-            self.old.conductor }
-        requires client { IsSeatedAt K.many self.old.ring self.old.board self.old.client }
-        ensures conductor { IsConductorOf IsConsumerOf self.new.ring self.new.board self.new.values
-            self.new.conductor }
-        ensures client { IsSeatedAt K.many self.new.ring self.new.board self.new.client }
-    {
-        let allocate = Allocate {
-            type_id: 1,
-            key: &[],
-            label: &[],
-        };
-        let correlation = self.client.send(&self.ring, allocate)?;
-        self.conductor
-            .do_work(&self.ring, &self.board, &self.values, 0, LIMIT);
-        match receive(&self.board, &mut self.client, correlation)? {
-            Reply::Allocated { id: 0, .. } => Ok(()),
-            _ => Err(Fault::WRONG_MESSAGE),
-        }
     }
 }
 
@@ -198,6 +196,19 @@ fn sample_of(nanos: u64, mut trips: Vec<u32>) -> Result<Sample, Fault> {
     })
 }
 
+/// Allocates the counter 0, and then sends all commands. Returns the nanoseconds that these took.
+fn call_often<R: Clock, K: Kind, B: Closes>(
+    rt: &R,
+    caller: &mut Caller<'_, K, B, R>,
+    times: u64,
+) -> Result<u64, Fault>
+    requires { IsSeatedAt K.many caller.old.ring.now caller.old.board.now caller.old.client }
+{
+    allocate(caller.ring, caller.board, &mut caller.client)?;
+    caller.last = Instant::now(rt)?;
+    time(rt, caller, times)
+}
+
 /// Sends all commands, and then says the conductor to stop.
 fn call_all<R: Clock, K: Kind, B: Closes>(
     rt: &R,
@@ -207,7 +218,7 @@ fn call_all<R: Clock, K: Kind, B: Closes>(
 ) -> Result<Sample, Fault>
     requires { IsSeatedAt K.many caller.ring.now caller.board.now caller.client }
 {
-    let nanos = time(rt, &mut caller, times);
+    let nanos = call_often(rt, &mut caller, times);
     stop.store(true, Ordering::SeqCst);
     sample_of(nanos?, caller.trips)
 }
@@ -224,6 +235,7 @@ fn check_last(conductor: &Conductor, times: u64) -> Result<(), Fault> {
 fn run_service<R: Clock + Threads + Sync, K: Kind + Sync, B: Closes + Drop + Sync>(
     rt: &R,
     service: Service<K, B>,
+    last: Instant,
     trips: Vec<u32>,
     times: u64,
 ) -> Result<Sample, Fault>
@@ -239,7 +251,6 @@ fn run_service<R: Clock + Threads + Sync, K: Kind + Sync, B: Closes + Drop + Syn
     } = service;
     let stop = AtomicBool::new(false);
     let (ring, board, values, stop) = (&ring, &board, &values, &stop);
-    let last = Instant::now(rt)?;
     let caller = Caller {
         rt,
         ring,
@@ -260,35 +271,16 @@ fn run_service<R: Clock + Threads + Sync, K: Kind + Sync, B: Closes + Drop + Syn
     check_last(&conductor, times).and(sample)
 }
 
-fn run_kind<R: Clock + Threads + Sync, K: Kind + Sync, B: Closes + Drop + Sync>(
-    rt: &R,
-    alloc: Global,
-    capacity: u32,
-    times: u64,
-) -> Result<Sample, Fault> {
-    let trips = Vec::with_capacity(alloc, times.min(1 << 24) as usize)?;
-    let mut service = Service::<K, B>::open(alloc, capacity)?;
-    service.allocate()?;
-    run_service(rt, service, trips, times)
-}
-
-/// Sends this many commands, one after another, and waits for each reply. `NO_CONTENDER` if no such ring takes part,
-/// `NO_BUFFER` if there is none of that capacity; `REFUSED`, `STUCK` and `WRONG_MESSAGE` if commands or replies are
-/// lost.
-pub fn run_trips<R: Clock + Threads + Sync>(
+/// Sends this many commands, one after another, and waits for each reply. `NO_BUFFER` if there is no ring of that
+/// capacity; `REFUSED`, `STUCK` and `WRONG_MESSAGE` if commands or replies are lost.
+pub fn run_trips<R: Clock + Threads + Sync, K: Kind + Sync, B: Closes + Drop + Sync>(
     rt: &R,
     alloc: Global,
     request: &Request,
     times: u64,
 ) -> Result<Sample, Fault> {
-    let capacity = request.capacity;
-    match request.contender {
-        Contender::OneToOne => run_kind::<R, OneToOne, RingTable>(rt, alloc, capacity, times),
-        Contender::ManyToOne => run_kind::<R, ManyToOne, RingTable>(rt, alloc, capacity, times),
-        Contender::PlainOneToOne => run_kind::<R, OneToOne, SlotTable>(rt, alloc, capacity, times),
-        Contender::PlainManyToOne => run_kind::<R, ManyToOne, SlotTable>(
-            rt, alloc, capacity, times,
-        ),
-        _ => Err(Fault::NO_CONTENDER),
-    }
+    let last = Instant::now(rt)?;
+    let trips = Vec::with_capacity(alloc, times.min(1 << 24) as usize)?;
+    let service = Service::<K, B>::open(alloc, request.capacity)?;
+    run_service(rt, service, last, trips, times)
 }
