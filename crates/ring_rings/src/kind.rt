@@ -72,8 +72,8 @@ pub trait Kind: Sized {
         Ok(Claim::new(ring.capacity, admission.place, wanted))
     }
 
-    /// Makes one try to write, as `OneToOneRing::write` or `ManyToOneRing::write_once` does. It never waits.
-    #[inline(always)]
+    /// Makes one try to write, as `OneToOneRing::write` or `ManyToOneRing::write_once` does. It never waits. Each kind has
+    /// its own body, since one that the trait gives is not inlined, which costs a fifth of the time of 8 bytes.
     fn write_once<B: Steps>(
         ring: &Ring<Self, B>,
         producer: &mut Producer,
@@ -88,19 +88,7 @@ pub trait Kind: Sized {
         ensures refused { IfErr result (λ fault.
             RefusesTry many (capacity_of ring.now) type_id (length body.now)
             (view_of producer.old) fault (view_of producer.new)) }
-        ensures holdings { OpensNone ring.now producer.old producer.new }
-    {
-        let wanted = Wanted {
-            type_id,
-            len: body.len(),
-        };
-        let (words, own_tail) = (&ring.table, producer.own_tail);
-        let seat = &mut producer.seat;
-        let admission = Self::try_move(words, seat, ring.capacity, own_tail, wanted)?;
-        store_whole(words, seat, ring.capacity, admission, wanted, body);
-        producer.own_tail = admission.end;
-        Ok(())
-    }
+        ensures holdings { OpensNone ring.now producer.old producer.new };
 }
 
 impl Kind for OneToOne {
@@ -119,6 +107,25 @@ impl Kind for OneToOne {
         find_room(words, seat, capacity, admission)?;
         words.store_tail(seat, capacity, admission.end, wanted);
         Ok(admission)
+    }
+
+    #[inline(always)]
+    fn write_once<B: Steps>(
+        ring: &Ring<Self, B>,
+        producer: &mut Producer,
+        type_id: i32,
+        body: &[u8],
+    ) -> Result<(), TryFault> {
+        let wanted = Wanted {
+            type_id,
+            len: body.len(),
+        };
+        let (words, own_tail) = (&ring.table, producer.own_tail);
+        let seat = &mut producer.seat;
+        let admission = Self::try_move(words, seat, ring.capacity, own_tail, wanted)?;
+        store_whole(words, seat, ring.capacity, admission, wanted, body);
+        producer.own_tail = admission.end;
+        Ok(())
     }
 }
 
@@ -142,5 +149,24 @@ impl Kind for ManyToOne {
             return Err(TryFault::Contended { tail, seen });
         }
         Ok(admission)
+    }
+
+    #[inline(always)]
+    fn write_once<B: Steps>(
+        ring: &Ring<Self, B>,
+        producer: &mut Producer,
+        type_id: i32,
+        body: &[u8],
+    ) -> Result<(), TryFault> {
+        let wanted = Wanted {
+            type_id,
+            len: body.len(),
+        };
+        let (words, own_tail) = (&ring.table, producer.own_tail);
+        let seat = &mut producer.seat;
+        let admission = Self::try_move(words, seat, ring.capacity, own_tail, wanted)?;
+        store_whole(words, seat, ring.capacity, admission, wanted, body);
+        producer.own_tail = admission.end;
+        Ok(())
     }
 }

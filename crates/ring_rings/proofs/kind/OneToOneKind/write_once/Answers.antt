@@ -5,7 +5,7 @@ use Rattle.ring_layout.proofs.CapacityLemmas.{capacity_blocks}
 use Rattle.ring_layout.proofs.PlaceLemmas.{next_within, span_bounds}
 use Rattle.std.proofs.lemmas.List.{length-replicate}
 use Rattle.ring_rings.proofs.MadeLemmas.{keeps_claims, moved_made, moved_newest, moved_recorded, written_claims, written_leaves, written_seat, written_view}
-use Rattle.ring_rings.proofs.kind.Kind.write_once.Goals as goal
+use Rattle.ring_rings.proofs.kind.OneToOneKind.write_once.Goals as goal
 
 pub store_whole-requires-clause-inside : goal.store_whole-requires-clause-inside
 store_whole-requires-clause-inside g c =

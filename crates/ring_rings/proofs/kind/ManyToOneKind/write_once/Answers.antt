@@ -1,0 +1,62 @@
+use Rattle.std.proofs.Common.{◌≡◌, ℕ, ◌%◌, length, refl, ap, ◌∙◌, arith, rules}
+use Rattle.ring_layout.specs.History.{span}
+use Rattle.ring_layout.specs.Places.{next_place}
+use Rattle.ring_layout.proofs.CapacityLemmas.{capacity_blocks}
+use Rattle.ring_layout.proofs.PlaceLemmas.{next_within, span_bounds}
+use Rattle.std.proofs.lemmas.List.{length-replicate}
+use Rattle.ring_rings.proofs.MadeLemmas.{keeps_claims, moved_made, moved_newest, moved_recorded, written_claims, written_leaves, written_seat, written_view}
+use Rattle.ring_rings.proofs.kind.ManyToOneKind.write_once.Goals as goal
+
+pub store_whole-requires-clause-inside : goal.store_whole-requires-clause-inside
+store_whole-requires-clause-inside g c =
+    let C : ℕ = c.args.ring.now.capacity in
+    let len : ℕ = length c.args.body.now in
+    let admitted = c.in_ok-admission.ensures.told.0.admitted in
+    let tail : ℕ = c.in_ok-admission.admission.tail in
+    let lawful = c.args.ring.now.lawful in
+    let bounds = span_bounds len in
+    let short = admitted.message.short in
+    let zeros = length-replicate {A = ℕ} len 0 in
+    let within = next_within C tail (span len) (omega (arith, lawful.least))
+    (omega (arith, lawful.least, capacity_blocks C lawful, short, zeros, bounds.2)) in
+    let same : c.in_ok-admission.admission.place % C ≡ next_place C tail (span len) % C =
+    ap (λ (n : ℕ). n % C) admitted.place in
+    omega (arith, within, same, bounds.1)
+
+pub invariant_of-producer-2 : goal.invariant_of-producer-2
+invariant_of-producer-2 g c =
+    let moved = c.in_ok-admission.ensures.told.0 in
+    let known = c.args.producer.now.known in
+    let seat = written_seat (moved_made moved known.rising) c.args.body.now refl
+    c.store_whole.new.seat.me.0 (moved_recorded moved c.args.body.now refl
+    c.store_whole.new.seat.me.0 (c.store_whole.ensures.stored _ _ (moved_newest moved))) known
+    c.args.producer.now.produces
+    (c.store_whole.ensures.seat.slots ∙ c.in_ok-admission.ensures.seat.slots) in
+    record {
+      known = seat.0;
+      produces = seat.1;
+      home = c.store_whole.ensures.seat.out ∙ c.in_ok-admission.ensures.seat.out ∙ c.args.producer.now.home;
+    }
+
+pub returns-clause-written : goal.returns-clause-written
+returns-clause-written g c =
+    let moved = c.in_ok-admission.ensures.told.0 in
+    let view = written_view (moved_made moved c.args.producer.now.known.rising) c.args.body.now refl
+    c.store_whole.new.seat.me.0 (moved_recorded moved c.args.body.now refl
+    c.store_whole.new.seat.me.0 (c.store_whole.ensures.stored _ _ (moved_newest moved))) in
+    search rules
+
+pub returns-clause-holdings : goal.returns-clause-holdings
+returns-clause-holdings g c =
+    let moved = c.in_ok-admission.ensures.told.0 in
+    let made = moved_made moved c.args.producer.now.known.rising in
+    let stored = moved_recorded moved c.args.body.now refl
+    c.store_whole.new.seat.me.0 (c.store_whole.ensures.stored _ _ (moved_newest moved)) in
+    let left = written_leaves made c.args.body.now refl c.store_whole.new.seat.me.0 stored in
+    record {
+      holdings = record {
+        claims = keeps_claims _ (written_claims made c.args.body.now refl c.store_whole.new.seat.me.0 stored);
+        shares = left.shares;
+      };
+      open_claims = left.open_claims;
+    }
