@@ -132,10 +132,11 @@ impl<K: Kind, B: Closes + Drop> Service<K, B> {
             self.new.conductor }
         ensures client { IsSeatedAt K.is_for_one self.new.ring self.new.board self.new.client }
     {
+        let (key, label): (&[u8], &[u8]) = (&[], &[]);
         let allocate = Allocate {
             type_id: 1,
-            key: &[],
-            label: &[],
+            key,
+            label,
         };
         let correlation = self.client.send(&self.ring, allocate)?;
         self.conductor

@@ -2,7 +2,6 @@
 ghost use Rattle.std.specs.Prelude.{◌≡◌, length};
 
 mod calls;
-pub(crate) mod request;
 
 use ring_board::{CopyReceiver, Lapped};
 use ring_protocol::{LONGEST_COMMAND, Reply};

@@ -20,5 +20,4 @@ pub use fault::LineFault;
 pub use line::Line;
 pub use lines::{Lines, MAX_INPUT};
 pub use moment::Moment;
-pub use request::Request;
 pub use service_call::ServiceCall;

@@ -4,8 +4,9 @@ ghost use Rattle.ring_lines.specs.Text.{words_of};
 
 use crate::fault::LineFault;
 use crate::moment::Moment;
-use crate::request::Request;
+use crate::request;
 use crate::words::Words;
+use ring_protocol::Request;
 use std::alloc::Global;
 
 /// A call of the command ring, of the conductor or of what it serves, as a line asks for it.
@@ -14,7 +15,7 @@ pub enum ServiceCall {
     /// `send TYPE HEX`
     Send { type_id: i32, body: Vec<u8> },
     /// A command, which gets a correlation id.
-    Request(Request),
+    Request(Request<Vec<u8>>),
     /// `work NOW LIMIT`
     Work { now: Moment, limit: u32 },
     /// `listen`
@@ -54,7 +55,7 @@ impl ServiceCall {
             _ if name == b"counters".as_slice() => Self::counters(words),
             _ if name == b"watch".as_slice() => Self::watch(words),
             _ if name == b"unwatch".as_slice() => Self::unwatch(words),
-            _ => Ok(ServiceCall::Request(Request::parse(alloc, name, words)?)),
+            _ => Ok(ServiceCall::Request(request::parse(alloc, name, words)?)),
         }
     }
 

@@ -1,8 +1,10 @@
-//! What a client asks of the conductor.
-ghost use Rattle.std.specs.Prelude.{◌≡◌, ◌+◌, ◌^◌, ◌<◌, ◌↔◌, length, IfSome, IsSome};
+//! What a client sends to the conductor.
+ghost use Rattle.std.specs.Prelude.{◌≡◌, ◌↔◌, length, IfSome, IsSome};
 
 pub mod decode;
 pub mod encode;
+
+use crate::request::Request;
 
 /// The type ids of commands.
 pub mod type_ids {
@@ -26,7 +28,7 @@ pub mod type_ids {
 /// have.
 pub const LONGEST_COMMAND: usize = 520;
 
-/// A command. Its reply carries the same correlation id. A command that was decoded borrows its key and its label
+/// A command: a request and its correlation id. Its reply carries the same correlation id. A command that was decoded borrows its key and its label
 /// from the bytes.
 #[derive(Clone, Copy, Debug, PartialEq, Eq)]
 pub enum Command<'a> {
@@ -63,26 +65,46 @@ pub enum Command<'a> {
     },
 }
 
-impl Command<'_> {
-    ghost use Rattle.ring_protocol.specs.Command.{HasTextLengths, content_of, correlation_id_of};
+impl<'a> Command<'a> {
+    ghost use Rattle.ring_protocol.specs.Command.{HasTextLengths, asked, content_of};
     ghost use Rattle.ring_protocol.specs.Command.{spelling_of, type_id_of};
 
-    /// The type id of the message that spells the command.
-    pub fn type_id(&self) -> i32
-        ensures { result ≡ type_id_of (content_of self.now) }
+    /// What it asks for, without the correlation id.
+    pub fn request(&self) -> Request<&'a [u8]>
+        ensures { asked result (content_of self.now).correlation ≡ content_of self.now }
     {
-        match self {
-            Command::Allocate { .. } => type_ids::ALLOCATE,
-            Command::Free { .. } => type_ids::FREE,
-            Command::Set { .. } => type_ids::SET,
-            Command::AllocateOwned { .. } => type_ids::ALLOCATE_OWNED,
-            Command::Close { .. } => type_ids::CLOSE,
+        match *self {
+            Command::Allocate {
+                type_id,
+                key,
+                label,
+                ..
+            } => Request::Allocate {
+                type_id,
+                key,
+                label,
+            },
+            Command::Free { id, .. } => Request::Free { id },
+            Command::Set { id, value, .. } => Request::Set { id, value },
+            Command::AllocateOwned {
+                type_id,
+                owner,
+                key,
+                label,
+                ..
+            } => Request::AllocateOwned {
+                type_id,
+                owner,
+                key,
+                label,
+            },
+            Command::Close { owner, .. } => Request::Close { owner },
         }
     }
 
     /// The correlation id, which its reply carries too.
     pub fn correlation(&self) -> u64
-        ensures { result ≡ correlation_id_of (content_of self.now) }
+        ensures { result ≡ (content_of self.now).correlation }
     {
         match *self {
             Command::Allocate { correlation, .. } => correlation,
@@ -93,30 +115,19 @@ impl Command<'_> {
         }
     }
 
+    /// The type id of the message that spells the command.
+    pub fn type_id(&self) -> i32
+        ensures { result ≡ type_id_of (content_of self.now) }
+    {
+        self.request().type_id()
+    }
+
     /// Returns the length of its encoding in bytes, at most `LONGEST_COMMAND` if its key and its label are not too long
     /// for a counter. `None` if the key or the label is longer than 2^32 - 1 bytes: such a command cannot be encoded.
     pub fn encoded_len(&self) -> Option<usize>
-        ensures fits { IsSome result ↔ HasTextLengths (content_of self.now) }
+        ensures fits { IsSome result ↔ HasTextLengths (content_of self.now).request }
         ensures len { IfSome result (λ n. n ≡ length (spelling_of (content_of self.now))) }
     {
-        match self {
-            Command::Allocate { key, label, .. } => Some(12 + sized_len(key)? + sized_len(label)?),
-            Command::Free { .. } => Some(12),
-            Command::Set { .. } => Some(20),
-            Command::AllocateOwned { key, label, .. } => {
-                Some(20 + sized_len(key)? + sized_len(label)?)
-            }
-            Command::Close { .. } => Some(16),
-        }
+        self.request().encoded_len()
     }
-}
-
-/// The number of bytes that a field of these bytes takes, with the length before them, if four bytes can hold the
-/// length.
-fn sized_len(bytes: &[u8]) -> Option<usize>
-    ensures fits { IsSome result ↔ (length bytes.now < 2 ^ 32) }
-    ensures len { IfSome result (λ n. n ≡ 4 + length bytes.now) }
-{
-    u32::try_from(bytes.len()).ok()?;
-    Some(4 + bytes.len())
 }

@@ -1,5 +1,6 @@
 //! Commands and replies, and how they are spelled as bytes and read again.
 //!
+//! - `request`: what is asked.
 //! - `command`, `reply`: the messages; `encode` and `decode` of each are in its folder.
 //! - `fields`: the fields of a body, read from its front and written over the start of an output.
 //! - `codes`, `fault`: why a command is refused, and why bytes are no message.
@@ -12,13 +13,15 @@ mod fault;
 mod fields;
 mod laws;
 mod reply;
+mod request;
 
 pub use codes::{RefusalCode, UnknownCode};
 pub use command::decode::decode_command;
-pub use command::encode::encode_command;
+pub use command::encode::{encode_command, encode_request};
 pub use command::{Command, LONGEST_COMMAND, type_ids as command_type_ids};
 pub use fault::Bad;
 pub use laws::{command_round_trip, longest_command, one_command, one_reply, reply_round_trip};
 pub use reply::decode::decode_reply;
 pub use reply::encode::encode_reply;
 pub use reply::{LONGEST_REPLY, Reply, type_ids as reply_type_ids};
+pub use request::Request;

@@ -9,7 +9,7 @@ use Rattle.ring_counters.specs.declared.fault.OutOfMemory.{OutOfMemory}
 use Rattle.ring_counters.specs.declared.info.CounterInfo.{CounterInfo}
 use Rattle.ring_conductor.specs.declared.conductor.Work.{Work}
 use Rattle.ring_conductor.specs.Conducting.{Works, ledger_of, manager_in, ring_view}
-use Rattle.ring_lines.specs.declared.request.Request.{Request}
+use Rattle.ring_protocol.specs.declared.request.Request.{Request}
 use Rattle.ring_loose.specs.Claims.{RefusesAfter, WritesAfter}
 use Rattle.ring_scenario.specs.Instructions.{FitsRoom}
 use Rattle.ring_scenario.specs.Keeping.{KeepsButConductor, KeepsButProducer}
@@ -30,7 +30,7 @@ pub record SendsLine (type_id : ℤ) (body : List ℕ) (old new : CommandService
   pub prints : text ≡ done_text claim_refused sent
 
 -- a command was sent, or refused
-pub record RequestsLine (request : Request) (old new : CommandService) (text : List ℕ) : Type 0 where
+pub record RequestsLine (request : Request (List ℕ)) (old new : CommandService) (text : List ℕ) : Type 0 where
   pub sent : Result ℕ ClaimFault
   pub fits : FitsRoom request
   pub written : IfOk sent (λ correlation.

@@ -7,10 +7,9 @@ ghost use Rattle.ring_board.specs.Seats.{IsReceiverOf};
 ghost use Rattle.ring_conductor.specs.Asking.{IsHeard, IsSendable, RefusesAs, RefusesSend, Sends, SendsAs};
 ghost use Rattle.ring_conductor.specs.Asking.{client_seat, client_view, producer_of, receiver_of};
 
-use crate::client::request::Request;
 use crate::client::{Client, Polled, SendFault};
 use ring_board::{Board, CopyReceiver};
-use ring_protocol::{LONGEST_COMMAND, decode_reply, encode_command};
+use ring_protocol::{LONGEST_COMMAND, Request, decode_reply, encode_request};
 use ring_rings::{Kind, Producer, Ring, Steps};
 
 impl Client {
@@ -71,7 +70,7 @@ impl Client {
         &mut self,
         ring: &Ring<K, B>,
         correlation: u64,
-        request: Request<'_>,
+        request: Request<&[u8]>,
     ) -> Result<(), SendFault>
         requires producer { IsProducerOf ring.now (producer_of self.old) }
         requires sole { MayClaim K.is_for_one (producer_of self.old) }
@@ -83,14 +82,13 @@ impl Client {
         ensures holdings { OpensNone ring.now (producer_of self.old) (producer_of self.new) }
         ensures receiver { receiver_of self.new ≡ receiver_of self.old }
     {
-        let command = request.with_correlation(correlation);
-        let Some(len) = encode_command(&command, self.buffer.as_mut_slice()) else {
+        let Some(len) = encode_request(correlation, request, self.buffer.as_mut_slice()) else {
             return Err(SendFault::TooLong);
         };
         match K::write_once(
             ring,
             &mut self.producer,
-            command.type_id(),
+            request.type_id(),
             &self.buffer[..len],
         ) {
             Ok(()) => Ok(()),
@@ -110,7 +108,7 @@ impl Client {
     pub fn send<K: Kind, B: Steps>(
         &mut self,
         ring: &Ring<K, B>,
-        request: Request<'_>,
+        request: Request<&[u8]>,
     ) -> Result<u64, SendFault>
         requires producer { IsProducerOf ring.now (producer_of self.old) }
         requires sole { MayClaim K.is_for_one (producer_of self.old) }
@@ -122,7 +120,7 @@ impl Client {
         ensures holdings { OpensNone ring.now (producer_of self.old) (producer_of self.new) }
         ensures receiver { receiver_of self.new ≡ receiver_of self.old }
     {
-        match request.with_correlation(0).encoded_len() {
+        match request.encoded_len() {
             Some(len) if len <= LONGEST_COMMAND => {}
             _ => return Err(SendFault::TooLong),
         }

@@ -2,7 +2,8 @@
 
 ghost use Rattle.std.specs.Prelude.{◌≡◌, ◌^◌, ◌≤◌};
 ghost use Rattle.ring_counters.specs.Manager.{registry_of, IsManagerOf};
-ghost use Rattle.ring_protocol.specs.Command.{content_of, Free as FreeOf, Set as SetOf, Close as CloseOf};
+ghost use Rattle.ring_protocol.specs.Command.{content_of};
+ghost use Rattle.ring_protocol.specs.declared.request.Request.TheVariants.{Free as FreeOf, Set as SetOf, Close as CloseOf};
 ghost use Rattle.ring_protocol.specs.declared.reply.Reply.TheVariants.{Refused};
 ghost use Rattle.ring_conductor.specs.Applied.{applied, obeyed};
 ghost use Rattle.ring_conductor.specs.Applying.{Applies, allocates};
@@ -51,7 +52,7 @@ fn allocate(
 
 fn free(counters: &mut CountersManager, now: u64, correlation: u64, id: u32) -> Reply
     requires { now ≤ 2 ^ 62 }
-    ensures { Applies (obeyed now (registry_of counters.old) (FreeOf correlation id))
+    ensures { Applies (obeyed now (registry_of counters.old) correlation (FreeOf id))
         counters.old counters.new result }
 {
     match counters.free(now, id) {
@@ -68,7 +69,7 @@ fn set(
     value: i64,
 ) -> Reply
     requires { IsManagerOf values.now counters.old }
-    ensures { Applies (obeyed 0 (registry_of counters.old) (SetOf correlation id value))
+    ensures { Applies (obeyed 0 (registry_of counters.old) correlation (SetOf id value))
         counters.old counters.new result }
 {
     match counters.set(values, id, value) {
@@ -79,7 +80,7 @@ fn set(
 
 fn close(counters: &mut CountersManager, now: u64, correlation: u64, owner: u64) -> Reply
     requires { now ≤ 2 ^ 62 }
-    ensures { Applies (obeyed now (registry_of counters.old) (CloseOf correlation owner))
+    ensures { Applies (obeyed now (registry_of counters.old) correlation (CloseOf owner))
         counters.old counters.new result }
 {
     match counters.close_owner(now, owner) {
@@ -97,8 +98,8 @@ fn obey(
 ) -> Reply
     requires values { IsManagerOf values.now counters.old }
     requires now { now ≤ 2 ^ 62 }
-    ensures { Applies (obeyed now (registry_of counters.old) (content_of command.entry))
-        counters.old counters.new result }
+    ensures { let c = content_of command.entry in
+        Applies (obeyed now (registry_of counters.old) c.correlation c.request) counters.old counters.new result }
 {
     match command {
         Command::Allocate {

@@ -1,15 +1,16 @@
 //! What the calls of the conductor's side print.
 ghost use Rattle.std.specs.Prelude.{◌≡◌, IfErr, IfOk, string_bytes};
 ghost use Rattle.ring_loose.specs.Held.{IsFree, held_in};
+ghost use Rattle.ring_protocol.specs.Command.{content_of_request};
 ghost use Rattle.ring_scenario.specs.Instructions.{FitsRoom};
 ghost use Rattle.ring_scenario.specs.ServiceTexts.{counter_text, counters_text, work_stop_text};
 
 use super::Runner;
 use crate::printer::hex_word;
 use crate::refusal::Refusal;
-use ring_conductor::{Work, WorkStop};
+use ring_conductor::{Request, Work, WorkStop};
 use ring_counters::CounterInfo;
-use ring_lines::{LineFault, Moment, Request, ServiceCall};
+use ring_lines::{LineFault, Moment, ServiceCall};
 use std::alloc::{AllocError, Global};
 use std::sync::Wait;
 
@@ -29,7 +30,7 @@ impl Runner {
         self.serves = true;
         let text = match call {
             ServiceCall::Send { type_id, body } => self.send(rt, type_id, body.as_slice())?,
-            ServiceCall::Request(request) => self.request(rt, &request)?,
+            ServiceCall::Request(request) => self.request(rt, request.as_slices())?,
             ServiceCall::Work { now, limit } => self.work(now, limit)?,
             ServiceCall::Listen => self.listen()?,
             ServiceCall::Hear { number } => self.hear(number)?,
@@ -54,11 +55,11 @@ impl Runner {
         self.done(sent)
     }
 
-    fn request<R: Wait>(&mut self, rt: &R, request: &Request) -> Result<String, LineFault>
-        ensures line { IfOk result (λ text.
-            RequestsLine request.now self.old.service self.new.service (string_bytes text)) }
+    fn request<R: Wait>(&mut self, rt: &R, request: Request<&[u8]>) -> Result<String, LineFault>
+        ensures line { IfOk result (λ text. RequestsLine (content_of_request request.entry) self.old.service
+            self.new.service (string_bytes text)) }
         ensures rest { KeepsOthers self.old self.new }
-        ensures bad { IfErr result (λ fault. fault ≡ LineFault.Bad → ¬ FitsRoom request.now) }
+        ensures bad { IfErr result (λ fault. fault ≡ LineFault.Bad → ¬ FitsRoom (content_of_request request.entry)) }
     {
         let Some(sent) = self.service.request(rt, request) else {
             return Err(LineFault::Bad);

@@ -1,15 +1,14 @@
 //! Commands go into the ring.
 ghost use Rattle.std.specs.Prelude.{◌≡◌, ◌↔◌, length, IfErr, IfNone, IfOk, IfSome, IsSome, OnOk};
 ghost use Rattle.ring_loose.specs.Claims.{RefusesAfter, WritesAfter};
+ghost use Rattle.ring_protocol.specs.Command.{content_of_request};
 ghost use Rattle.ring_rings.specs.Seats.{capacity_of, view_of, IsProducerOf, OpensNone};
 ghost use Rattle.ring_scenario.specs.Instructions.{FitsRoom};
 ghost use Rattle.ring_scenario.specs.Keeping.{KeepsButProducer};
 ghost use Rattle.ring_scenario.specs.Serving.{RefusesRequest, SendsRequest};
 
 use super::CommandService;
-use crate::commanding::command;
-use ring_conductor::encode_command;
-use ring_lines::Request;
+use ring_conductor::{Request, encode_request};
 use ring_rings::{ClaimFault, ManyToOneRing, Producer};
 use std::sync::Wait;
 
@@ -41,26 +40,27 @@ fn send_request<R: Wait>(
     rt: &R,
     ring: &ManyToOneRing,
     producer: &mut Producer,
-    request: &Request,
+    request: Request<&[u8]>,
 ) -> Option<Result<u64, ClaimFault>>
     requires { IsProducerOf ring.now producer.old }
     ensures producer { IsProducerOf ring.now producer.new }
-    ensures fits { IsSome result ↔ FitsRoom request.now }
-    ensures sent { IfSome result (λ answer. IfOk answer (λ correlation.
-        SendsRequest (capacity_of ring.now) request.now (view_of producer.old) correlation (view_of producer.new))) }
-    ensures refused { IfSome result (λ answer. IfErr answer (λ fault.
-        RefusesRequest (capacity_of ring.now) request.now (view_of producer.old) fault (view_of producer.new))) }
+    ensures fits { IsSome result ↔ FitsRoom (content_of_request request.entry) }
+    ensures sent { IfSome result (λ answer. IfOk answer (λ correlation. SendsRequest (capacity_of ring.now)
+        (content_of_request request.entry) (view_of producer.old) correlation (view_of producer.new))) }
+    ensures refused { IfSome result (λ answer. IfErr answer (λ fault. RefusesRequest (capacity_of ring.now)
+        (content_of_request request.entry) (view_of producer.old) fault (view_of producer.new))) }
     ensures none { IfNone result (producer.new ≡ producer.old) }
     ensures holdings { OpensNone ring.now producer.old producer.new }
 {
+    if request.encoded_len()? > MAX_COMMAND {
+        return None;
+    }
     let mut body = [0; MAX_COMMAND];
-    encode_command(&command(request, 0), &mut body)?;
     let correlation = ring.next_correlation_id(producer);
-    let command = command(request, correlation);
-    let Some(len) = encode_command(&command, &mut body) else {
+    let Some(len) = encode_request(correlation, request, &mut body) else {
         unreachable!()
     };
-    match write_message(rt, ring, producer, command.type_id(), &body[..len]) {
+    match write_message(rt, ring, producer, request.type_id(), &body[..len]) {
         Ok(()) => Some(Ok(correlation)),
         Err(fault) => Some(Err(fault)),
     }
@@ -82,13 +82,18 @@ impl CommandService {
     /// drawn, even if the ring refuses the command as `ManyToOneRing::write` does.
     ///
     /// Returns `None` if the command takes more than 4,096 bytes; nothing has changed then.
-    pub fn request<R: Wait>(&mut self, rt: &R, request: &Request) -> Option<Result<u64, ClaimFault>>
-        ensures fits { IsSome result ↔ FitsRoom request.now }
+    pub fn request<R: Wait>(
+        &mut self,
+        rt: &R,
+        request: Request<&[u8]>,
+    ) -> Option<Result<u64, ClaimFault>>
+        ensures fits { IsSome result ↔ FitsRoom (content_of_request request.entry) }
         ensures sent { IfSome result (λ answer. IfOk answer (λ correlation. SendsRequest
-            (capacity_of self.old.ring) request.now (view_of self.old.producer) correlation
+            (capacity_of self.old.ring) (content_of_request request.entry) (view_of self.old.producer) correlation
             (view_of self.new.producer))) }
         ensures refused { IfSome result (λ answer. IfErr answer (λ fault. RefusesRequest
-            (capacity_of self.old.ring) request.now (view_of self.old.producer) fault (view_of self.new.producer))) }
+            (capacity_of self.old.ring) (content_of_request request.entry) (view_of self.old.producer) fault
+            (view_of self.new.producer))) }
         ensures none { IfNone result (self.new.producer ≡ self.old.producer) }
         ensures rest { KeepsButProducer self.old self.new }
     {
