@@ -1,4 +1,4 @@
-//! The kinds of rings: how a producer of each moves the tail. Claims and writes are the same for both.
+//! The kinds of rings: how a producer of each moves the tail and writes. A claim is the same for both.
 ghost use Rattle.std.specs.Prelude.{◌≡◌, ◌%◌, ◌<◌, ◌≤◌, length, Bool, false, true, IfErr, IfOk, MatchResult, OnErr, OnOk};
 ghost use Rattle.ring_layout.specs.Places.{max_position};
 ghost use Rattle.ring_layout.specs.Refusals.{all_shares};
@@ -73,7 +73,7 @@ pub trait Kind: Sized {
     }
 
     /// Makes one try to write, as `OneToOneRing::write` or `ManyToOneRing::write_once` does. It never waits. Each kind has
-    /// its own body, since one that the trait gives is not inlined, which costs a fifth of the time of 8 bytes.
+    /// its own body, since one that the trait gives is not inlined: a message of 8 bytes took a fifth longer.
     fn write_once<B: Steps>(
         ring: &Ring<Self, B>,
         producer: &mut Producer,

@@ -1,7 +1,7 @@
 //! The rings that threads share: any number of producers or one, and one consumer.
 //!
 //! - `ring`: a ring, its producers and its consumer. `open` makes it, `close` takes it apart.
-//! - `kind`: one claim and one write for both kinds, and how each moves the tail. They are made of `admission`, `room`,
+//! - `kind`: one claim for both kinds, and how each moves the tail and writes, by the functions of `admission`, `room`,
 //!   `headers` and `body`.
 //! - `producer`: `one_to_one` and `many_to_one` have the calls, `wait` those that try again, `settle` what becomes of a
 //!   claim. `service`: ids, heartbeats and positions.
