@@ -23,7 +23,7 @@ use Rattle.ring_conductor.specs.Account.{Account, IsFoldOf, account_of, entered,
 use Rattle.ring_layout.specs.Lists.{Begins}
 use Rattle.ring_conductor.specs.Conducting.{Works}
 use Rattle.ring_conductor.specs.Running.{Runs}
-use Rattle.ring_conductor.proofs.FinishLemmas.{messages_of-append}
+use Rattle.ring_rings.proofs.SentLemmas.{messages_of-append}
 use Rattle.ring_conductor.proofs.SizeLemmas.{folds_size, fresh_again}
 
 -- what a ledger says over plain lists

@@ -86,7 +86,3 @@ answered l now (m ∷ ms) =
     let one = replied_on l.board (applied now l.registry m).reply in
     let others = answered (served l now m) now ms in
     omega arith
-
-pub lengths : (ms : List PlacedMessage) → length (messages_of ms) ≡ length ms
-lengths [] = refl
-lengths (m ∷ ms) = ap suc (lengths ms)

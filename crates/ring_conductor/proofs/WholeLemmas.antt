@@ -19,7 +19,7 @@ use Rattle.ring_conductor.specs.Fold.{Ledger, at_moment, fold_of}
 use Rattle.ring_conductor.specs.Whole.{committed, settled_message}
 use Rattle.ring_conductor.proofs.AccountLemmas.{account_in, account_of-append, same_fold}
 use Rattle.ring_conductor.proofs.DrawLemmas.{all_drawn, drawn_below, same_one}
-use Rattle.ring_conductor.proofs.FinishLemmas.{messages_of-append}
+use Rattle.ring_rings.proofs.SentLemmas.{messages_of-append}
 
 -- Sending ------------------------------------------------------------------------
 

@@ -13,7 +13,8 @@ use Rattle.ring_conductor.specs.declared.conductor.WorkStop.TheVariants as work
 use Rattle.ring_conductor.specs.Fold.{Ledger}
 use Rattle.ring_conductor.specs.Serving.{IsSameHandler, ActsOn, IsAtEnd, ledger_of}
 use Rattle.ring_conductor.specs.Conducting.{IsCutOff, IsReadOut, Works, work_stop}
-use Rattle.ring_conductor.proofs.FoldLemmas.{Folds, folded, left, never_breaks, answered, lengths}
+use Rattle.ring_rings.proofs.ReceivedLemmas.{lengths}
+use Rattle.ring_conductor.proofs.FoldLemmas.{Folds, folded, left, never_breaks, answered}
 
 is_unpublished : (stop : Stop) → work_stop stop ≡ work.Unpublished → stop ≡ Unpublished
 is_unpublished Limit e = cc

@@ -1,17 +1,14 @@
 -- What a conductor hands out when it finishes.
-use Rattle.std.specs.Prelude.{◌≡◌, ℕ, ◌-◌, nat_lt, if◌then◌else◌, ℤ, pos, List, ◌++◌, length, Option, Some, None}
-use Rattle.ring_layout.specs.declared.message.Claim.{Claim}
-use Rattle.ring_layout.specs.History.{committed_of}
+use Rattle.std.specs.Prelude.{◌≡◌, ℕ, ◌-◌, nat_lt, if◌then◌else◌, ℤ, pos, List, length, Option, Some, None}
 use Rattle.ring_layout.specs.Refusals.{all_shares}
-use Rattle.ring_words.specs.Ring.{Ring, Has}
 use Rattle.ring_table.specs.declared.claim.PlacedMessage.{PlacedMessage}
 use Rattle.ring_table.specs.declared.claim.StagedClaim.{StagedClaim}
 use Rattle.ring_table.specs.declared.view.Service.{Service}
-use Rattle.ring_table.specs.Passing.{placed_committed_of}
 use Rattle.ring_rings.specs.declared.ring.Consumer.{Consumer}
 use Rattle.ring_rings.specs.declared.ring.Producer.{Producer}
 use Rattle.ring_rings.specs.Closing.{AreOrdered, HandsOut, Serves}
 use Rattle.ring_rings.specs.Reading.{messages_of}
+use Rattle.ring_rings.specs.Ring.{sent, IsWhole}
 use Rattle.ring_rings.specs.Seats.{claims_of, open_claims_of, shares_of, view_of}
 use Rattle.ring_board.specs.declared.board.Board.{Board}
 use Rattle.ring_board.specs.declared.board.ClosedBoard.{ClosedBoard}
@@ -60,12 +57,6 @@ handed_back ring board values conductor producer reason =
 abbrev pub HasBack : {R : Type 0} → R → Board → CounterValues → Conductor → Producer → FinishRefused R → Type 0
 HasBack ring board values conductor producer r =
     (r.ring ≡ ring) × (r.board ≡ board) × (r.values ≡ values) × (r.conductor ≡ conductor) × (r.producer ≡ producer)
-
--- what was received, followed by what the rest has, is the committed messages of these claims, in the order of their
--- places
-abbrev pub IsWhole : List StagedClaim → List PlacedMessage → Ring → Type 0
-IsWhole claims received rest =
-    (h : List Claim) → Has rest h → messages_of received ++ committed_of h ≡ messages_of (placed_committed_of claims)
 
 -- the replies that a conductor transmitted
 abbrev pub replies_of : Conductor → List Record
@@ -117,7 +108,7 @@ pub record Headline (C start : ℕ) (p : Producer) (c : Conductor) (f : Finished
   -- The claims, in tail-exchange order: one after another from the ring's start on, so that none occurs twice.
   pub ordered : AreOrdered C start (claims_of p)
   -- What was received, followed by what still lies in the ring, is the committed records, each whole and once.
-  pub whole : IsWhole (claims_of p) (received_of c) f.rest
+  pub whole : IsWhole (sent p) (messages_of (received_of c)) f.rest
   pub left : HandsOut C start (view_of p) (ring_view c) f.rest
   -- Each receiver's validated copies are rising contiguous runs of the transmitted list, broken only where its count
   -- rose.

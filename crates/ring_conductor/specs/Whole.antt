@@ -8,6 +8,7 @@ use Rattle.ring_table.specs.declared.claim.Stage.TheVariants.{Stored}
 use Rattle.ring_rings.specs.Closing.{AreOrdered}
 use Rattle.ring_rings.specs.Opening.{first_consumer}
 use Rattle.ring_rings.specs.Reading.{messages_of}
+use Rattle.ring_rings.specs.Ring.{sent, IsWhole}
 use Rattle.ring_rings.specs.Seats.{claims_of}
 use Rattle.ring_board.specs.Closing.{closed_words, IsClosed}
 use Rattle.ring_board.specs.Rule.{opening_view}
@@ -23,7 +24,7 @@ use Rattle.ring_conductor.specs.declared.whole.WholeRun.{WholeRun}
 use Rattle.ring_conductor.specs.Account.{account_of, fresh_account, messages_in}
 use Rattle.ring_conductor.specs.Asking.{IsHeard, client_seat, producer_of, receiver_of}
 use Rattle.ring_conductor.specs.Conducting.{KeepsTheRest, Works, board_view, ledger_of, ring_view}
-use Rattle.ring_conductor.specs.Finishing.{IsWhole, claims_in, joined_in, received_in, replies_in}
+use Rattle.ring_conductor.specs.Finishing.{claims_in, joined_in, received_in, replies_in}
 use Rattle.ring_conductor.specs.Fold.{Ledger, at_moment}
 
 -- the claim's message, and how far it has come
@@ -84,7 +85,7 @@ pub record Concludes (early late : ℕ) (w : WholeRun) : Type 0 where
   pub received : messages_of (received_in w.finished)
       ≡ messages_of first.works.messages ++ messages_of second.works.messages
   pub counted : w.finished.received ≡ length (received_in w.finished)
-  pub whole : IsWhole (claims_in w.finished) (received_in w.finished) w.finished.rest
+  pub whole : IsWhole (sent w.finished.producer.value) (messages_of (received_in w.finished)) w.finished.rest
   pub folded : account_of (fresh_account 4 50) (at_moment early (messages_of first.works.messages)
       ++ at_moment late (messages_of second.works.messages))
       ≡ record {

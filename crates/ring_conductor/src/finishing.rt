@@ -113,7 +113,6 @@ pub fn finish<R: CommandSource>(
         Ok(rest) => rest,
         Err(_refused) => unreachable!(),
     };
-    rest.history_law();
     let board = match board.close(transmitter) {
         Ok(board) => board,
         Err(_refused) => unreachable!(),

@@ -6,7 +6,7 @@ use Rattle.ring_rings.specs.Closing.{close_refusal_of}
 use Rattle.ring_table.specs.declared.claim.PlacedMessage.{PlacedMessage}
 use Rattle.ring_rings.specs.Reading.{messages_of}
 use Rattle.ring_conductor.specs.declared.finishing.fault.FinishFault.{FinishFault}
-use Rattle.ring_conductor.proofs.FoldLemmas.{lengths}
+use Rattle.ring_rings.proofs.ReceivedLemmas.{lengths}
 
 -- if it succeeded there was no refusal
 pub no_refusal : {T E : Type 0} (error : FinishFault → E) (o : Option FinishFault) (r : Result T E) (x : T)

@@ -37,7 +37,6 @@ fn end<K>(ring: PlainRing<K>, producer: Producer, consumer: Consumer) -> u64
         Ok(rest) => rest,
         Err(_refused) => unreachable!(),
     };
-    rest.history_law();
     u64::from(rest.drain())
 }
 

@@ -46,7 +46,7 @@ fn write_in<K: Kind>(ring: &PlainRing<K>, producer: &mut Producer, type_id: i32,
     requires sole { MayClaim K.many producer.old }
     ensures producer { IsProducerOf ring.now producer.new }
     ensures shares { shares_of producer.new ≡ shares_of producer.old }
-    ensures claims { KeepsClaims ring.now producer.old producer.new }
+    ensures keeps { KeepsClaims ring.now producer.old producer.new }
     ensures wrote { (identity : Identity) (claims : List ClaimAt)
         → Wrote type_id body.now (side K.many identity ring.now producer.old claims)
         (side K.many identity ring.now producer.new claims) result }

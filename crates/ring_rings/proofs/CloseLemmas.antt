@@ -24,6 +24,8 @@ use Rattle.ring_table.proofs.MemoryLemmas.{head_bounds}
 use Rattle.ring_table.proofs.RestLemmas.{claims_of-restarted}
 use Rattle.ring_rings.specs.Closing.{HandsOut, Serves}
 use Rattle.ring_rings.specs.Reading.{at_rest}
+use Rattle.ring_rings.specs.Ring.{received_in, sent_in, IsWhole}
+use Rattle.ring_rings.proofs.SentLemmas.{whole}
 
 placed_lawful : (C e : ℕ) (cs : List StagedClaim) → ArePlaced C e cs
     → All (λ (c : Claim). IsMessage C c.message) (unplaced cs)
@@ -150,3 +152,6 @@ module _ (K C start : ℕ) (same : K ≡ C) (words items : List ℕ) (copied : i
 
   pub closes_with_service : Serves C p (at_rest r) (ring C items)
   closes_with_service = carried (λ k l. Serves k p (at_rest r) (ring k l)) (serves K start words v closed left p r both)
+
+  pub closes_whole : IsWhole (sent_in p) (received_in (at_rest r)) (ring C items)
+  closes_whole = whole C start p (at_rest r) (ring C items) closes_to_ring closes_with_rest

@@ -5,6 +5,8 @@ pub mod CountLemmas
 pub mod RisingLemmas
 pub mod MadeLemmas
 pub mod MoveLemmas
+pub mod SentLemmas
+pub mod ReceivedLemmas
 pub mod CloseLemmas
 pub mod JoinLemmas
 pub mod PutLemmas

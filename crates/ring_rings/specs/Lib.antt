@@ -9,3 +9,4 @@ pub mod Closing
 pub mod Bodies
 pub mod Reading
 pub mod ReadingSteps
+pub mod Ring

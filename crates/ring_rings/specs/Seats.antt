@@ -11,6 +11,7 @@ use Rattle.ring_table.specs.declared.claim.PlacedMessage.{PlacedMessage}
 use Rattle.ring_table.specs.OpenClaims.{open_count}
 use Rattle.ring_table.specs.Staged.{AreRising}
 use Rattle.ring_table.specs.declared.view.View.{View}
+use Rattle.ring_table.specs.Seats.{IsSameSeat}
 use Rattle.ring_rings.specs.Reading.{at_rest}
 use Rattle.ring_rings.specs.declared.ring.Ring.{Ring}
 use Rattle.ring_rings.specs.declared.steps.Steps.{Ghosts}
@@ -73,6 +74,10 @@ head_of c = c.seat.me.0.consumer.head
 pub record IsConsumerOf {K B : Type 0} {G : Ghosts B} (ring : Ring K B G) (c : Consumer) : Type 0 where
   pub table : c.seat.table_id ≡ G.table_of ring.table
   pub capacity : c.seat.me.0.capacity ≡ ring.capacity
+
+-- the same consumer, of the same ring
+abbrev pub IsSameConsumer : Consumer → Consumer → Type 0
+IsSameConsumer old new = IsSameSeat old.seat new.seat
 
 -- Claims -----------------------------------------------------------------------
 

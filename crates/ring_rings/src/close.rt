@@ -2,6 +2,7 @@
 ghost use Rattle.std.specs.Prelude.{◌≡◌, IfOk, OnOk};
 ghost use Rattle.ring_layout.specs.Refusals.{all_shares};
 ghost use Rattle.ring_rings.specs.Closing.{close_refusal_of, kept_open, HandsOut, IsRefusedAs, Serves};
+ghost use Rattle.ring_rings.specs.Ring.{received, sent, IsWhole};
 ghost use Rattle.ring_rings.specs.Seats.{capacity_of, consumer_view, open_claims_of, shares_of, start_of, view_of};
 ghost use Rattle.ring_rings.specs.Seats.{IsConsumerOf, IsProducerOf};
 
@@ -43,6 +44,7 @@ impl<K, B: Closes> Ring<K, B> {
         requires consumer { IsConsumerOf self consumer }
         ensures refused { IsRefusedAs (kept_open self producer consumer)
             (close_refusal_of (open_claims_of producer) (shares_of producer)) result }
+        ensures whole { IfOk result (IsWhole (sent producer) (received consumer)) }
         ensures rest { IfOk result
             (HandsOut (capacity_of self) (start_of self) (view_of producer) (consumer_view consumer)) }
         ensures service { IfOk result (Serves (capacity_of self) (view_of producer) (consumer_view consumer)) }

@@ -1,10 +1,11 @@
 //! The kinds of rings: how a producer of each moves the tail and writes. A claim is the same for both.
-ghost use Rattle.std.specs.Prelude.{◌≡◌, ◌%◌, ◌<◌, ◌≤◌, length, Bool, false, true, IfErr, IfOk, MatchResult, OnErr, OnOk};
+ghost use Rattle.std.specs.Prelude.{◌≡◌, ◌%◌, ◌<◌, ◌≤◌, length, [], ◌∷◌, ◌++◌, Bool, false, true, IfErr, IfOk, MatchResult, OnErr, OnOk};
 ghost use Rattle.ring_layout.specs.Places.{max_position};
 ghost use Rattle.ring_layout.specs.Refusals.{all_shares};
 ghost use Rattle.ring_table.specs.Seats.{IsSameSeat, IsSeatOf};
 ghost use Rattle.ring_rings.specs.Claiming.{Claims, RefusesTry, Writes};
 ghost use Rattle.ring_rings.specs.Making.{MovesBehind};
+ghost use Rattle.ring_rings.specs.Ring.{message, sent};
 ghost use Rattle.ring_rings.specs.Seats.{capacity_of, view_of, IsNewClaimOf, IsProducerOf, KeepsHoldings};
 ghost use Rattle.ring_rings.specs.Seats.{MayClaim, OpensNone};
 
@@ -55,12 +56,13 @@ pub trait Kind: Sized {
         requires producer { IsProducerOf ring.now producer.old }
         requires sole { MayClaim many producer.old }
         ensures producer { IsProducerOf ring.now producer.new }
+        ensures sent { sent producer.new ≡ sent producer.old }
         ensures claimed { IfOk result (λ t.
             Claims many (capacity_of ring.now) type_id len (view_of producer.old) t (view_of producer.new)) }
         ensures refused { IfErr result (λ fault.
             RefusesTry many (capacity_of ring.now) type_id len (view_of producer.old) fault (view_of producer.new)) }
         ensures opened { IfOk result (IsNewClaimOf ring.now producer.old producer.new) }
-        ensures holdings { KeepsHoldings ring.now producer.old producer.new }
+        ensures keeps { KeepsHoldings ring.now producer.old producer.new }
     {
         let wanted = Wanted { type_id, len };
         let (words, own_tail) = (&ring.table, producer.own_tail);
@@ -83,12 +85,14 @@ pub trait Kind: Sized {
         requires producer { IsProducerOf ring.now producer.old }
         requires sole { MayClaim many producer.old }
         ensures producer { IsProducerOf ring.now producer.new }
+        ensures sent { OnOk result (sent producer.new ≡ sent producer.old ++ message type_id body.now ∷ [])
+            × OnErr result (sent producer.new ≡ sent producer.old) }
         ensures written { OnOk result
             (Writes many (capacity_of ring.now) type_id body.now (view_of producer.old) (view_of producer.new)) }
         ensures refused { IfErr result (λ fault.
             RefusesTry many (capacity_of ring.now) type_id (length body.now)
             (view_of producer.old) fault (view_of producer.new)) }
-        ensures holdings { OpensNone ring.now producer.old producer.new };
+        ensures keeps { OpensNone ring.now producer.old producer.new };
 }
 
 impl Kind for OneToOne {

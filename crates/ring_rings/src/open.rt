@@ -1,7 +1,8 @@
 //! Rings as they are made, with the first producer and the consumer.
-ghost use Rattle.std.specs.Prelude.{◌≡◌, ◌/◌, ◌%◌, ◌≤◌, IfOk};
+ghost use Rattle.std.specs.Prelude.{◌≡◌, ◌/◌, ◌%◌, ◌≤◌, [], IfOk};
 ghost use Rattle.ring_layout.specs.Places.{is_capacity, IsCapacity, max_position};
 ghost use Rattle.ring_layout.specs.Refusals.{make_refusal_of, IsMadeUnless};
+ghost use Rattle.ring_rings.specs.Ring.{received, sent};
 ghost use Rattle.ring_rings.specs.Seats.{capacity_of, start_of};
 ghost use Rattle.ring_rings.specs.Opening.{IsFirstConsumer, IsFirstProducer};
 
@@ -21,6 +22,7 @@ impl<K, B: Steps> Ring<K, B> {
         ensures ring { IfOk result (λ made. (capacity_of made.0 ≡ capacity) × (start_of made.0 ≡ 0)) }
         ensures producer { IfOk result (λ made. IsFirstProducer made.0 capacity 0 made.1) }
         ensures consumer { IfOk result (λ made. IsFirstConsumer made.0 capacity 0 made.2) }
+        ensures begins { IfOk result (λ made. (sent made.1 ≡ []) × (received made.2 ≡ [])) }
     {
         Self::new_at(alloc, capacity, 0)
     }
@@ -37,6 +39,7 @@ impl<K, B: Steps> Ring<K, B> {
         ensures ring { IfOk result (λ made. (capacity_of made.0 ≡ capacity) × (start_of made.0 ≡ start)) }
         ensures producer { IfOk result (λ made. IsFirstProducer made.0 capacity start made.1) }
         ensures consumer { IfOk result (λ made. IsFirstConsumer made.0 capacity start made.2) }
+        ensures begins { IfOk result (λ made. (sent made.1 ≡ []) × (received made.2 ≡ [])) }
     {
         check_ring(capacity, start)?;
         Self::make(alloc, capacity, start).map_err(|_| MakeFault::OutOfMemory)

@@ -1,13 +1,13 @@
 //! What a conductor needs of a ring, whatever its kind.
-ghost use Rattle.std.specs.Prelude.{◌≡◌, ℕ, ◌+◌, ◌≤◌, IfOk};
-ghost use Rattle.ring_table.specs.Seats.{IsSameSeat};
+ghost use Rattle.std.specs.Prelude.{◌≡◌, ◌⊎◌, ℕ, ◌+◌, ◌≤◌, IfOk};
 ghost use Rattle.ring_table.specs.Views.{with_beat};
 ghost use Rattle.ring_rings.specs.declared.ring.Consumer.{Consumer as TheConsumer};
 ghost use Rattle.ring_rings.specs.declared.ring.Producer.{Producer as TheProducer};
 ghost use Rattle.ring_rings.specs.Closing.{close_refusal_of, kept_open, HandsOut, IsRefusedAs, Serves};
 ghost use Rattle.ring_rings.specs.Reading.{Controls, EndsAt};
+ghost use Rattle.ring_rings.specs.Ring.{received, sent, IsWhole, Leaves, Receives};
 ghost use Rattle.ring_rings.specs.Seats.{capacity_of, consumer_view, head_of, open_claims_of, shares_of, start_of};
-ghost use Rattle.ring_rings.specs.Seats.{view_of, IsConsumerOf, IsProducerOf};
+ghost use Rattle.ring_rings.specs.Seats.{view_of, IsConsumerOf, IsProducerOf, IsSameConsumer};
 
 use crate::ring::{CloseRefused, Consumer, Producer, Ring};
 use crate::steps::Closes;
@@ -38,7 +38,9 @@ pub trait CommandSource: Sized {
         requires ready { H.ready handler.old }
         ensures consumer { is_consumer self.now consumer.new }
         ensures ready { H.ready handler.new }
-        ensures seat { IsSameSeat consumer.old.seat consumer.new.seat }
+        ensures received { Receives H.step consumer.old consumer.new handler.old handler.new result.messages
+            ⊎ Leaves H.step consumer.old consumer.new handler.old handler.new result.messages }
+        ensures seat { IsSameConsumer consumer.old consumer.new }
         ensures controls { Controls H.step limit (consumer_view consumer.old) (consumer_view consumer.new)
             handler.old handler.new result }
         ensures ends { EndsAt limit (consumer_view consumer.old) (consumer_view consumer.new) result };
@@ -47,7 +49,8 @@ pub trait CommandSource: Sized {
     fn set_heartbeat(&self, consumer: &mut Consumer, value: u64)
         requires consumer { is_consumer self.now consumer.old }
         ensures consumer { is_consumer self.now consumer.new }
-        ensures seat { IsSameSeat consumer.old.seat consumer.new.seat }
+        ensures received { received consumer.new ≡ received consumer.old }
+        ensures seat { IsSameConsumer consumer.old consumer.new }
         ensures view { consumer_view consumer.new ≡ with_beat value (consumer_view consumer.old) };
 
     /// Takes the ring apart, as `Ring::close` does.
@@ -56,6 +59,7 @@ pub trait CommandSource: Sized {
         requires consumer { is_consumer self consumer }
         ensures refused { IsRefusedAs (kept_open self producer consumer)
             (close_refusal_of (open_claims_of producer) (shares_of producer)) result }
+        ensures whole { IfOk result (IsWhole (sent producer) (received consumer)) }
         ensures rest { IfOk result (HandsOut (bytes self) (start self) (view_of producer) (consumer_view consumer)) }
         ensures service { IfOk result (Serves (bytes self) (view_of producer) (consumer_view consumer)) };
 }

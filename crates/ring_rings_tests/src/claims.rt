@@ -32,7 +32,7 @@ pub fn claimed<K: Kind, B: Steps>(
     requires sole { MayClaim K.many producer.old }
     ensures producer { IsProducerOf ring.now producer.new }
     ensures opened { IsNewClaimOf ring.now producer.old producer.new result }
-    ensures holdings { KeepsHoldings ring.now producer.old producer.new }
+    ensures keeps { KeepsHoldings ring.now producer.old producer.new }
 {
     K::claim_once(ring, producer, type_id, len).expect(rt, "a claim")
 }

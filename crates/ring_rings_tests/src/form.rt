@@ -137,7 +137,7 @@ fn read_by<K, B: Steps>(
 fn asked<K, B: Steps>(ring: &Ring<K, B>, producer: &mut Producer, how: u32) -> Answer
     requires { IsProducerOf ring.now producer.old }
     ensures producer { IsProducerOf ring.now producer.new }
-    ensures holdings { KeepsHoldings ring.now producer.old producer.new }
+    ensures keeps { KeepsHoldings ring.now producer.old producer.new }
 {
     match how {
         0 => Answer::At(ring.positions(producer)),

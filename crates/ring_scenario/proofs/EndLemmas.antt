@@ -1,5 +1,5 @@
 -- What a closed ring hands out is all committed messages but those that were taken.
-use Rattle.std.proofs.Common.{◌≡◌, ◌∙◌, ℕ, List, [], ◌∷◌, ◌++◌, append_assoc, length, length-append, refl, sym, ap, subst, arith}
+use Rattle.std.proofs.Common.{◌≡◌, ◌∙◌, ℕ, List, ◌++◌, length, length-append, sym, ap, subst, arith}
 use Rattle.ring_layout.specs.declared.message.Claim.{Claim}
 use Rattle.ring_layout.specs.History.{committed_of}
 use Rattle.ring_words.specs.Drain.{AllSettled}
@@ -7,18 +7,11 @@ use Rattle.ring_words.specs.Ring.{Ring, Has}
 use Rattle.ring_table.specs.declared.view.View.{View}
 use Rattle.ring_table.specs.declared.claim.PlacedMessage.{PlacedMessage}
 use Rattle.ring_table.specs.declared.claim.StagedClaim.{StagedClaim}
-use Rattle.ring_table.specs.Passing.{AreSettled, placed_committed_of, placed_message, shown_at}
+use Rattle.ring_table.specs.Passing.{AreSettled, placed_committed_of}
 use Rattle.ring_rings.specs.Closing.{AreOrdered, HandsOut}
+use Rattle.ring_rings.proofs.SentLemmas.{placed_committed_of-append}
 use Rattle.ring_conductor.proofs.FinishLemmas.{drained}
 use Rattle.ring_scenario.specs.Closing.{TakesAllBut}
-
-placed_committed_of-append : (a b : List StagedClaim)
-    → placed_committed_of (a ++ b) ≡ placed_committed_of a ++ placed_committed_of b
-placed_committed_of-append [] b = refl
-placed_committed_of-append (c ∷ a) b =
-    let here = shown_at c.stage (placed_message c) in
-    ap (λ l. here ++ l) (placed_committed_of-append a b)
-    ∙ sym (append_assoc here (placed_committed_of a) (placed_committed_of b))
 
 pub takes_all_but : (C start : ℕ) (p r : View) (rest : Ring) → HandsOut C start p r rest
     → AreSettled p.producer.claims → (count : ℕ)

@@ -34,14 +34,15 @@ use Rattle.ring_storm.specs.declared.plan.StormReport.{StormReport}
 use Rattle.ring_conductor.specs.Applied.{applied}
 use Rattle.ring_conductor.specs.Account.{IsFoldOf, messages_in}
 use Rattle.ring_conductor.specs.Conducting.{Works}
-use Rattle.ring_conductor.specs.Finishing.{IsWhole}
+use Rattle.ring_rings.specs.Ring.{sent_in, IsWhole}
 use Rattle.ring_conductor.specs.Asking.{drawn_in}
 use Rattle.ring_storm.specs.Turns.{AreAllTurns}
 use Rattle.ring_storm.specs.Storming.{IsBoardFor, IsPlan, IsReportBy, all_commands, counters_after, storm_counters, sum_of}
 use Rattle.ring_conductor.specs.Fold.{Ledger, fold_of, at_moment, served}
 use Rattle.ring_protocol.specs.Reading.{command_of}
-use Rattle.ring_conductor.proofs.FinishLemmas.{drained, messages_of-append}
-use Rattle.ring_conductor.proofs.FoldLemmas.{lengths}
+use Rattle.ring_rings.proofs.SentLemmas.{messages_of-append}
+use Rattle.ring_conductor.proofs.FinishLemmas.{drained}
+use Rattle.ring_rings.proofs.ReceivedLemmas.{lengths}
 use Rattle.ring_conductor.proofs.SizeLemmas.{reads}
 use Rattle.ring_conductor.proofs.DrawLemmas.{all_drawn}
 use Rattle.ring_storm.proofs.LiveLemmas.{storm_live}
@@ -107,7 +108,7 @@ pub record Ended (p : StormPlan) (v w : View) (rest : Ring) (counters : Registry
     (heard : List Joined) (services : List Service) : Type 0 where
   pub lawful : IsPlan p
   pub out : HandsOut p.ring 0 v w rest
-  pub whole : IsWhole v.producer.claims w.consumer.taken rest
+  pub whole : IsWhole (sent_in v) (messages_of w.consumer.taken) rest
   pub settled : open_count v.producer.claims ≡ 0
   pub few : length v.producer.claims ≤ all_commands p
   pub done : all_commands p ≤ length w.consumer.taken
@@ -125,8 +126,8 @@ module _ (p : StormPlan) (v w : View) (rest : Ring) (counters : Registry) (sent 
   all_taken : messages_of w.consumer.taken ≡ messages_of (placed_committed_of v.producer.claims)
   all_taken =
       let out = ended.out in
-      let left = committed_of (unplaced out.left) in
-      let whole = ended.whole (unplaced out.left) out.has in
+      let left = ended.whole.unread in
+      let whole = ended.whole.all in
       let both = ap length whole in
       let sum = length-append (messages_of w.consumer.taken) left in
       let took = lengths w.consumer.taken in

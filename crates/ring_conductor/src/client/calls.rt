@@ -45,7 +45,7 @@ impl Client {
         requires { IsProducerOf ring.now (producer_of self.old) }
         ensures producer { IsProducerOf ring.now (producer_of self.new) }
         ensures draws { DrawsId (client_view self.old) result (client_view self.new) }
-        ensures holdings { OpensNone ring.now (producer_of self.old) (producer_of self.new) }
+        ensures keeps { OpensNone ring.now (producer_of self.old) (producer_of self.new) }
         ensures receiver { receiver_of self.new ≡ receiver_of self.old }
     {
         ring.next_correlation_id(&mut self.producer)
@@ -57,7 +57,7 @@ impl Client {
         requires { IsProducerOf ring.now (producer_of self.old) }
         ensures producer { IsProducerOf ring.now (producer_of self.new) }
         ensures loads { LoadsHeartbeat (capacity_of ring.now) (client_view self.old) result (client_view self.new) }
-        ensures holdings { OpensNone ring.now (producer_of self.old) (producer_of self.new) }
+        ensures keeps { OpensNone ring.now (producer_of self.old) (producer_of self.new) }
         ensures receiver { receiver_of self.new ≡ receiver_of self.old }
     {
         ring.heartbeat(&mut self.producer)
@@ -81,7 +81,7 @@ impl Client {
             correlation request.entry (client_view self.old) (client_view self.new)) }
         ensures refused { IfErr result (λ fault. RefusesAs (RefusesTry K.many) (capacity_of ring.now) correlation
             request.entry (client_view self.old) fault (client_view self.new)) }
-        ensures holdings { OpensNone ring.now (producer_of self.old) (producer_of self.new) }
+        ensures keeps { OpensNone ring.now (producer_of self.old) (producer_of self.new) }
         ensures receiver { receiver_of self.new ≡ receiver_of self.old }
     {
         let command = request.with_correlation(correlation);
@@ -120,7 +120,7 @@ impl Client {
             (capacity_of ring.now) request.entry (client_view self.old) correlation (client_view self.new)) }
         ensures refused { IfErr result (λ fault. RefusesSend (RefusesTry K.many) (capacity_of ring.now) request.entry
             (client_view self.old) fault (client_view self.new)) }
-        ensures holdings { OpensNone ring.now (producer_of self.old) (producer_of self.new) }
+        ensures keeps { OpensNone ring.now (producer_of self.old) (producer_of self.new) }
         ensures receiver { receiver_of self.new ≡ receiver_of self.old }
     {
         match request.with_correlation(0).encoded_len() {

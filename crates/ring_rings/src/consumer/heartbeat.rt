@@ -1,8 +1,8 @@
 //! The heartbeat of a consumer.
 ghost use Rattle.std.specs.Prelude.{◌≡◌};
-ghost use Rattle.ring_table.specs.Seats.{IsSameSeat};
 ghost use Rattle.ring_table.specs.Views.{with_beat};
-ghost use Rattle.ring_rings.specs.Seats.{IsConsumerOf, consumer_view};
+ghost use Rattle.ring_rings.specs.Ring.{received};
+ghost use Rattle.ring_rings.specs.Seats.{IsConsumerOf, consumer_view, IsSameConsumer};
 
 use crate::ring::{Consumer, Ring};
 use crate::steps::Steps;
@@ -12,7 +12,8 @@ impl<K, B: Steps> Ring<K, B> {
     pub fn set_heartbeat(&self, consumer: &mut Consumer, value: u64)
         requires { IsConsumerOf self.now consumer.old }
         ensures consumer { IsConsumerOf self.now consumer.new }
-        ensures seat { IsSameSeat consumer.old.seat consumer.new.seat }
+        ensures received { received consumer.new ≡ received consumer.old }
+        ensures seat { IsSameConsumer consumer.old consumer.new }
         ensures view { consumer_view consumer.new ≡ with_beat value (consumer_view consumer.old) }
     {
         self.table

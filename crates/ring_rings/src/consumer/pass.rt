@@ -5,7 +5,7 @@ ghost use Rattle.ring_table.specs.declared.claim.PlacedMessage.{PlacedMessage};
 ghost use Rattle.ring_table.specs.Seats.{IsSameSeat};
 ghost use Rattle.ring_table.specs.ConsumerSteps.{ClearsWord};
 ghost use Rattle.ring_table.specs.Views.{cleared_to, with_consumer};
-ghost use Rattle.ring_rings.specs.Seats.{IsConsumerOf, capacity_of, head_of, seat_view};
+ghost use Rattle.ring_rings.specs.Seats.{IsConsumerOf, capacity_of, head_of, seat_view, IsSameConsumer};
 ghost use Rattle.ring_rings.specs.ReadingSteps.{HasCome, IsInBlock, IsLeft, IsReaderSeatOf, MayMoveTo};
 ghost use Rattle.ring_rings.specs.ReadingSteps.{SettlesAll, SettlesBefore};
 
@@ -77,7 +77,7 @@ impl<K, B: Steps> Ring<K, B> {
         requires to { MayMoveTo (capacity_of self.now) (head_of consumer.old) scan }
         requires at { HasCome scan (seat_view consumer.old) }
         ensures consumer { IsConsumerOf self.now consumer.new }
-        ensures seat { IsSameSeat consumer.old.seat consumer.new.seat }
+        ensures seat { IsSameConsumer consumer.old consumer.new }
         ensures settles { SettlesAll scan (seat_view consumer.old) (seat_view consumer.new) }
     {
         if consumer.head < scan {
@@ -96,7 +96,7 @@ impl<K, B: Steps> Ring<K, B> {
         requires to { MayMoveTo (capacity_of self.now) (head_of consumer.old) place }
         requires left { (got : List PlacedMessage) × IsLeft place got (seat_view consumer.old) }
         ensures consumer { IsConsumerOf self.now consumer.new }
-        ensures seat { IsSameSeat consumer.old.seat consumer.new.seat }
+        ensures seat { IsSameConsumer consumer.old consumer.new }
         ensures settles { SettlesBefore place (seat_view consumer.old) (seat_view consumer.new) }
     {
         if consumer.head < place {

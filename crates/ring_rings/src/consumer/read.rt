@@ -1,11 +1,11 @@
 //! Reads of a shared ring.
 
-ghost use Rattle.std.specs.Prelude.{◌≡◌, ◌≢◌, ℕ, ◌+◌, ◌%◌, ◌<◌, ◌≤◌, ◌&&◌, ◌==◌, nat_lt};
-ghost use Rattle.ring_table.specs.Seats.{IsSameSeat};
-ghost use Rattle.ring_rings.specs.Seats.{IsConsumerOf, capacity_of, consumer_view, head_of, seat_view};
+ghost use Rattle.std.specs.Prelude.{◌≡◌, ◌≢◌, ◌⊎◌, ℕ, ◌+◌, ◌%◌, ◌<◌, ◌≤◌, ◌&&◌, ◌==◌, nat_lt};
+ghost use Rattle.ring_rings.specs.Seats.{IsConsumerOf, capacity_of, consumer_view, head_of, seat_view, IsSameConsumer};
 ghost use Rattle.ring_words.specs.Across.{ReadsAcross};
 ghost use Rattle.ring_words.specs.Controlled.{heeded};
 ghost use Rattle.ring_rings.specs.Reading.{Controls, EndsAt, ReadsTo};
+ghost use Rattle.ring_rings.specs.Ring.{Leaves, Receives};
 ghost use Rattle.ring_rings.specs.ReadingSteps.{Ended, HasCome, MayMoveTo, SettlesAll};
 
 use crate::consumer::turn::Turn;
@@ -37,7 +37,7 @@ impl<K, B: Steps> Ring<K, B> {
         requires to { HasCome scan (seat_view consumer.old)
             × MayMoveTo (capacity_of self.now) (head_of consumer.old) scan }
         ensures consumer { IsConsumerOf self.now consumer.new }
-        ensures seat { IsSameSeat consumer.old.seat consumer.new.seat }
+        ensures seat { IsSameConsumer consumer.old consumer.new }
         ensures settles { SettlesAll scan (seat_view consumer.old) (seat_view consumer.new) }
         ensures ended { Ended start scan messages stopped result }
     {
@@ -61,7 +61,7 @@ impl<K, B: Steps> Ring<K, B> {
         requires ready { H.ready handler.old }
         ensures consumer { IsConsumerOf self.now consumer.new }
         ensures ready { H.ready handler.new }
-        ensures seat { IsSameSeat consumer.old.seat consumer.new.seat }
+        ensures seat { IsSameConsumer consumer.old consumer.new }
         ensures controls { Controls (heeded heeds H.step) limit
             (consumer_view consumer.old) (consumer_view consumer.new) handler.old handler.new result }
         ensures ends { EndsAt limit (consumer_view consumer.old) (consumer_view consumer.new) result }
@@ -115,7 +115,8 @@ impl<K, B: Steps> Ring<K, B> {
         requires ready { H.ready handler.old }
         ensures consumer { IsConsumerOf self.now consumer.new }
         ensures ready { H.ready handler.new }
-        ensures seat { IsSameSeat consumer.old.seat consumer.new.seat }
+        ensures received { Receives H.step consumer.old consumer.new handler.old handler.new result.messages }
+        ensures seat { IsSameConsumer consumer.old consumer.new }
         ensures reads { ReadsTo H.step limit (consumer_view consumer.old) (consumer_view consumer.new)
             handler.old handler.new result }
         ensures ends { EndsAt limit (consumer_view consumer.old) (consumer_view consumer.new) result }
@@ -136,7 +137,8 @@ impl<K, B: Steps> Ring<K, B> {
         requires ready { H.ready handler.old }
         ensures consumer { IsConsumerOf self.now consumer.new }
         ensures ready { H.ready handler.new }
-        ensures seat { IsSameSeat consumer.old.seat consumer.new.seat }
+        ensures received { Receives H.step consumer.old consumer.new handler.old handler.new result.messages }
+        ensures seat { IsSameConsumer consumer.old consumer.new }
         ensures reads { ReadsAcross (ReadsTo H.step) limit (consumer_view consumer.old) (consumer_view consumer.new)
             handler.old handler.new result }
         ensures ends { EndsAt limit (consumer_view consumer.old) (consumer_view consumer.new) result }
@@ -166,7 +168,9 @@ impl<K, B: Steps> Ring<K, B> {
         requires ready { H.ready handler.old }
         ensures consumer { IsConsumerOf self.now consumer.new }
         ensures ready { H.ready handler.new }
-        ensures seat { IsSameSeat consumer.old.seat consumer.new.seat }
+        ensures received { Receives H.step consumer.old consumer.new handler.old handler.new result.messages
+            ⊎ Leaves H.step consumer.old consumer.new handler.old handler.new result.messages }
+        ensures seat { IsSameConsumer consumer.old consumer.new }
         ensures controls { Controls H.step limit (consumer_view consumer.old) (consumer_view consumer.new)
             handler.old handler.new result }
         ensures ends { EndsAt limit (consumer_view consumer.old) (consumer_view consumer.new) result }

@@ -1,9 +1,10 @@
 //! The calls of a ring with any number of producers.
-ghost use Rattle.std.specs.Prelude.{◌≡◌, ◌↔◌, length, true, IfErr, IfOk, IsTrue, OnErr, OnOk, is_err};
+ghost use Rattle.std.specs.Prelude.{◌≡◌, ◌↔◌, length, [], ◌∷◌, ◌++◌, true, IfErr, IfOk, IsTrue, OnErr, OnOk, is_err};
 ghost use Rattle.ring_table.specs.Staged.{AreRising};
 ghost use Rattle.ring_table.specs.Views.{producer_alone, without_share};
 ghost use Rattle.ring_rings.specs.Claiming.{Claims, RefusesTry, Writes};
 ghost use Rattle.ring_rings.specs.Joining.{Joins};
+ghost use Rattle.ring_rings.specs.Ring.{message, sent, AreMerged};
 ghost use Rattle.ring_rings.specs.Seats.{capacity_of, claims_of, shares_of, view_of};
 ghost use Rattle.ring_rings.specs.Seats.{IsNewClaimOf, IsProducerOf, KeepsBoth, KeepsClaims};
 
@@ -31,12 +32,13 @@ impl<B: Steps> Ring<ManyToOne, B> {
     ) -> Result<Claim, TryFault>
         requires producer { IsProducerOf self.now producer.old }
         ensures producer { IsProducerOf self.now producer.new }
+        ensures sent { sent producer.new ≡ sent producer.old }
         ensures claimed { IfOk result (λ t.
             Claims true (capacity_of self.now) type_id len (view_of producer.old) t (view_of producer.new)) }
         ensures refused { IfErr result (λ fault.
             RefusesTry true (capacity_of self.now) type_id len (view_of producer.old) fault (view_of producer.new)) }
         ensures opened { IfOk result (IsNewClaimOf self.now producer.old producer.new) }
-        ensures claims { KeepsClaims self.now producer.old producer.new }
+        ensures keeps { KeepsClaims self.now producer.old producer.new }
     {
         ManyToOne::claim_once(self, producer, type_id, len)
     }
@@ -51,12 +53,14 @@ impl<B: Steps> Ring<ManyToOne, B> {
     ) -> Result<(), TryFault>
         requires producer { IsProducerOf self.now producer.old }
         ensures producer { IsProducerOf self.now producer.new }
+        ensures sent { OnOk result (sent producer.new ≡ sent producer.old ++ message type_id body.now ∷ [])
+            × OnErr result (sent producer.new ≡ sent producer.old) }
         ensures written { OnOk result
             (Writes true (capacity_of self.now) type_id body.now (view_of producer.old) (view_of producer.new)) }
         ensures refused { IfErr result (λ fault.
             RefusesTry true (capacity_of self.now) type_id (length body.now)
             (view_of producer.old) fault (view_of producer.new)) }
-        ensures claims { KeepsClaims self.now producer.old producer.new }
+        ensures keeps { KeepsClaims self.now producer.old producer.new }
     {
         ManyToOne::write_once(self, producer, type_id, body)
     }
@@ -66,12 +70,13 @@ impl<B: Steps> Ring<ManyToOne, B> {
     pub fn split(&self, producer: &mut Producer) -> Result<Producer, NoShares>
         requires { IsProducerOf self.now producer.old }
         ensures producer { IsProducerOf self.now producer.new }
+        ensures sent { (sent producer.new ≡ sent producer.old) × IfOk result (λ other. sent other ≡ []) }
         ensures refused { IsTrue (is_err result) ↔ (shares_of producer.old ≡ 1) }
         ensures same { OnErr result (producer.new ≡ producer.old) }
         ensures left { OnOk result (view_of producer.new ≡ without_share (view_of producer.old)) }
         ensures right { IfOk result (λ other.
             IsProducerOf self.now other × (view_of other ≡ producer_alone (view_of producer.old))) }
-        ensures claims { KeepsClaims self.now producer.old producer.new }
+        ensures keeps { KeepsClaims self.now producer.old producer.new }
     {
         if !has_spare_share(producer.shares) {
             return Err(NoShares);
@@ -93,9 +98,10 @@ impl<B: Steps> Ring<ManyToOne, B> {
         requires producer { IsProducerOf self.now producer.old }
         requires other { IsProducerOf self.now other }
         ensures producer { IsProducerOf self.now producer.new }
+        ensures sent { AreMerged (sent producer.old) (sent other) (sent producer.new) }
         ensures joined { Joins (capacity_of self.now) (view_of producer.old) (view_of other) (view_of producer.new) }
         ensures rising { AreRising (claims_of producer.new) }
-        ensures claims { KeepsBoth self.now producer.old other producer.new }
+        ensures keeps { KeepsBoth self.now producer.old other producer.new }
     {
         let Producer {
             seat,

@@ -1,7 +1,8 @@
 //! The calls of a ring with one producer.
-ghost use Rattle.std.specs.Prelude.{◌≡◌, false, length, IfErr, IfOk, OnOk};
+ghost use Rattle.std.specs.Prelude.{◌≡◌, false, length, [], ◌∷◌, ◌++◌, IfErr, IfOk, OnErr, OnOk};
 ghost use Rattle.ring_layout.specs.Refusals.{all_shares};
 ghost use Rattle.ring_rings.specs.Claiming.{Claims, Refuses, Writes};
+ghost use Rattle.ring_rings.specs.Ring.{message, sent};
 ghost use Rattle.ring_rings.specs.Seats.{capacity_of, shares_of, view_of};
 ghost use Rattle.ring_rings.specs.Seats.{IsNewClaimOf, IsProducerOf, KeepsClaims};
 
@@ -27,12 +28,13 @@ impl<B: Steps> Ring<OneToOne, B> {
         requires producer { IsProducerOf self.now producer.old }
         requires sole { shares_of producer.old ≡ all_shares }
         ensures producer { IsProducerOf self.now producer.new }
+        ensures sent { sent producer.new ≡ sent producer.old }
         ensures claimed { IfOk result (λ t.
             Claims false (capacity_of self.now) type_id len (view_of producer.old) t (view_of producer.new)) }
         ensures refused { IfErr result (λ fault.
             Refuses false (capacity_of self.now) type_id len (view_of producer.old) fault (view_of producer.new)) }
         ensures opened { IfOk result (IsNewClaimOf self.now producer.old producer.new) }
-        ensures claims { KeepsClaims self.now producer.old producer.new }
+        ensures keeps { KeepsClaims self.now producer.old producer.new }
     {
         match OneToOne::claim_once(self, producer, type_id, len) {
             Ok(claim) => Ok(claim),
@@ -52,12 +54,14 @@ impl<B: Steps> Ring<OneToOne, B> {
         requires producer { IsProducerOf self.now producer.old }
         requires sole { shares_of producer.old ≡ all_shares }
         ensures producer { IsProducerOf self.now producer.new }
+        ensures sent { OnOk result (sent producer.new ≡ sent producer.old ++ message type_id body.now ∷ [])
+            × OnErr result (sent producer.new ≡ sent producer.old) }
         ensures written { OnOk result
             (Writes false (capacity_of self.now) type_id body.now (view_of producer.old) (view_of producer.new)) }
         ensures refused { IfErr result (λ fault.
             Refuses false (capacity_of self.now) type_id (length body.now)
             (view_of producer.old) fault (view_of producer.new)) }
-        ensures claims { KeepsClaims self.now producer.old producer.new }
+        ensures keeps { KeepsClaims self.now producer.old producer.new }
     {
         match OneToOne::write_once(self, producer, type_id, body) {
             Ok(()) => Ok(()),

@@ -2,6 +2,7 @@
 ghost use Rattle.std.specs.Prelude.{◌≡◌, ◌≤◌};
 ghost use Rattle.ring_table.specs.ServiceSteps.{DrawsId, LoadsHeartbeat};
 ghost use Rattle.ring_rings.specs.Joining.{LoadsPositions};
+ghost use Rattle.ring_rings.specs.Ring.{sent};
 ghost use Rattle.ring_rings.specs.Seats.{capacity_of, view_of, IsProducerOf, KeepsClaims};
 
 use crate::ring::{Producer, Ring};
@@ -13,8 +14,9 @@ impl<K, B: Steps> Ring<K, B> {
     pub fn next_correlation_id(&self, producer: &mut Producer) -> u64
         requires { IsProducerOf self.now producer.old }
         ensures producer { IsProducerOf self.now producer.new }
+        ensures sent { sent producer.new ≡ sent producer.old }
         ensures draws { DrawsId (view_of producer.old) result (view_of producer.new) }
-        ensures claims { KeepsClaims self.now producer.old producer.new }
+        ensures keeps { KeepsClaims self.now producer.old producer.new }
     {
         self.table
             .draw_correlation_id(&mut producer.seat, self.capacity)
@@ -24,8 +26,9 @@ impl<K, B: Steps> Ring<K, B> {
     pub fn heartbeat(&self, producer: &mut Producer) -> u64
         requires { IsProducerOf self.now producer.old }
         ensures producer { IsProducerOf self.now producer.new }
+        ensures sent { sent producer.new ≡ sent producer.old }
         ensures loads { LoadsHeartbeat (capacity_of self.now) (view_of producer.old) result (view_of producer.new) }
-        ensures claims { KeepsClaims self.now producer.old producer.new }
+        ensures keeps { KeepsClaims self.now producer.old producer.new }
     {
         self.table.load_heartbeat(&mut producer.seat, self.capacity)
     }
@@ -34,10 +37,11 @@ impl<K, B: Steps> Ring<K, B> {
     pub fn positions(&self, producer: &mut Producer) -> Positions
         requires { IsProducerOf self.now producer.old }
         ensures producer { IsProducerOf self.now producer.new }
+        ensures sent { sent producer.new ≡ sent producer.old }
         ensures order { result.head ≤ result.tail }
         ensures loads { LoadsPositions (capacity_of self.now) (view_of producer.old)
             result.head result.tail (view_of producer.new) }
-        ensures claims { KeepsClaims self.now producer.old producer.new }
+        ensures keeps { KeepsClaims self.now producer.old producer.new }
     {
         let (words, seat) = (&self.table, &mut producer.seat);
         let head = words.load_head(seat, self.capacity);

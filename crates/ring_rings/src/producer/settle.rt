@@ -8,6 +8,7 @@ ghost use Rattle.ring_table.specs.ProducerSteps.{with_changed, HasClaimAt, IsSta
 ghost use Rattle.ring_table.specs.Seats.{IsSameSeat, IsSeatOf};
 ghost use Rattle.ring_table.specs.Staged.{AreRising};
 ghost use Rattle.ring_rings.specs.Bodies.{PutsBytes};
+ghost use Rattle.ring_rings.specs.Ring.{sent, SendsClaimed};
 ghost use Rattle.ring_rings.specs.Seats.{view_of, IsOpenClaimOf, IsProducerOf, KeepsOthers};
 
 use crate::claim::Claim;
@@ -56,6 +57,7 @@ impl<K, B: Steps> Ring<K, B> {
         requires producer { IsProducerOf self.now producer.old }
         requires claim { IsOpenClaimOf self.now producer.old claim.old }
         ensures producer { IsProducerOf self.now producer.new }
+        ensures sent { sent producer.new ≡ sent producer.old }
         ensures refused { (IsTrue (is_err result) ↔ (claim.old.len < offset + length bytes.now))
             × OnErr result (producer.new ≡ producer.old) }
         ensures put { OnOk result
@@ -109,6 +111,7 @@ impl<K, B: Steps> Ring<K, B> {
         requires producer { IsProducerOf self.now producer.old }
         requires claim { IsOpenClaimOf self.now producer.old claim }
         ensures producer { IsProducerOf self.now producer.new }
+        ensures sent { SendsClaimed claim.place producer.old producer.new }
         ensures settled { view_of producer.new
             ≡ with_changed claim.place (staged (Stored Committed)) (view_of producer.old) }
         ensures others { KeepsOthers self.now claim.place producer.old producer.new }
@@ -121,6 +124,7 @@ impl<K, B: Steps> Ring<K, B> {
         requires producer { IsProducerOf self.now producer.old }
         requires claim { IsOpenClaimOf self.now producer.old claim }
         ensures producer { IsProducerOf self.now producer.new }
+        ensures sent { sent producer.new ≡ sent producer.old }
         ensures settled { view_of producer.new
             ≡ with_changed claim.place (staged (Stored Aborted)) (view_of producer.old) }
         ensures others { KeepsOthers self.now claim.place producer.old producer.new }

@@ -1,6 +1,7 @@
 //! Claims and writes that try again while another producer is faster.
-ghost use Rattle.std.specs.Prelude.{◌≡◌, length, true, IfErr, IfOk, OnOk};
+ghost use Rattle.std.specs.Prelude.{◌≡◌, length, [], ◌∷◌, ◌++◌, true, IfErr, IfOk, OnErr, OnOk};
 ghost use Rattle.ring_rings.specs.Claiming.{AfterTries, Claims, Refuses, Writes};
+ghost use Rattle.ring_rings.specs.Ring.{message, sent};
 ghost use Rattle.ring_rings.specs.Seats.{capacity_of, view_of, IsNewClaimOf, IsProducerOf, KeepsClaims};
 
 use crate::claim::Claim;
@@ -22,12 +23,13 @@ impl<B: Steps> Ring<ManyToOne, B> {
     ) -> Result<Claim, ClaimFault>
         requires producer { IsProducerOf self.now producer.old }
         ensures producer { IsProducerOf self.now producer.new }
+        ensures sent { sent producer.new ≡ sent producer.old }
         ensures claimed { IfOk result (λ t. AfterTries (capacity_of self.now) type_id len (view_of producer.old)
             (λ v. Claims true (capacity_of self.now) type_id len v t (view_of producer.new))) }
         ensures refused { IfErr result (λ fault. AfterTries (capacity_of self.now) type_id len (view_of producer.old)
             (λ v. Refuses true (capacity_of self.now) type_id len v fault (view_of producer.new))) }
         ensures opened { IfOk result (IsNewClaimOf self.now producer.old producer.new) }
-        ensures claims { KeepsClaims self.now producer.old producer.new }
+        ensures keeps { KeepsClaims self.now producer.old producer.new }
     {
         let backoff = Backoff::new();
         for _ in rt.forever() {
@@ -50,13 +52,15 @@ impl<B: Steps> Ring<ManyToOne, B> {
     ) -> Result<(), ClaimFault>
         requires producer { IsProducerOf self.now producer.old }
         ensures producer { IsProducerOf self.now producer.new }
+        ensures sent { OnOk result (sent producer.new ≡ sent producer.old ++ message type_id body.now ∷ [])
+            × OnErr result (sent producer.new ≡ sent producer.old) }
         ensures written { OnOk result
             (AfterTries (capacity_of self.now) type_id (length body.now) (view_of producer.old)
             (λ v. Writes true (capacity_of self.now) type_id body.now v (view_of producer.new))) }
         ensures refused { IfErr result (λ fault.
             AfterTries (capacity_of self.now) type_id (length body.now) (view_of producer.old)
             (λ v. Refuses true (capacity_of self.now) type_id (length body.now) v fault (view_of producer.new))) }
-        ensures claims { KeepsClaims self.now producer.old producer.new }
+        ensures keeps { KeepsClaims self.now producer.old producer.new }
     {
         let backoff = Backoff::new();
         for _ in rt.forever() {

@@ -30,7 +30,7 @@ fn write_message<R: Wait>(
         (WritesAfter (capacity_of ring.now) type_id body.now (view_of producer.old) (view_of producer.new)) }
     ensures refused { IfErr result (λ fault. RefusesAfter (capacity_of ring.now) type_id (length body.now)
         (view_of producer.old) fault (view_of producer.new)) }
-    ensures holdings { OpensNone ring.now producer.old producer.new }
+    ensures keeps { OpensNone ring.now producer.old producer.new }
 {
     ring.write(rt, producer, type_id, body)
 }
@@ -51,7 +51,7 @@ fn send_request<R: Wait>(
     ensures refused { IfSome result (λ answer. IfErr answer (λ fault.
         RefusesRequest (capacity_of ring.now) request.now (view_of producer.old) fault (view_of producer.new))) }
     ensures none { IfNone result (producer.new ≡ producer.old) }
-    ensures holdings { OpensNone ring.now producer.old producer.new }
+    ensures keeps { OpensNone ring.now producer.old producer.new }
 {
     let mut body = [0; MAX_COMMAND];
     encode_command(&command(request, 0), &mut body)?;

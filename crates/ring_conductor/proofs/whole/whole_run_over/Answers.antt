@@ -22,7 +22,8 @@ use Rattle.ring_conductor.specs.declared.whole.WholeRun.{WholeRun}
 use Rattle.ring_conductor.specs.Account.{fresh_account}
 use Rattle.ring_conductor.specs.Asking.{IsHeard, client_seat, client_view}
 use Rattle.ring_conductor.specs.Conducting.{KeepsTheRest, consumer_of, ledger_of, manager_in, received_of, transmitter_of}
-use Rattle.ring_conductor.specs.Finishing.{IsWhole, joined_by, replies_of}
+use Rattle.ring_rings.specs.Ring.{sent, IsWhole}
+use Rattle.ring_conductor.specs.Finishing.{joined_by, replies_of}
 use Rattle.ring_conductor.specs.Whole.{Concludes, opening_ledger, settled_message}
 use Rattle.ring_conductor.proofs.AccountLemmas.{account_as, account_in, work_shares}
 use Rattle.ring_conductor.proofs.WholeLemmas.{never_refused, two_folds, two_joined, two_reads, two_sent}
@@ -32,11 +33,11 @@ pub unreachable-requires : goal.unreachable-requires
 unreachable-requires g c =
     let is = c.into_parts-producer.ensures.producer ∙ c.poll-polled.ensures.producer in
     let shares = ap (λ (p : Producer). shares_of p) is
-    ∙ (c.send-2.ensures.holdings.holdings.shares ∙ (c.send.ensures.holdings.holdings.shares
+    ∙ (c.send-2.ensures.keeps.holdings.shares ∙ (c.send.ensures.keeps.holdings.shares
     ∙ (ap (λ (p : Producer). shares_of p) c.new-client.ensures.producer
     ∙ ap (λ (v : View). v.producer.shares) c.in-Ok.ensures.producer.1))) in
     let settled = ap (λ (p : Producer). open_claims_of p) is
-    ∙ (c.send-2.ensures.holdings.open_claims ∙ (c.send.ensures.holdings.open_claims
+    ∙ (c.send-2.ensures.keeps.open_claims ∙ (c.send.ensures.keeps.open_claims
     ∙ (ap (λ (p : Producer). open_claims_of p) c.new-client.ensures.producer
     ∙ ap (λ (v : View). open_count v.producer.claims) c.in-Ok.ensures.producer.1))) in
     let made = ap (λ (t : Transmitter). board_shares_of t) c.new-conductor.ensures.transmitter
@@ -154,8 +155,9 @@ returns g c =
           (subst (λ n. AreOrdered (capacity_of ring) n cs) c.in-Ok.ensures.ring.1 e.headline.ordered));
       received = ap messages_of received_now ∙ taken;
       counted = e.hands_on.received ∙ sym (ap length received_now);
-      whole = subst (λ (x : Producer). IsWhole (claims_of x) (received_of f.conductor.value) f.rest) (sym named_p)
-          (subst (λ (x : Conductor). IsWhole cs (received_of x) f.rest) (sym named_c) e.headline.whole);
+      whole = subst (λ (x : Producer). IsWhole (sent x) (messages_of (received_of f.conductor.value)) f.rest)
+          (sym named_p) (subst (λ (x : Conductor). IsWhole (sent p) (messages_of (received_of x)) f.rest)
+          (sym named_c) e.headline.whole);
       folded = two_folds (ledger_of begun.conductor) (ledger_of halfway.conductor) (ledger_of resumed.conductor)
           (ledger_of worked.conductor) (fresh_account 4 50) c.args.early c.args.late (messages_of early.messages)
           (messages_of late.messages) (ap account_in ledger_made) early.folded same late.folded ∙ out;

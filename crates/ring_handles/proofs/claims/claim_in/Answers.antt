@@ -10,4 +10,4 @@ returns-in-Ok-claim_once-clause-claims g c =
     let held = c.keep.ensures ∙ ap (λ l. l ++ made.claim ∷ []) c.reserve.ensures.same in
     subst (AreOpen c.args.ring.now c.claim_once.new.producer) (sym held)
     (one_more_open c.args.ring.now c.args.producer.now c.claim_once.new.producer (claims_in c.args.claims.now) made.claim
-    c.claim_once.ensures.holdings.claims made.ensures.opened.is_open made.ensures.opened.apart c.requires.claims)
+    c.claim_once.ensures.keeps.claims made.ensures.opened.is_open made.ensures.opened.apart c.requires.claims)

@@ -15,7 +15,7 @@ returns-in-Err-clause-holder g c =
       producer = c.claim.ensures.producer;
       held = subst (AreAllOpen c.args.ring.now c.claim.new.producer) (sym c.reserve.ensures.same)
           (still_all c.args.ring.now c.args.producer.now c.claim.new.producer (held_in c.args.claims.now)
-          c.requires.held c.claim.ensures.claims kept.open_claims);
+          c.requires.held c.claim.ensures.keeps kept.open_claims);
     }
 
 pub returns-in-Err-clause-tried : goal.returns-in-Err-clause-tried
@@ -34,7 +34,7 @@ returns-clause-holder g c =
       producer = c.claim.ensures.producer;
       held = subst (AreAllOpen c.args.ring.now c.claim.new.producer) (sym c.hold-number.ensures.held)
           (one_more_all c.args.ring.now c.args.producer.now c.claim.new.producer _ old c.in-Ok.claim
-          c.claim.ensures.claims c.in-Ok.ensures.opened gained.1);
+          c.claim.ensures.keeps c.in-Ok.ensures.opened gained.1);
     }
 
 pub returns-in-Err-clause-shares : goal.returns-in-Err-clause-shares

@@ -4,5 +4,5 @@ pub commit-requires-2-clause-claim : goal.commit-requires-2-clause-claim
 commit-requires-2-clause-claim g c =
     let first = c.claimed-first.result in
     let opened = c.claimed-first.ensures.opened.is_open in
-    c.commit.ensures.others.claims first (c.claimed-second.ensures.holdings.claims first opened)
+    c.commit.ensures.others.claims first (c.claimed-second.ensures.keeps.claims first opened)
     (c.claimed-second.ensures.opened.apart first opened)

@@ -22,7 +22,7 @@ invariant_of-self-2 c =
     sym (ap capacity_in c.in-Many-ring.is) ∙ ap (λ (s : Side). s.capacity) c.other.view_is ∙ sym (c.requires number).1
     ∙ sym (ap (λ (s : Side). s.capacity) c.self.view_is) ∙ ap capacity_in c.in-Many.is in
     let also = open_in (arc_value c.in-Many-ring.field-0) ring its.producer (claims_in its.claims) cap others.claimed in
-    let keeps = subst (λ r. KeepsBoth r mine.producer its.producer joined) c.deref.ensures c.join.ensures.claims in
+    let keeps = subst (λ r. KeepsBoth r mine.producer its.producer joined) c.deref.ensures c.join.ensures.keeps in
     let are = both_open ring mine.producer its.producer joined (claims_in mine.claims) (claims_in its.claims) keeps own.claimed
     also in
     subst (λ r. IsSide r joined (claims_in c.append.new.self)) (sym c.in-Many.is)

@@ -1,6 +1,7 @@
 use Rattle.std.proofs.Common.{ap, rules, ◌∙◌, arith}
 use Rattle.ring_table.specs.declared.view.View.{View}
 use Rattle.ring_rings.proofs.MadeLemmas.{keeps_claims, made_claims, made_consumes, made_few, made_matches, made_new, moved_newest, moved_opened}
+use Rattle.ring_rings.proofs.SentLemmas.{claim_sends_none}
 use Rattle.ring_rings.proofs.kind.Kind.claim_once.Goals as goal
 
 pub overflow_add-producer : goal.overflow_add-producer
@@ -40,9 +41,16 @@ returns-clause-opened g c =
     rw c.new.ensures (made_new (moved_opened moved c.args.producer.now.known.rising c.store_headers.new.seat.me.0
     (c.store_headers.ensures.opened _ _ (moved_newest moved))))
 
-pub returns-clause-holdings : goal.returns-clause-holdings
-returns-clause-holdings g c =
+pub returns-clause-keeps : goal.returns-clause-keeps
+returns-clause-keeps g c =
     let moved = c.in_ok-admission.ensures.told.0 in
     let made = moved_opened moved c.args.producer.now.known.rising c.store_headers.new.seat.me.0
     (c.store_headers.ensures.opened _ _ (moved_newest moved)) in
     record { claims = keeps_claims _ (made_claims made); shares = ap (λ (u : View). u.producer.shares) made.view }
+
+pub returns-clause-sent : goal.returns-clause-sent
+returns-clause-sent g c =
+    let made = moved_opened c.in_ok-admission.ensures.told.0 c.args.producer.now.known.rising
+    c.store_headers.new.seat.me.0
+    (c.store_headers.ensures.opened _ _ (moved_newest c.in_ok-admission.ensures.told.0)) in
+    claim_sends_none _ _ _ _ _ _ (made_claims made)

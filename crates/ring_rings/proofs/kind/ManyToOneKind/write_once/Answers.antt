@@ -5,6 +5,7 @@ use Rattle.ring_layout.proofs.CapacityLemmas.{capacity_blocks}
 use Rattle.ring_layout.proofs.PlaceLemmas.{next_within, span_bounds}
 use Rattle.std.proofs.lemmas.List.{length-replicate}
 use Rattle.ring_rings.proofs.MadeLemmas.{keeps_claims, moved_made, moved_newest, moved_recorded, written_claims, written_leaves, written_seat, written_view}
+use Rattle.ring_rings.proofs.SentLemmas.{write_sends}
 use Rattle.ring_rings.proofs.kind.ManyToOneKind.write_once.Goals as goal
 
 pub store_whole-requires-clause-inside : goal.store_whole-requires-clause-inside
@@ -46,8 +47,8 @@ returns-clause-written g c =
     c.store_whole.new.seat.me.0 (c.store_whole.ensures.stored _ _ (moved_newest moved))) in
     search rules
 
-pub returns-clause-holdings : goal.returns-clause-holdings
-returns-clause-holdings g c =
+pub returns-clause-keeps : goal.returns-clause-keeps
+returns-clause-keeps g c =
     let moved = c.in_ok-admission.ensures.told.0 in
     let made = moved_made moved c.args.producer.now.known.rising in
     let stored = moved_recorded moved c.args.body.now refl
@@ -60,3 +61,12 @@ returns-clause-holdings g c =
       };
       open_claims = left.open_claims;
     }
+
+pub returns-clause-sent : goal.returns-clause-sent
+returns-clause-sent g c =
+    let moved = c.in_ok-admission.ensures.told.0 in
+    let made = moved_made moved c.args.producer.now.known.rising in
+    let stored = moved_recorded moved c.args.body.now refl
+    c.store_whole.new.seat.me.0 (c.store_whole.ensures.stored _ _ (moved_newest moved)) in
+    let sends = write_sends _ _ _ _ _ _ (written_claims made c.args.body.now refl c.store_whole.new.seat.me.0 stored)
+    in search rules

@@ -10,6 +10,10 @@ use Rattle.ring_rings.proofs.MadeLemmas.{still_open}
 use Rattle.ring_rings.proofs.CountLemmas.{count_kept, stored_kept}
 use Rattle.ring_rings.proofs.RisingLemmas.{rising_kept}
 use Rattle.ring_rings.proofs.PutLemmas.{has_changed, has_other}
+use Rattle.ring_table.specs.Changes.{changed}
+use Rattle.ring_table.specs.Passing.{placed_message, shown_at}
+use Rattle.ring_rings.specs.Reading.{messages_of}
+use Rattle.ring_rings.proofs.SentLemmas.{change_sends_none}
 use Rattle.ring_rings.proofs.ring.Ring.put.Goals as goal
 
 pub put_bytes-requires-clause-place : goal.put_bytes-requires-clause-place
@@ -82,3 +86,14 @@ returns-clause-others g c =
           (put_at c.args.offset c.args.bytes.now) (IsStagedOpen t.type_id t.len)
           (ap (λ (v : View). v.producer.claims) put.view) h.claim (λ here. other (here ∙ c.place.ensures)));
     }
+
+pub returns-clause-sent : goal.returns-clause-sent
+returns-clause-sent g c =
+    let p = c.args.producer.now in
+    let t = c.args.claim.now in
+    let f : StagedClaim → StagedClaim = put_at c.args.offset c.args.bytes.now in
+    let h = c.requires.claim.claim in
+    change_sends_none p.seat.me.0 _ t.place t.type_id t.len f p.known.rising
+    (ap (λ (v : View). v.producer.claims) c.put_bytes.ensures.put.view
+    ∙ ap (λ n. changed n f p.seat.me.0.producer.claims) c.place.ensures) h
+    (ap (λ s. messages_of (shown_at s (placed_message (f h.claim)))) h.holds.stage)

@@ -2,6 +2,7 @@ use Rattle.std.proofs.Common.{ap, arith}
 use Rattle.ring_table.specs.declared.view.View.{View}
 use Rattle.ring_rings.specs.Seats.{consumer_view}
 use Rattle.ring_rings.proofs.AcrossLemmas.{blocked_on}
+use Rattle.ring_rings.proofs.ReceivedLemmas.{receives_both}
 use Rattle.ring_rings.proofs.ring.Ring.read_across.Goals as goal
 
 pub returns-clause-ends : goal.returns-clause-ends
@@ -16,3 +17,9 @@ returns-clause-ends g c =
           (consumer_view c.read-second.new.consumer) moves.loads (ap (λ (x : View). x.log) moves.view)
           (second.blocked stopped);
     }
+
+pub returns-clause-received : goal.returns-clause-received
+returns-clause-received g c =
+    receives_both g.H.Handler.step c.args.consumer.now c.read-first.new.consumer c.read-second.new.consumer
+    c.args.handler.now c.read-first.new.handler c.read-second.new.handler c.read-first.result.messages
+    c.read-second.result.messages c.read-first.ensures.received c.read-second.ensures.received

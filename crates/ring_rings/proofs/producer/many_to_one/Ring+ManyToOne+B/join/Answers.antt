@@ -5,6 +5,7 @@ use Rattle.ring_table.specs.ProducerSteps.{IsStagedOpen}
 use Rattle.ring_rings.proofs.MadeLemmas.{still_open}
 use Rattle.ring_rings.proofs.JoinLemmas.{joined_claims, joined_few, joined_matches}
 use Rattle.ring_rings.proofs.RisingLemmas.{has_first, has_second, two_apart}
+use Rattle.ring_rings.proofs.SentLemmas.{interleaved_merged}
 use Rattle.ring_rings.proofs.producer.many_to_one.Ring+ManyToOne+B.join.Goals as goal
 
 pub overflow_add-producer-2 : goal.overflow_add-producer-2
@@ -35,8 +36,8 @@ invariant_of-producer g c =
       home = loaded.seat.out ∙ joined.seat.out ∙ p.home;
     }
 
-pub returns-clause-claims : goal.returns-clause-claims
-returns-clause-claims g c =
+pub returns-clause-keeps : goal.returns-clause-keeps
+returns-clause-keeps g c =
     let p : View = c.args.producer.now.seat.me.0 in
     let q : View = c.args.other.seat.me.0 in
     let u : View = c.load_tail-producer.new.producer.me.0 in
@@ -50,3 +51,12 @@ returns-clause-claims g c =
       apart = λ t r h k. two_apart p q u claims (subst AreRising (sym same) loaded.rising) t.place r.place
           (IsStagedOpen t.type_id t.len) (IsStagedOpen r.type_id r.len) h.claim k.claim;
     }
+
+pub returns-clause-sent : goal.returns-clause-sent
+returns-clause-sent g c =
+    let p : View = c.args.producer.now.seat.me.0 in
+    let q : View = c.args.other.seat.me.0 in
+    interleaved_merged p.producer.claims q.producer.claims c.load_tail-producer.new.producer.me.0.producer.claims
+    c.args.other.known.rising (joined_claims c.args.self.now.capacity c.load_tail-producer.result p q
+    c.join_producer.new.producer.me.0 c.load_tail-producer.new.producer.me.0 c.join_producer.ensures.view
+    c.load_tail-producer.ensures.told)

@@ -1,6 +1,8 @@
-use Rattle.std.proofs.Common.{length, of_z, subst, to_z, true, w32}
+use Rattle.std.proofs.Common.{length, of_z, rules, subst, to_z, true, w32, ◌∙◌, ap, ◌++◌, ◌∷◌, []}
 use Rattle.ring_rings.specs.Claiming.{RefusesTry}
+use Rattle.ring_rings.specs.Ring.{message}
 use Rattle.ring_rings.specs.Seats.{capacity_of, view_of}
+use Rattle.ring_rings.proofs.SentLemmas.{tries_send_none}
 use Rattle.ring_rings.proofs.WaitLemmas.{tried_more, tried_none}
 use Rattle.ring_rings.proofs.producer.wait.Ring+ManyToOne+B.write.Goals as goal
 
@@ -15,4 +17,15 @@ loop-preserved g c =
     t.ensures.refused in
     tried_more c.args.self.now (to_z w32 (of_z w32 c.args.type_id))
     (length c.args.body.now) c.args.producer.now c.loop.producer c.write_once.new.producer t.field-0-0 t.field-0-1
-    c.loop.invariant t.ensures.producer told t.ensures.claims
+    c.loop.invariant t.ensures.producer told t.ensures.keeps
+
+pub returns-in-Ok-clause-sent : goal.returns-in-Ok-clause-sent
+returns-in-Ok-clause-sent g c =
+    let tries = tries_send_none _ _ _ c.loop.invariant.tries _ _ c.loop.invariant.contended in
+    let sends = c.in-Ok.ensures.sent.0
+    ∙ ap (λ l. l ++ message (to_z w32 (of_z w32 c.args.type_id)) c.args.body.now ∷ []) tries in
+    search rules
+
+pub returns-in-Err-Refused-clause-sent : goal.returns-in-Err-Refused-clause-sent
+returns-in-Err-Refused-clause-sent g c =
+    (tt, c.in-Err-Refused.ensures.sent.1 ∙ tries_send_none _ _ _ c.loop.invariant.tries _ _ c.loop.invariant.contended)

@@ -1,0 +1,78 @@
+-- A ring in a caller's words: the messages that a producer sent, that a consumer received, and that are unread.
+use Rattle.std.specs.Prelude.{◌≡◌, ◌⊎◌, ◌≤◌, ℕ, ℤ, List, [], ◌∷◌, ◌++◌, length}
+use Rattle.ring_layout.specs.declared.message.Claim.{Claim}
+use Rattle.ring_layout.specs.declared.message.Message.{Message}
+use Rattle.ring_layout.specs.Handles.{Handles}
+use Rattle.ring_layout.specs.History.{committed_of}
+use Rattle.ring_words.specs.declared.read.action.Action.{Action}
+use Rattle.ring_words.specs.declared.read.action.Action.TheVariants.{Abort}
+use Rattle.ring_words.specs.Ring.{Ring as ClosedRing, Has}
+use Rattle.ring_table.specs.declared.view.View.{View}
+use Rattle.ring_table.specs.Passing.{placed_committed_of}
+use Rattle.ring_table.specs.ProducerSteps.{HasClaimAt}
+use Rattle.ring_rings.specs.declared.ring.Consumer.{Consumer}
+use Rattle.ring_rings.specs.declared.ring.Producer.{Producer}
+use Rattle.ring_rings.specs.Reading.{messages_of}
+use Rattle.ring_rings.specs.Seats.{consumer_view, view_of}
+
+abbrev pub message : ℤ → List ℕ → Message
+message type_id body = record { type_id = type_id; body = body }
+
+-- what the producer with this view committed
+abbrev pub sent_in : View → List Message
+sent_in v = messages_of (placed_committed_of v.producer.claims)
+
+-- what the consumer with this view took
+abbrev pub received_in : View → List Message
+received_in v = messages_of v.consumer.taken
+
+-- The messages that a producer sent: those that it committed, in the order of their claims, which is the order in which
+-- the tail was moved
+abbrev pub sent : Producer → List Message
+sent p = sent_in (view_of p)
+
+-- the messages that a consumer received, the oldest first
+abbrev pub received : Consumer → List Message
+received c = received_in (consumer_view c)
+
+-- the messages that a closed ring still has: those committed in each history that it has
+abbrev pub IsUnread : ClosedRing → List Message → Type 0
+IsUnread rest unread = (h : List Claim) → Has rest h → committed_of h ≡ unread
+
+-- what was received, followed by what is unread, is what was sent, each message whole and once
+pub record IsWhole (sent received : List Message) (rest : ClosedRing) : Type 0 where
+  pub unread : List Message
+  pub left : IsUnread rest unread
+  pub all : received ++ unread ≡ sent
+
+-- the message of the claim at this place was sent: after those of earlier claims, before those of later ones
+pub record SendsClaimed (place : ℕ) (old new : Producer) : Type 0 where
+  pub message : Message
+  pub claimed : HasClaimAt (view_of old) place (λ c. c.message ≡ message)
+  pub before : List Message
+  pub after : List Message
+  pub was : sent old ≡ before ++ after
+  pub is : sent new ≡ before ++ message ∷ after
+
+-- zs is xs and ys put together, each in its order
+abbrev pub AreMerged : {A : Type 0} → List A → List A → List A → Type 0
+AreMerged xs ys [] = (xs ≡ []) × (ys ≡ [])
+AreMerged {A} xs ys (z ∷ zs) = ((rest : List A) × (xs ≡ z ∷ rest) × AreMerged rest ys zs)
+    ⊎ ((rest : List A) × (ys ≡ z ∷ rest) × AreMerged xs rest zs)
+
+-- this many messages were received, and the handler was shown them
+pub record Receives {S : Type 0} (step : S → Message → S → Action → Type 0) (old new : Consumer) (s t : S) (count : ℕ)
+    : Type 0 where
+  pub messages : List Message
+  pub actions : List Action
+  pub handled : Handles step s messages actions t
+  pub counted : count ≡ length messages
+  pub more : received new ≡ received old ++ messages
+
+-- or it was shown one more, at which it stopped the read by Abort, and which was left
+pub record Leaves {S : Type 0} (step : S → Message → S → Action → Type 0) (old new : Consumer) (s t : S) (count : ℕ)
+    : Type 0 where
+  pub between : S
+  pub message : Message
+  pub receives : Receives step old new s between count
+  pub aborted : step between message t Abort
