@@ -22,7 +22,7 @@ use Rattle.ring_conductor.specs.declared.whole.WholeRun.{WholeRun}
 use Rattle.ring_conductor.specs.Account.{fresh_account}
 use Rattle.ring_conductor.specs.Asking.{IsHeard, client_seat, client_view}
 use Rattle.ring_conductor.specs.Conducting.{KeepsTheRest, consumer_of, ledger_of, manager_in, received_of, transmitter_of}
-use Rattle.ring_rings.specs.Ring.{sent, IsWhole}
+use Rattle.ring_rings.specs.Ring.{sent as sent_by, IsWhole}
 use Rattle.ring_conductor.specs.Finishing.{joined_by, replies_of}
 use Rattle.ring_conductor.specs.Whole.{Concludes, opening_ledger, settled_message}
 use Rattle.ring_conductor.proofs.AccountLemmas.{account_as, account_in, work_shares}
@@ -155,8 +155,8 @@ returns g c =
           (subst (λ n. AreOrdered (capacity_of ring) n cs) c.in-Ok.ensures.ring.1 e.headline.ordered));
       received = ap messages_of received_now ∙ taken;
       counted = e.hands_on.received ∙ sym (ap length received_now);
-      whole = subst (λ (x : Producer). IsWhole (sent x) (messages_of (received_of f.conductor.value)) f.rest)
-          (sym named_p) (subst (λ (x : Conductor). IsWhole (sent p) (messages_of (received_of x)) f.rest)
+      whole = subst (λ (x : Producer). IsWhole (sent_by x) (messages_of (received_of f.conductor.value)) f.rest)
+          (sym named_p) (subst (λ (x : Conductor). IsWhole (sent_by p) (messages_of (received_of x)) f.rest)
           (sym named_c) e.headline.whole);
       folded = two_folds (ledger_of begun.conductor) (ledger_of halfway.conductor) (ledger_of resumed.conductor)
           (ledger_of worked.conductor) (fresh_account 4 50) c.args.early c.args.late (messages_of early.messages)
