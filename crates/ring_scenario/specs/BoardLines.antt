@@ -6,7 +6,7 @@ use Rattle.ring_board.specs.TransmitterSteps.{sent_on}
 use Rattle.ring_board.specs.declared.fault.SubscribeFault.{SubscribeFault}
 use Rattle.ring_board.specs.declared.fault.TransmitFault.{TransmitFault}
 use Rattle.ring_standalone.specs.Held.{held_in}
-use Rattle.ring_standalone.specs.Receivers.{LeavesAt, ReceivesAt, Subscribes, numbered_receivers}
+use Rattle.ring_standalone.specs.Receivers.{LeavesAt, ReceivesAt, Subscribes, by_number}
 use Rattle.ring_standalone.specs.declared.board.StandaloneBoard.{StandaloneBoard}
 use Rattle.ring_standalone.specs.declared.received.Received.{Received}
 use Rattle.ring_scenario.specs.RefusalTexts.{subscribe_refused, transmit_refused}
@@ -28,7 +28,7 @@ pub record SubscribesLine (old new : StandaloneBoard) (text : List ℕ) : Type 0
   pub made : Result ℕ SubscribeFault
   pub refused : IsSubscribedUnless (subscribe_refusal_of (shares_of old.transmitter)) made
   pub subscribed : IfOk made
-      (λ number. Subscribes (numbered_receivers old.transmitter old.receivers) number (numbered_receivers new.transmitter new.receivers))
+      (λ number. Subscribes (by_number old.transmitter old.receivers) number (by_number new.transmitter new.receivers))
   pub same : OnErr made ((new.transmitter ≡ old.transmitter) × (held_in new.receivers ≡ held_in old.receivers))
   pub board : new.board ≡ old.board
   pub prints : text ≡ answer_text (number_text (codes "receiver")) subscribe_refused made
@@ -43,6 +43,6 @@ pub record ReceivesLine (number : ℕ) (old new : StandaloneBoard) (text : List 
 
 -- the receiver of this number left
 pub record LeavesLine (number : ℕ) (old new : StandaloneBoard) (text : List ℕ) : Type 0 where
-  pub left : LeavesAt (numbered_receivers old.transmitter old.receivers) number (numbered_receivers new.transmitter new.receivers)
+  pub left : LeavesAt (by_number old.transmitter old.receivers) number (by_number new.transmitter new.receivers)
   pub board : new.board ≡ old.board
   pub prints : text ≡ ok_text

@@ -36,19 +36,22 @@ pub record AreAllOpen {K B : Type 0} {G : Ghosts B} (ring : Ring K B G) (p : Pro
   pub all : open_claims_of p ≡ held_count claims
 
 -- the producer is this ring's, and the claims are its open ones
-pub record AreClaimsOf {K B : Type 0} {G : Ghosts B} (ring : Ring K B G) (p : Producer) (claims : List (Option ClaimAt)) : Type 0 where
+pub record AreClaimsOf {K B : Type 0} {G : Ghosts B} (ring : Ring K B G) (p : Producer)
+    (claims : List (Option ClaimAt)) : Type 0 where
   pub producer : IsProducerOf ring p
   pub held : AreAllOpen ring p claims
 
 -- a claim was made, and has the next number and this index
-pub record MakesNumbered (C : ℕ) (old : NumberedClaims) (type_id : ℤ) (len : ℕ) (next at : ℕ) (new : NumberedClaims) : Type 0 where
+pub record MakesNumbered (C : ℕ) (old : NumberedClaims) (type_id : ℤ) (len : ℕ) (next at : ℕ)
+    (new : NumberedClaims) : Type 0 where
   pub claim : ClaimAt
   pub made : AfterTries C type_id len old.view (λ v. Claims true C type_id len v claim new.view)
   pub comes : Comes claim old.claims next new.claims
   pub index : at ≡ claim.index
 
 -- a claim of this many bytes was refused
-pub record Declines (C : ℕ) (old : NumberedClaims) (type_id : ℤ) (len : ℕ) (fault : ClaimFault) (new : NumberedClaims) : Type 0 where
+pub record Declines (C : ℕ) (old : NumberedClaims) (type_id : ℤ) (len : ℕ) (fault : ClaimFault)
+    (new : NumberedClaims) : Type 0 where
   pub refused : AfterTries C type_id len old.view (λ v. Refuses true C type_id len v fault new.view)
   pub same : new.claims ≡ old.claims
 

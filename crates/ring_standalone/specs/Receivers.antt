@@ -17,8 +17,8 @@ pub record NumberedReceivers : Type 0 where
   pub transmitter : Transmitter
   pub receivers : List (Option CopyReceiver)
 
-abbrev pub numbered_receivers : Transmitter → Numbered CopyReceiver → NumberedReceivers
-numbered_receivers t receivers = record { transmitter = t; receivers = held_in receivers }
+abbrev pub by_number : Transmitter → Numbered CopyReceiver → NumberedReceivers
+by_number t receivers = record { transmitter = t; receivers = held_in receivers }
 
 -- the receivers are this broadcast buffer's
 abbrev pub AreReceivers : Board → List (Option CopyReceiver) → Type 0

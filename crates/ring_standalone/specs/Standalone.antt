@@ -34,7 +34,8 @@ pub record AreSeats {K B : Type 0} {G : Ghosts B} (ring : Ring K B G) (p : Produ
 
 -- a ring as it is made
 abbrev pub fresh_standalone : ℕ → Standalone
-fresh_standalone C = record { capacity = C; producer = numbered_claims (first_producer C 0) []; consumer = first_consumer C 0 }
+fresh_standalone C =
+    record { capacity = C; producer = numbered_claims (first_producer C 0) []; consumer = first_consumer C 0 }
 
 -- the ring whose producer knows and holds this
 abbrev pub with_numbered_claims : NumberedClaims → Standalone → Standalone

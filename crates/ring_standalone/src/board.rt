@@ -10,7 +10,7 @@ ghost use Rattle.ring_board.specs.Seats.{capacity_of, next_record, shares_of, st
 ghost use Rattle.ring_board.specs.TransmitterSteps.{sent_on};
 ghost use Rattle.ring_standalone.specs.Held.{IsFree, held_in};
 ghost use Rattle.ring_standalone.specs.Receivers.{LeavesAt, ReceivesAt, Subscribes};
-ghost use Rattle.ring_standalone.specs.Receivers.{all_left, numbered_receivers, shares_in, AreReceiversOf};
+ghost use Rattle.ring_standalone.specs.Receivers.{all_left, by_number, shares_in, AreReceiversOf};
 
 use crate::numbered::Numbered;
 use crate::received::Received;
@@ -27,8 +27,8 @@ pub struct StandaloneBoard {
     transmitter: Transmitter,
     /// The receivers that have not left.
     receivers: Numbered<CopyReceiver>,
-    ghost belong: { AreReceiversOf board (numbered_receivers transmitter receivers) },
-    ghost shares: { shares_in (numbered_receivers transmitter receivers) ≡ all_shares },
+    ghost belong: { AreReceiversOf board (by_number transmitter receivers) },
+    ghost shares: { shares_in (by_number transmitter receivers) ≡ all_shares },
 }
 
 /// Makes a receiver, keeps it under the next number, and returns the number. The room to keep it is made first.
@@ -38,15 +38,15 @@ fn make_receiver(
     transmitter: &mut Transmitter,
     receivers: &mut Numbered<CopyReceiver>,
 ) -> Result<Result<usize, SubscribeFault>, AllocError>
-    requires { AreReceiversOf board.now (numbered_receivers transmitter.old receivers.old) }
-    ensures numbered { AreReceiversOf board.now (numbered_receivers transmitter.new receivers.new) }
+    requires { AreReceiversOf board.now (by_number transmitter.old receivers.old) }
+    ensures numbered { AreReceiversOf board.now (by_number transmitter.new receivers.new) }
     ensures made { IfOk result (λ made. IfOk made (λ number.
-        Subscribes (numbered_receivers transmitter.old receivers.old) number (numbered_receivers transmitter.new receivers.new))) }
+        Subscribes (by_number transmitter.old receivers.old) number (by_number transmitter.new receivers.new))) }
     ensures same { IfOk result (λ made. OnErr made
         ((transmitter.new ≡ transmitter.old) × (held_in receivers.new ≡ held_in receivers.old))) }
     ensures refused { IfOk result (λ made. IsSubscribedUnless (subscribe_refusal_of (shares_of transmitter.old)) made) }
-    ensures shares { shares_in (numbered_receivers transmitter.new receivers.new)
-        ≡ shares_in (numbered_receivers transmitter.old receivers.old) }
+    ensures shares { shares_in (by_number transmitter.new receivers.new)
+        ≡ shares_in (by_number transmitter.old receivers.old) }
 {
     receivers.reserve()?;
     let receiver = match board.subscribe(alloc, transmitter) {
@@ -63,15 +63,15 @@ fn join_receiver(
     receivers: &mut Numbered<CopyReceiver>,
     number: usize,
 ) -> Option<()>
-    requires { AreReceiversOf board.now (numbered_receivers transmitter.old receivers.old) }
-    ensures numbered { AreReceiversOf board.now (numbered_receivers transmitter.new receivers.new) }
+    requires { AreReceiversOf board.now (by_number transmitter.old receivers.old) }
+    ensures numbered { AreReceiversOf board.now (by_number transmitter.new receivers.new) }
     ensures left { OnSome result
-        (LeavesAt (numbered_receivers transmitter.old receivers.old) number (numbered_receivers transmitter.new receivers.new)) }
+        (LeavesAt (by_number transmitter.old receivers.old) number (by_number transmitter.new receivers.new)) }
     ensures same { IfNone result
         ((transmitter.new ≡ transmitter.old) × (held_in receivers.new ≡ held_in receivers.old)) }
     ensures free { IfNone result (IsFree (held_in receivers.old) number) }
-    ensures shares { shares_in (numbered_receivers transmitter.new receivers.new)
-        ≡ shares_in (numbered_receivers transmitter.old receivers.old) }
+    ensures shares { shares_in (by_number transmitter.new receivers.new)
+        ≡ shares_in (by_number transmitter.old receivers.old) }
 {
     let receiver = receivers.take(number)?;
     board.join(transmitter, receiver);
@@ -112,7 +112,8 @@ impl StandaloneBoard {
         ensures refused { IfOk result (λ made.
             IsSubscribedUnless (subscribe_refusal_of (shares_of self.old.transmitter)) made) }
         ensures made { IfOk result (λ made. IfOk made (λ number. Subscribes
-            (numbered_receivers self.old.transmitter self.old.receivers) number (numbered_receivers self.new.transmitter self.new.receivers))) }
+            (by_number self.old.transmitter self.old.receivers) number
+            (by_number self.new.transmitter self.new.receivers))) }
         ensures same { IfOk result (λ made. OnErr made ((self.new.transmitter ≡ self.old.transmitter)
             × (held_in self.new.receivers ≡ held_in self.old.receivers))) }
         ensures board { self.new.board ≡ self.old.board }
@@ -140,7 +141,8 @@ impl StandaloneBoard {
     /// Joins the receiver of this number. Returns `None` if there is no such receiver.
     pub fn leave(&mut self, number: usize) -> Option<()>
         ensures left { OnSome result (LeavesAt
-            (numbered_receivers self.old.transmitter self.old.receivers) number (numbered_receivers self.new.transmitter self.new.receivers)) }
+            (by_number self.old.transmitter self.old.receivers) number
+            (by_number self.new.transmitter self.new.receivers)) }
         ensures same { IfNone result ((self.new.transmitter ≡ self.old.transmitter)
             × (held_in self.new.receivers ≡ held_in self.old.receivers)) }
         ensures free { IfNone result (IsFree (held_in self.old.receivers) number) }

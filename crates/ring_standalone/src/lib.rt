@@ -6,13 +6,13 @@
 #![tactic(auto)]
 
 mod board;
-mod ring;
 mod numbered;
 mod received;
 mod receiving;
+mod ring;
 
 pub use board::StandaloneBoard;
-pub use ring::{Claimed, StandaloneRing};
 pub use numbered::Numbered;
 pub use received::Received;
 pub use receiving::receive_at;
+pub use ring::{Claimed, StandaloneRing};

@@ -5,7 +5,7 @@ ghost use Rattle.ring_board.specs.Refusals.{subscribe_refusal_of, IsSubscribedUn
 ghost use Rattle.ring_board.specs.Seats.{shares_of};
 ghost use Rattle.ring_conductor.specs.Conducting.{KeepsTheRest, transmitter_of};
 ghost use Rattle.ring_standalone.specs.Held.{IsFree, held_in};
-ghost use Rattle.ring_standalone.specs.Receivers.{LeavesAt, ReceivesAt, Subscribes, numbered_receivers, shares_in, AreReceiversOf};
+ghost use Rattle.ring_standalone.specs.Receivers.{LeavesAt, ReceivesAt, Subscribes, by_number, shares_in, AreReceiversOf};
 ghost use Rattle.ring_scenario.specs.Keeping.{KeepsButListeners, KeepsRing};
 
 use super::CommandService;
@@ -21,17 +21,17 @@ fn make_listener(
     conductor: &mut Conductor,
     listeners: &mut Numbered<CopyReceiver>,
 ) -> Result<Result<usize, SubscribeFault>, AllocError>
-    requires { AreReceiversOf board.now (numbered_receivers (transmitter_of conductor.old) listeners.old) }
-    ensures numbered { AreReceiversOf board.now (numbered_receivers (transmitter_of conductor.new) listeners.new) }
+    requires { AreReceiversOf board.now (by_number (transmitter_of conductor.old) listeners.old) }
+    ensures numbered { AreReceiversOf board.now (by_number (transmitter_of conductor.new) listeners.new) }
     ensures made { IfOk result (λ made. IfOk made (λ number. Subscribes
-        (numbered_receivers (transmitter_of conductor.old) listeners.old) number
-        (numbered_receivers (transmitter_of conductor.new) listeners.new))) }
+        (by_number (transmitter_of conductor.old) listeners.old) number
+        (by_number (transmitter_of conductor.new) listeners.new))) }
     ensures same { IfOk result (λ made. OnErr made
         ((conductor.new ≡ conductor.old) × (held_in listeners.new ≡ held_in listeners.old))) }
     ensures refused { IfOk result (λ made.
         IsSubscribedUnless (subscribe_refusal_of (shares_of (transmitter_of conductor.old))) made) }
-    ensures shares { shares_in (numbered_receivers (transmitter_of conductor.new) listeners.new)
-        ≡ shares_in (numbered_receivers (transmitter_of conductor.old) listeners.old) }
+    ensures shares { shares_in (by_number (transmitter_of conductor.new) listeners.new)
+        ≡ shares_in (by_number (transmitter_of conductor.old) listeners.old) }
     ensures others { KeepsTheRest conductor.old conductor.new }
 {
     listeners.reserve()?;
@@ -49,16 +49,16 @@ fn join_listener(
     listeners: &mut Numbered<CopyReceiver>,
     number: usize,
 ) -> Option<()>
-    requires { AreReceiversOf board.now (numbered_receivers (transmitter_of conductor.old) listeners.old) }
-    ensures numbered { AreReceiversOf board.now (numbered_receivers (transmitter_of conductor.new) listeners.new) }
+    requires { AreReceiversOf board.now (by_number (transmitter_of conductor.old) listeners.old) }
+    ensures numbered { AreReceiversOf board.now (by_number (transmitter_of conductor.new) listeners.new) }
     ensures left { OnSome result (LeavesAt
-        (numbered_receivers (transmitter_of conductor.old) listeners.old) number
-        (numbered_receivers (transmitter_of conductor.new) listeners.new)) }
+        (by_number (transmitter_of conductor.old) listeners.old) number
+        (by_number (transmitter_of conductor.new) listeners.new)) }
     ensures same { IfNone result
         ((conductor.new ≡ conductor.old) × (held_in listeners.new ≡ held_in listeners.old)) }
     ensures free { IfNone result (IsFree (held_in listeners.old) number) }
-    ensures shares { shares_in (numbered_receivers (transmitter_of conductor.new) listeners.new)
-        ≡ shares_in (numbered_receivers (transmitter_of conductor.old) listeners.old) }
+    ensures shares { shares_in (by_number (transmitter_of conductor.new) listeners.new)
+        ≡ shares_in (by_number (transmitter_of conductor.old) listeners.old) }
     ensures others { KeepsTheRest conductor.old conductor.new }
 {
     let listener = listeners.take(number)?;
@@ -72,8 +72,8 @@ impl CommandService {
         ensures refused { IfOk result (λ made.
             IsSubscribedUnless (subscribe_refusal_of (shares_of (transmitter_of self.old.conductor))) made) }
         ensures made { IfOk result (λ made. IfOk made (λ number. Subscribes
-            (numbered_receivers (transmitter_of self.old.conductor) self.old.listeners) number
-            (numbered_receivers (transmitter_of self.new.conductor) self.new.listeners))) }
+            (by_number (transmitter_of self.old.conductor) self.old.listeners) number
+            (by_number (transmitter_of self.new.conductor) self.new.listeners))) }
         ensures same { IfOk result (λ made. OnErr made ((self.new.conductor ≡ self.old.conductor)
             × (held_in self.new.listeners ≡ held_in self.old.listeners))) }
         ensures others { KeepsTheRest self.old.conductor self.new.conductor }
@@ -98,8 +98,8 @@ impl CommandService {
     /// Joins the listener of this number, if it is here.
     fn dismiss(&mut self, number: usize) -> Option<()>
         ensures left { OnSome result (LeavesAt
-            (numbered_receivers (transmitter_of self.old.conductor) self.old.listeners) number
-            (numbered_receivers (transmitter_of self.new.conductor) self.new.listeners)) }
+            (by_number (transmitter_of self.old.conductor) self.old.listeners) number
+            (by_number (transmitter_of self.new.conductor) self.new.listeners)) }
         ensures same { IfNone result (held_in self.new.listeners ≡ held_in self.old.listeners) }
         ensures free { IfNone result (IsFree (held_in self.old.listeners) number) }
         ensures others { KeepsTheRest self.old.conductor self.new.conductor }

@@ -1,5 +1,5 @@
 use Rattle.std.proofs.Common.{◌∙◌, arith}
-use Rattle.ring_standalone.specs.Receivers.{numbered_receivers}
+use Rattle.ring_standalone.specs.Receivers.{by_number}
 use Rattle.ring_standalone.proofs.HeldLemmas.{all_gone}
 use Rattle.ring_standalone.proofs.LeavingLemmas.{left_on}
 use Rattle.ring_standalone.proofs.board.StandaloneBoard.join_all.Goals as goal
@@ -11,8 +11,8 @@ loop-index-preserved c =
     let old = c.loop-index.self in
     let new = c.leave.new.self in
     let e = c.leave.ensures in (
-      left_on (numbered_receivers first.transmitter first.receivers) _ c.loop-index.index (numbered_receivers old.transmitter old.receivers) was.0
-          c.loop-index-test.true (numbered_receivers new.transmitter new.receivers) c.leave.result e.same e.left e.free,
+      left_on (by_number first.transmitter first.receivers) _ c.loop-index.index (by_number old.transmitter old.receivers) was.0
+          c.loop-index-test.true (by_number new.transmitter new.receivers) c.leave.result e.same e.left e.free,
       e.board ∙ was.1,
     )
 

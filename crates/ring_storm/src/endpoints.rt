@@ -1,9 +1,9 @@
 //! How clients get their seats, and give them back.
 ghost use Rattle.std.specs.Prelude.{◌≡◌, ◌<◌, IfOk, OnErr, OnOk};
 ghost use Rattle.ring_rings.specs.Seats.{shares_of};
-ghost use Rattle.ring_storm.specs.Storming.{IsClientAt, IsHubAt, IsNew, LendsSeats, TakesSeats, board_shares_of};
+ghost use Rattle.ring_storm.specs.Storming.{IsClientAt, AreEndpointsAt, IsNew, LendsSeats, TakesSeats, board_shares_of};
 
-use crate::seats::{Hub, StormClient};
+use crate::seats::{Endpoints, StormClient};
 use crate::shared::Shared;
 use ring_board::SubscribeFault;
 use ring_conductor::Client;
@@ -15,19 +15,19 @@ impl<G, B: Steps> Shared<'_, G, B> {
     pub(crate) fn split_client(
         &self,
         alloc: Global,
-        hub: &mut Hub,
+        endpoints: &mut Endpoints,
         index: u32,
     ) -> Result<StormClient, SubscribeFault>
-        requires hub { IsHubAt self.now hub.old }
+        requires endpoints { AreEndpointsAt self.now endpoints.old }
         requires index { index < 64 }
-        requires shares { (1 < shares_of hub.old.producer) × (1 < board_shares_of hub.old.conductor) }
-        ensures hub { IsHubAt self.now hub.new }
+        requires shares { (1 < shares_of endpoints.old.producer) × (1 < board_shares_of endpoints.old.conductor) }
+        ensures endpoints { AreEndpointsAt self.now endpoints.new }
         ensures client { IfOk result (λ c. IsClientAt self.now c × IsNew c × (c.index ≡ index)) }
-        ensures lends { OnOk result (LendsSeats hub.old hub.new) }
-        ensures err { OnErr result (hub.new ≡ hub.old) }
+        ensures lends { OnOk result (LendsSeats endpoints.old endpoints.new) }
+        ensures err { OnErr result (endpoints.new ≡ endpoints.old) }
     {
-        let receiver = hub.conductor.subscribe(alloc, self.board)?;
-        let producer = match self.ring.split(&mut hub.producer) {
+        let receiver = endpoints.conductor.subscribe(alloc, self.board)?;
+        let producer = match self.ring.split(&mut endpoints.producer) {
             Ok(producer) => producer,
             Err(_refused) => unreachable!(),
         };
@@ -40,11 +40,11 @@ impl<G, B: Steps> Shared<'_, G, B> {
     }
 
     /// Takes a client's endpoints back, and returns how many of its commands had their replies.
-    pub(crate) fn join_client(&self, hub: &mut Hub, client: StormClient) -> u64
-        requires hub { IsHubAt self.now hub.old }
+    pub(crate) fn join_client(&self, endpoints: &mut Endpoints, client: StormClient) -> u64
+        requires endpoints { AreEndpointsAt self.now endpoints.old }
         requires client { IsClientAt self.now client }
-        ensures hub { IsHubAt self.now hub.new }
-        ensures seats { TakesSeats client hub.old hub.new }
+        ensures endpoints { AreEndpointsAt self.now endpoints.new }
+        ensures seats { TakesSeats client endpoints.old endpoints.new }
         ensures seen { result ≡ client.seen }
     {
         let StormClient {
@@ -54,8 +54,8 @@ impl<G, B: Steps> Shared<'_, G, B> {
             seen,
         } = client;
         let (producer, receiver) = client.into_parts();
-        self.ring.join(&mut hub.producer, producer);
-        hub.conductor.join_receiver(self.board, receiver);
+        self.ring.join(&mut endpoints.producer, producer);
+        endpoints.conductor.join_receiver(self.board, receiver);
         seen
     }
 }
