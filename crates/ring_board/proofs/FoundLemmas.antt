@@ -17,7 +17,7 @@ use Rattle.ring_board.specs.declared.receiver.found.Found.TheVariants.{Entry}
 use Rattle.ring_board.specs.Records.{announced, body_len, is_padding, bytes_of, message_of}
 use Rattle.ring_board.specs.Views.{Sat, at_stage, logged, word_load, last_tail}
 use Rattle.ring_board.specs.ReceiverSteps.{copied, tail_loaded, header_loaded, word_loaded, passed, validated, IsSound, IsSoundAt, IsUnread, header_seen, answered, AnswersEntry}
-use Rattle.ring_board.specs.Receiving.{CopiedWords, TookAll, FailedValidation, GotCopy, GotMiss, GotRecord, IsInBuffer, ComesTo, FoundIs, NearIs}
+use Rattle.ring_board.specs.Receiving.{CopiedWords, TookAll, FailedBody, GotCopy, GotMiss, GotRecord, IsInBuffer, ComesTo, FoundIs, NearIs}
 
 passed_after : (v : View) (st : Stage) (x : ℕ) → v.stage ≡ st → x < v.at + v.capacity
     → validated v x ≡ logged (passed v st) (Intent x)
@@ -225,11 +225,11 @@ took_from m m1 m2 p w len out f h = let b : List ℕ = take len out in
       later_loads m.0 f.0 k.0 p f.2,
     )
 
-pub missed_from : (m m1 m2 : Sat) (p w x : ℕ) → (f : FoundIs (Entry p w) m m1) → FailedValidation x m1 m2
+pub missed_from : (m m1 m2 : Sat) (p w x : ℕ) → (f : FoundIs (Entry p w) m m1) → FailedBody x m1 m2
     → GotMiss p x m m2
-missed_from m m1 m2 p w x f h = missed_on (subst (λ (u : Sat). FailedValidation x u m2) f.1 h)
+missed_from m m1 m2 p w x f h = missed_on (subst (λ (u : Sat). FailedBody x u m2) f.1 h)
   where
-    missed_on : FailedValidation x (record m.0 { stage = Reading w []; at = p; log = m.0.log ++ f.0 }, m.1) m2
+    missed_on : FailedBody x (record m.0 { stage = Reading w []; at = p; log = m.0.log ++ f.0 }, m.1) m2
         → GotMiss p x m m2
     missed_on k = (
       f.0 ++ k.0,

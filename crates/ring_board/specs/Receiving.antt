@@ -60,9 +60,9 @@ abbrev pub TookAll : ℕ → ℕ → List ℕ → Sat → Sat → Type 0
 TookAll w len out m m' = (loads : List Load)
     × (m' ≡ (record (copied m.0 (message_of w (take len out))) { log = m.0.log ++ loads }, m.1)) × (len ≤ length out)
 
--- a validation failed at the intent x
-abbrev pub FailedValidation : ℕ → Sat → Sat → Type 0
-FailedValidation x m m' = (loads : List Load)
+-- the validation of a body failed at the intent x
+abbrev pub FailedBody : ℕ → Sat → Sat → Type 0
+FailedBody x m m' = (loads : List Load)
     × (m' ≡ (record m.0 { stage = Behind; log = m.0.log ++ (loads ++ Intent x ∷ []) }, m.1))
     × (m.0.at + m.0.capacity ≤ x)
 

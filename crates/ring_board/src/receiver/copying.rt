@@ -3,7 +3,7 @@ ghost use Rattle.std.specs.Prelude.{◌≡◌, ◌+◌, ◌/◌, ◌<◌, ◌≤
 
 use crate::board::{Board, Copied, CopyReceiver, Transmitter};
 use crate::fault::{Lapped, SubscribeFault};
-use crate::receiver::found::Front;
+use crate::receiver::found::CopiedMessage;
 use ring_layout::has_spare_share;
 use std::alloc::Global;
 
@@ -79,7 +79,7 @@ impl CopyReceiver {
     }
 
     /// Copies the next message to the front of its own scratch.
-    fn copy_next(&mut self, board: &Board) -> Result<Option<Front>, Lapped>
+    fn copy_next(&mut self, board: &Board) -> Result<Option<CopiedMessage>, Lapped>
         requires { IsReceiverOf board.now self.old }
         ensures board { IsReceiverOf board.now self.new }
         ensures got { MatchResult result (λ o. MatchOption o
@@ -94,7 +94,7 @@ impl CopyReceiver {
     }
 
     /// The copy at the front of the scratch.
-    fn front(&self, front: Front) -> Copied<'_>
+    fn front(&self, front: CopiedMessage) -> Copied<'_>
         requires { front.len ≤ vec_len self.now.scratch }
         ensures { (result.place ≡ front.place) × (result.type_id ≡ front.type_id)
             × (result.body.now ≡ take front.len self.now.scratch.items) }

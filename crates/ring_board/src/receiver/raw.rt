@@ -4,7 +4,7 @@ ghost use Rattle.ring_board.specs.Seats.{IsSeatOf, IsSameSeat};
 
 use crate::board::{Board, RawRecord, Receiver, Transmitter};
 use crate::fault::Lapped;
-use crate::receiver::found::Front;
+use crate::receiver::found::CopiedMessage;
 use crate::shared::steps::BoardSeat;
 use ring_layout::{NoShares, has_spare_share, put_part, span};
 
@@ -78,7 +78,7 @@ impl Receiver {
         ensures got { ReceivedNext self.old self.new result }
         ensures kept { StaysAnswered self.old self.new }
     {
-        match board.answer(&mut self.seat, self.place) {
+        match board.next_raw(&mut self.seat, self.place) {
             Ok(None) => Ok(None),
             Ok(Some(record)) => {
                 self.place = record.place + span(record.len);
@@ -98,7 +98,7 @@ impl Receiver {
         &mut self,
         board: &Board,
         scratch: &mut [u8],
-    ) -> Result<Option<Front>, Lapped>
+    ) -> Result<Option<CopiedMessage>, Lapped>
         requires board { IsRawOf board.now self.old }
         requires room { length scratch.old ≡ board.now.capacity / 8 }
         ensures board { IsRawOf board.now self.new }
@@ -108,7 +108,7 @@ impl Receiver {
         ensures len { MatchResult result (λ o. MatchOption o (Unit {0}) (λ f. f.len ≤ length scratch.new))
             (λ l. Unit {0}) }
     {
-        match board.attempt(&mut self.seat, self.place, scratch) {
+        match board.copy_next(&mut self.seat, self.place, scratch) {
             Ok(None) => Ok(None),
             Ok(Some(front)) => {
                 self.place = front.place + span(front.len);

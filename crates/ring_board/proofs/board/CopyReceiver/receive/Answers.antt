@@ -1,6 +1,6 @@
 use Rattle.std.proofs.Common.{ℕ, ℤ, List, take, refl, sym, subst}
 use Rattle.std.specs.Prelude.{MatchOption, Option}
-use Rattle.ring_board.specs.declared.receiver.found.Front.{Front}
+use Rattle.ring_board.specs.declared.receiver.found.CopiedMessage.{CopiedMessage}
 use Rattle.ring_board.specs.Receiving.{GotNothing, GotCopy}
 use Rattle.ring_board.specs.Seats.{receiver_seat}
 use Rattle.ring_board.proofs.board.CopyReceiver.receive.Goals as goal
@@ -9,7 +9,7 @@ pub returns-in-Some : goal.returns-in-Some
 returns-in-Some c = let f = c.front.ensures in let new = c.copy_next.new.self in let a =
     receiver_seat c.args.self.now in let b = receiver_seat new in
     let got : GotCopy c.in-Some.front.place c.in-Some.front.type_id (take c.in-Some.front.len new.scratch.items) a b
-    = subst (λ (o : Option Front). MatchOption o (GotNothing a b)
+    = subst (λ (o : Option CopiedMessage). MatchOption o (GotNothing a b)
     (λ q. GotCopy q.place q.type_id (take q.len new.scratch.items) a b)) c.in-Some.is
     c.in_ok-copy_next.ensures.got in (
       (
