@@ -1,4 +1,4 @@
-use Rattle.std.proofs.Common.{ap, ◌∙◌, subst}
+use Rattle.std.proofs.Common.{◌<◌, ap, sym, ◌∙◌, subst}
 use Rattle.std.specs.Prelude.{MatchOption, Option}
 use Rattle.ring_board.specs.declared.board.RawRecord.{RawRecord}
 use Rattle.ring_board.specs.Receiving.{GotNothing, GotRecord, IsInBuffer}
@@ -24,6 +24,14 @@ returns-in-Ok-Some-clause-kept c = let got =
     subst (Got c.args.self.now.seat.me c.next_raw.new.seat.me) c.in-Ok-Some.field-0-is
     c.in-Ok-Some.ensures.got in let copy = got.0.1 in
     λ r h. answered_more _ _ _ r (ap (λ (m : Sat). m.0.capacity) copy.1) (ap (λ (m : Sat). m.0.copies) copy.1) h
+
+pub returns-in-Err-clause-returned : goal.returns-in-Err-clause-returned
+returns-in-Err-clause-returned c =
+    let got = c.go_to_latest-place.ensures.lapped c.args.self.now.seat.me c.in-Err.ensures.got in let new = got.7 in (
+      ap (λ (m : Sat). m.0.copies) new,
+      ap (λ (m : Sat). m.0.count) new,
+      subst (λ (m : Sat). c.go_to_latest-place.result.1.place < m.0.at) (sym new) got.6,
+    )
 
 pub returns-in-Err-clause-kept : goal.returns-in-Err-clause-kept
 returns-in-Err-clause-kept c = let got = c.in-Err.ensures.got in let new = c.go_to_latest-place.ensures.seen in
