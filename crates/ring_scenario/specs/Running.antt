@@ -2,7 +2,8 @@
 use Rattle.std.specs.Prelude.{◌≡◌, ◌⊎◌, ◌↔◌, ℕ, ◌+◌, List, [], ◌∷◌, ◌++◌, IfSome, IsSome, IsTrue, Option, None, Some, codes, decimal, length}
 use Rattle.std.specs.Io.KnownBytes.{Appends}
 use Rattle.ring_board.specs.Runs.{AreAllRuns}
-use Rattle.ring_board.specs.Seats.{transmitted, view_of}
+use Rattle.ring_board.specs.Board.{transmitted}
+use Rattle.ring_board.specs.Seats.{view_of}
 use Rattle.ring_counters.specs.Manager.{registry_of}
 use Rattle.ring_counters.specs.Registry.{live_of}
 use Rattle.ring_lines.specs.declared.call.Call.{Call}

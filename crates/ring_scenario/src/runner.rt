@@ -1,7 +1,8 @@
 //! What a run holds, and what its calls print.
 ghost use Rattle.std.specs.Prelude.{◌≡◌, ◌↔◌, ℕ, None, IfErr, IfOk, IfSome, IsOkUnless, IsSome, IsTrue, OnOk, codes, string_bytes};
 ghost use Rattle.ring_board.specs.Runs.{AreAllRuns};
-ghost use Rattle.ring_board.specs.Seats.{transmitted, view_of};
+ghost use Rattle.ring_board.specs.Board.{transmitted};
+ghost use Rattle.ring_board.specs.Seats.{view_of};
 ghost use Rattle.ring_standalone.specs.Held.{IsFree, held_in};
 ghost use Rattle.ring_standalone.specs.Receivers.{all_left};
 ghost use Rattle.ring_scenario.specs.Closing.{read_count, LeavesMessages, TookAndLeft};

@@ -6,7 +6,8 @@ ghost use Rattle.ring_board.specs.Closing.{IsClosed, closed_capacity, closed_wor
 ghost use Rattle.ring_board.specs.Refusals.{subscribe_refusal_of, transmit_refusal_of, IsSubscribedUnless};
 ghost use Rattle.ring_board.specs.Rule.{opening_view};
 ghost use Rattle.ring_board.specs.Runs.{AreAllRuns};
-ghost use Rattle.ring_board.specs.Seats.{capacity_of, next_record, shares_of, start_of, tail_of, transmitted, view_of};
+ghost use Rattle.ring_board.specs.Board.{transmitted};
+ghost use Rattle.ring_board.specs.Seats.{capacity_of, next_record, shares_of, start_of, tail_of, view_of};
 ghost use Rattle.ring_board.specs.TransmitterSteps.{sent_on};
 ghost use Rattle.ring_standalone.specs.Held.{IsFree, held_in};
 ghost use Rattle.ring_standalone.specs.Receivers.{LeavesAt, ReceivesAt, Subscribes};

@@ -10,7 +10,7 @@ use Rattle.ring_table.specs.declared.view.Service.{Service}
 use Rattle.ring_rings.specs.Seats.{claims_of}
 use Rattle.ring_board.specs.declared.shared.view.Joined.{Joined}
 use Rattle.ring_board.specs.declared.shared.view.Taken.{Taken}
-use Rattle.ring_board.specs.Seats.{copies_of}
+use Rattle.ring_board.specs.Board.{copied}
 use Rattle.ring_protocol.specs.declared.reply.Reply.{Reply}
 use Rattle.ring_protocol.specs.declared.reply.Reply.TheVariants.{Allocated, Done, Refused, Closed}
 use Rattle.ring_conductor.specs.declared.client.Client.{Client}
@@ -43,7 +43,7 @@ abbrev pub draws_by : Client → List ℕ
 draws_by c = draws_of (producer_of c)
 
 abbrev pub copies_by : Client → List Taken
-copies_by c = copies_of (receiver_of c)
+copies_by c = copied (receiver_of c)
 
 -- the second list begins with the first
 abbrev pub Lengthens : {A : Type 0} → List A → List A → Type 0

@@ -12,7 +12,8 @@ use Rattle.ring_board.specs.declared.board.Transmitter.{Transmitter}
 use Rattle.ring_board.specs.declared.shared.view.View.{View as BoardView}
 use Rattle.ring_board.specs.Closing.{closed_words, IsClosed}
 use Rattle.ring_board.specs.Runs.{AreAllRuns}
-use Rattle.ring_board.specs.Seats.{capacity_of as board_capacity_of, receiver_seat, receiver_view, shares_of as board_shares_of, transmitted, view_of as transmitter_view}
+use Rattle.ring_board.specs.Board.{transmitted}
+use Rattle.ring_board.specs.Seats.{capacity_of as board_capacity_of, receiver_seat, receiver_view, shares_of as board_shares_of, view_of as transmitter_view}
 use Rattle.ring_board.specs.Views.{as_joined, fewer, newcomer}
 use Rattle.ring_counters.specs.declared.manager.CountersManager.{CountersManager}
 use Rattle.ring_counters.specs.Manager.{registry_of, writes_of}

@@ -3,7 +3,8 @@ use Rattle.ring_board.specs.declared.board.Board.{Board}
 use Rattle.ring_board.specs.declared.shared.view.View.{View}
 use Rattle.ring_board.specs.Closing.{IsClosed, closed_words}
 use Rattle.ring_board.specs.Runs.{AreAllRuns}
-use Rattle.ring_board.specs.Seats.{capacity_of, start_of, transmitted, view_of}
+use Rattle.ring_board.specs.Board.{transmitted}
+use Rattle.ring_board.specs.Seats.{capacity_of, start_of, view_of}
 use Rattle.ring_standalone.specs.Held.{held_in}
 use Rattle.ring_standalone.specs.Receivers.{all_left}
 use Rattle.ring_standalone.proofs.LeavingLemmas.{sent_stays}

@@ -3,7 +3,7 @@ use Rattle.std.specs.Int.{w32}
 use Rattle.std.proofs.lemmas.Bool.{leb-false}
 use Rattle.std.proofs.lemmas.Int.{to_z-of_z}
 use Rattle.ring_board.proofs.FoundLemmas.{answered_as}
-use Rattle.ring_board.proofs.board.Board.answer.Goals as goal
+use Rattle.ring_board.proofs.board.Board.next_raw.Goals as goal
 
 pub returns-else-is_lapped-clause-got : goal.returns-else-is_lapped-clause-got
 returns-else-is_lapped-clause-got c = let m = c.args.seat.now.me in let p : ℕ = c.in-Entry.place in let x : ℕ =

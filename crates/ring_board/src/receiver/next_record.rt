@@ -7,12 +7,12 @@ ghost use Rattle.ring_board.specs.declared.shared.view.Stage.TheVariants.{Behind
 ghost use Rattle.ring_board.specs.Records.{announced, body_len, word_count, is_padding};
 ghost use Rattle.ring_board.specs.Views.{Sat};
 ghost use Rattle.ring_board.specs.ReceiverSteps.{IsSound, LoadsLatest};
-ghost use Rattle.ring_board.specs.Receiving.{RestsAt, FoundIs, NearIs, IsInBuffer, CopiedWords, TookAll, FailedValidation, GotNothing, GotCopy, GotLapped, GotRecord, GotMiss};
+ghost use Rattle.ring_board.specs.Receiving.{RestsAt, FoundIs, NearIs, IsInBuffer, CopiedWords, TookAll, FailedBody, GotNothing, GotCopy, GotLapped, GotRecord, GotMiss};
 ghost use Rattle.ring_board.specs.Seats.{IsSeatOf, IsSameSeat};
 
 use crate::board::{Board, RawRecord};
 use crate::fault::Lapped;
-use crate::receiver::found::{Found, Front, Miss};
+use crate::receiver::found::{CopiedMessage, FailedValidation, Found};
 use crate::shared::steps::BoardSeat;
 use ring_layout::put_word;
 use ring_layout::record_descriptor::{HEADER_LENGTH, unpack_header};
@@ -48,7 +48,7 @@ impl Board {
     }
 
     /// Goes to the next entry, past padding if there is some, and loads its header, which is not yet validated.
-    fn approach(&self, seat: &mut BoardSeat, place: u64) -> Found
+    fn load_next_header(&self, seat: &mut BoardSeat, place: u64) -> Found
         requires seat { IsSeatOf self.now seat.old }
         requires stage { RestsAt self.now.capacity place seat.old.me }
         ensures same { IsSameSeat seat.old seat.new }
@@ -77,7 +77,7 @@ impl Board {
         ensures same { IsSameSeat seat.old seat.new }
         ensures found { FoundIs result seat.old.me seat.new.me }
     {
-        match self.approach(seat, place) {
+        match self.load_next_header(seat, place) {
             Found::Nothing(tail) => Found::Nothing(tail),
             Found::Missed(place, intent) => Found::Missed(place, intent),
             Found::Entry(place, header) => {
@@ -93,7 +93,11 @@ impl Board {
 
     /// Returns the next record unread, if there is one. Otherwise returns the place and the intent of a failed
     /// validation.
-    pub(crate) fn answer(&self, seat: &mut BoardSeat, place: u64) -> Result<Option<RawRecord>, Miss>
+    pub(crate) fn next_raw(
+        &self,
+        seat: &mut BoardSeat,
+        place: u64,
+    ) -> Result<Option<RawRecord>, FailedValidation>
         requires seat { IsSeatOf self.now seat.old }
         requires stage { RestsAt self.now.capacity place seat.old.me }
         ensures same { IsSameSeat seat.old seat.new }
@@ -101,13 +105,13 @@ impl Board {
             (λ r. GotRecord r seat.old.me seat.new.me × IsInBuffer seat.old.me.0.capacity r))
             (λ m. GotMiss m.place m.intent seat.old.me seat.new.me) }
     {
-        match self.approach(seat, place) {
+        match self.load_next_header(seat, place) {
             Found::Nothing(_) => Ok(None),
-            Found::Missed(place, intent) => Err(Miss { place, intent }),
+            Found::Missed(place, intent) => Err(FailedValidation { place, intent }),
             Found::Entry(place, header) => {
                 let intent = self.answer_entry(seat);
                 if self.is_lapped(place, intent) {
-                    return Err(Miss { place, intent });
+                    return Err(FailedValidation { place, intent });
                 }
                 Ok(Some(RawRecord {
                     place,
@@ -152,7 +156,7 @@ impl Board {
         requires room { length scratch.old ≡ self.now.capacity / 8 }
         ensures same { IsSameSeat seat.old seat.new }
         ensures took { MatchResult result (λ len. TookAll header len scratch.new seat.old.me seat.new.me
-            × (len ≡ body_len header)) (λ x. FailedValidation x seat.old.me seat.new.me) }
+            × (len ≡ body_len header)) (λ x. FailedBody x seat.old.me seat.new.me) }
     {
         let len = announced(header) as usize - HEADER_LENGTH;
         self.copy_body(seat, place, len.div_ceil(8), scratch);
@@ -166,7 +170,12 @@ impl Board {
 
     /// Goes to the record at latest, after a failed validation, and returns where that is. The lap is reported with its
     /// number, one more than before.
-    pub(crate) fn go_to_latest(&self, seat: &mut BoardSeat, count: u64, miss: Miss) -> (u64, Lapped)
+    pub(crate) fn go_to_latest(
+        &self,
+        seat: &mut BoardSeat,
+        count: u64,
+        miss: FailedValidation,
+    ) -> (u64, Lapped)
         requires seat { IsSeatOf self.now seat.old }
         requires stage { (seat.old.me.0.stage ≡ Behind) × (seat.old.me.0.count ≡ count) }
         ensures same { IsSameSeat seat.old seat.new }
@@ -185,12 +194,12 @@ impl Board {
 
     /// Copies the next message to the front of the scratch, if there is one. Otherwise returns the place and the intent
     /// of a failed validation.
-    pub(crate) fn attempt(
+    pub(crate) fn copy_next(
         &self,
         seat: &mut BoardSeat,
         place: u64,
         scratch: &mut [u8],
-    ) -> Result<Option<Front>, Miss>
+    ) -> Result<Option<CopiedMessage>, FailedValidation>
         requires seat { IsSeatOf self.now seat.old }
         requires stage { RestsAt self.now.capacity place seat.old.me }
         requires room { length scratch.old ≡ self.now.capacity / 8 }
@@ -203,14 +212,14 @@ impl Board {
     {
         match self.find(seat, place) {
             Found::Nothing(_) => Ok(None),
-            Found::Missed(place, intent) => Err(Miss { place, intent }),
+            Found::Missed(place, intent) => Err(FailedValidation { place, intent }),
             Found::Entry(place, header) => match self.take(seat, place, header, scratch) {
-                Ok(len) => Ok(Some(Front {
+                Ok(len) => Ok(Some(CopiedMessage {
                     place,
                     type_id: announced_type(header),
                     len,
                 })),
-                Err(intent) => Err(Miss { place, intent }),
+                Err(intent) => Err(FailedValidation { place, intent }),
             },
         }
     }

@@ -3,7 +3,7 @@ use Rattle.std.proofs.lemmas.Bool.{leb-false}
 use Rattle.ring_board.specs.Records.{announced, is_padding}
 use Rattle.ring_layout.specs.Places.{index, max_position}
 use Rattle.ring_board.proofs.FoundLemmas.{padding_loads, padded_as, padding_seen, padding_low, near_behind, heard_sure}
-use Rattle.ring_board.proofs.board.Board.approach.Goals as goal
+use Rattle.ring_board.proofs.board.Board.load_next_header.Goals as goal
 
 pub returns-clause-near : goal.returns-clause-near
 returns-clause-near c = let m = c.args.seat.now.me in let w : ℕ = c.load_header-header.result in let t : ℕ =

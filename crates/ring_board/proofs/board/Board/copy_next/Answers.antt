@@ -3,7 +3,7 @@ use Rattle.std.specs.Int.{w32}
 use Rattle.std.proofs.lemmas.Int.{to_z-of_z}
 use Rattle.ring_board.specs.Receiving.{GotCopy}
 use Rattle.ring_board.proofs.FoundLemmas.{took_from, missed_from}
-use Rattle.ring_board.proofs.board.Board.attempt.Goals as goal
+use Rattle.ring_board.proofs.board.Board.copy_next.Goals as goal
 
 pub returns-in-Ok-clause-got : goal.returns-in-Ok-clause-got
 returns-in-Ok-clause-got c = let m = c.args.seat.now.me in let t = c.announced_type.type_inv in let p : ℕ =
