@@ -6,4 +6,4 @@ use Rattle.ring_standalone.proofs.ring.StandaloneRing.next_correlation_id.Goals 
 pub invariant_of-self : goal.invariant_of-self
 invariant_of-self c =
     let e = c.next_correlation_id.ensures in
-    same_seats _ _ _ _ _ c.self.invariant e.producer e.claims (as_many _ _ (keeps_as _ _ _ e.draws.view refl refl))
+    same_seats _ _ _ _ _ c.self.invariant e.producer e.keeps (as_many _ _ (keeps_as _ _ _ e.draws.view refl refl))

@@ -12,7 +12,7 @@ use Rattle.ring_standalone.proofs.ring.StandaloneRing.write.Goals as goal
 pub invariant_of-self : goal.invariant_of-self
 invariant_of-self g c =
     let e = c.write.ensures in
-    same_seats _ _ _ _ _ c.self.invariant e.producer e.claims
+    same_seats _ _ _ _ _ c.self.invariant e.producer e.keeps
     (wrote c.write.result _ _ _ _ _ _ e.written e.refused)
 
 pub returns-clause-refused : goal.returns-clause-refused
