@@ -3,8 +3,8 @@ use Rattle.std.proofs.Common.{◌≡◌, ◌∙◌, ◌≤◌, ℕ, ℤ, List, l
 use Rattle.ring_table.specs.declared.view.View.{View}
 use Rattle.ring_rings.specs.declared.fault.TryFault.{TryFault}
 use Rattle.ring_rings.specs.Claiming.{Refusing, Writing}
-use Rattle.ring_conductor.specs.declared.client.request.Request.{Request}
-use Rattle.ring_conductor.specs.declared.client.request.Request.TheVariants.{Allocate, Free, Set, AllocateOwned, Close}
+use Rattle.ring_conductor.specs.declared.client.Request.{Request}
+use Rattle.ring_conductor.specs.declared.client.Request.TheVariants.{Allocate, Free, Set, AllocateOwned, Close}
 use Rattle.ring_conductor.specs.Asking.{asked, IsSendable}
 use Rattle.ring_protocol.specs.Command as command
 use Rattle.ring_protocol.specs.Command.{Instruction, HasTextLengths, spelling_of, type_id_of}

@@ -7,7 +7,7 @@ use Rattle.ring_words.specs.declared.read.action.Action.TheVariants.{Abort, Brea
 use Rattle.ring_words.specs.Controlled.{GoesOn}
 use Rattle.ring_layout.specs.declared.message.Message.{Message}
 use Rattle.ring_layout.specs.Handles.{Handles}
-use Rattle.ring_conductor.specs.declared.conductor.serving.Serving.{Serving}
+use Rattle.ring_conductor.specs.declared.conductor.working.Serving.{Serving}
 use Rattle.ring_layout.specs.History.{span}
 use Rattle.ring_layout.proofs.PlaceLemmas.{next_le, span_bounds}
 use Rattle.ring_table.specs.declared.claim.PlacedMessage.{PlacedMessage}

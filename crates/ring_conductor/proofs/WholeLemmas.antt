@@ -10,7 +10,7 @@ use Rattle.ring_rings.specs.Claiming.{Writes, record_behind}
 use Rattle.ring_rings.specs.Closing.{IsRefusedAs}
 use Rattle.ring_rings.specs.Reading.{messages_of}
 use Rattle.ring_protocol.specs.Command.{spelling_of, type_id_of}
-use Rattle.ring_conductor.specs.declared.client.request.Request.{Request}
+use Rattle.ring_conductor.specs.declared.client.Request.{Request}
 use Rattle.ring_conductor.specs.declared.finishing.fault.FinishFault.{FinishFault}
 use Rattle.ring_conductor.specs.Finishing.{finish_refusal_of}
 use Rattle.ring_conductor.specs.Account.{Account, account_of}

@@ -7,7 +7,7 @@ use Rattle.ring_words.specs.Read.{stop_of}
 use Rattle.ring_layout.specs.Handles.{Handles}
 use Rattle.ring_table.specs.declared.view.View.{View}
 use Rattle.ring_rings.specs.Reading.{Controls, WentOn, Broke, Aborts, EndsAt, Reads, messages_of}
-use Rattle.ring_conductor.specs.declared.conductor.serving.Serving.{Serving}
+use Rattle.ring_conductor.specs.declared.conductor.working.Serving.{Serving}
 use Rattle.ring_conductor.specs.declared.conductor.Work.{Work}
 use Rattle.ring_conductor.specs.declared.conductor.WorkStop.TheVariants as work
 use Rattle.ring_conductor.specs.Fold.{Ledger}

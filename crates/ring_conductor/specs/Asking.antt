@@ -17,8 +17,8 @@ use Rattle.ring_board.specs.Receiving.{GotCopy, GotLapped, GotNothing}
 use Rattle.ring_board.specs.Seats.{receiver_seat, IsReceiverOf}
 use Rattle.ring_board.specs.Views.{Sat}
 use Rattle.ring_protocol.specs.declared.reply.Reply.{Reply}
-use Rattle.ring_conductor.specs.declared.client.request.Request.{Request}
-use Rattle.ring_conductor.specs.declared.client.request.Request.TheVariants as of
+use Rattle.ring_conductor.specs.declared.client.Request.{Request}
+use Rattle.ring_conductor.specs.declared.client.Request.TheVariants as of
 use Rattle.ring_conductor.specs.declared.client.Client.{Client}
 use Rattle.ring_conductor.specs.declared.client.Polled.{Polled}
 use Rattle.ring_conductor.specs.declared.client.Polled.TheVariants.{Answered, Another, NoReply, Nothing, Lapped}

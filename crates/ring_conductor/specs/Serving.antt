@@ -7,7 +7,7 @@ use Rattle.ring_layout.specs.History.{span}
 use Rattle.ring_layout.specs.Places.{max_position, end_after}
 use Rattle.ring_board.specs.Seats.{IsTransmitterOf, view_of}
 use Rattle.ring_counters.specs.Manager.{registry_of, writes_of, shares_of, IsManagerOf}
-use Rattle.ring_conductor.specs.declared.conductor.serving.Serving.{Serving}
+use Rattle.ring_conductor.specs.declared.conductor.working.Serving.{Serving}
 use Rattle.ring_conductor.specs.Fold.{Ledger, served}
 use Rattle.ring_board.specs.declared.shared.view.View.{View}
 

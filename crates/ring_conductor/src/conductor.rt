@@ -2,7 +2,6 @@
 pub(crate) mod apply;
 pub(crate) mod heartbeat;
 pub(crate) mod run;
-pub(crate) mod serving;
 pub(crate) mod subscriptions;
 pub(crate) mod working;
 

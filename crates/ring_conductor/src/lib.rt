@@ -14,8 +14,7 @@ mod finishing;
 mod laws;
 mod whole;
 
-pub use client::request::Request;
-pub use client::{Client, Polled, SendFault};
+pub use client::{Client, Polled, Request, SendFault};
 pub use conductor::{Conductor, Cycle, Work, WorkStop};
 pub use finishing::fault::{FinishFault, FinishRefused};
 pub use finishing::{Finished, finish};

@@ -3,8 +3,7 @@
 ghost use Rattle.std.specs.Prelude.{◌^◌, ◌≤◌, IfOk};
 ghost use Rattle.ring_conductor.specs.Whole.{Concludes};
 
-use crate::client::request::Request;
-use crate::client::{Client, Polled, SendFault};
+use crate::client::{Client, Polled, Request, SendFault};
 use crate::conductor::{Conductor, Work};
 use crate::finishing::{Finished, finish};
 use ring_board::{Board, CopyReceiver};

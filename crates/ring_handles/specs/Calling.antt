@@ -13,7 +13,7 @@ use Rattle.ring_protocol.specs.Reply.{type_id_of}
 use Rattle.ring_conductor.specs.declared.client.Polled.TheVariants as told
 use Rattle.ring_conductor.specs.declared.client.SendFault.{SendFault}
 use Rattle.ring_conductor.specs.declared.client.SendFault.TheVariants as fault
-use Rattle.ring_conductor.specs.declared.client.request.Request.{Request}
+use Rattle.ring_conductor.specs.declared.client.Request.{Request}
 use Rattle.ring_conductor.specs.Asking.{client_seat, client_view, receiver_of, producer_of, IsHeard, IsSendable, RefusesSend, Sends}
 use Rattle.ring_handles.specs.declared.client.ClientSide.{ClientSide}
 

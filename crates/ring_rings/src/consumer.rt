@@ -1,5 +1,4 @@
 //! What the consumer does.
-pub(crate) mod find;
 pub(crate) mod heartbeat;
 pub(crate) mod load;
 pub(crate) mod pass;

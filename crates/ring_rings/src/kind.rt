@@ -11,9 +11,8 @@ ghost use Rattle.ring_rings.specs.Seats.{MayClaim, OpensNone};
 
 use crate::claim::Claim;
 use crate::fault::TryFault;
-use crate::producer::admission::{admit, test_request};
-use crate::producer::headers::{store_headers, store_whole};
-use crate::producer::room::find_room;
+use crate::producer::record::{store_headers, store_whole};
+use crate::producer::room::{admit, find_room, test_request};
 use crate::ring::{ManyToOne, OneToOne, Producer, Ring};
 use crate::steps::Steps;
 use ring_layout::Admission;

@@ -1,11 +1,11 @@
 //! The rings that threads share: any number of producers or one, and one consumer.
 //!
 //! - `ring`: a ring, its producers and its consumer. `open` makes it, `close` takes it apart.
-//! - `kind`: one claim for both kinds, and how each moves the tail and writes, by the functions of `admission`, `room`,
-//!   `headers` and `body`.
+//! - `kind`: one claim for both kinds, and how each moves the tail and writes, by the functions of `room` and
+//!   `record`.
 //! - `producer`: `one_to_one` and `many_to_one` have the calls, `wait` those that try again, `settle` what becomes of a
 //!   claim. `service`: ids, heartbeats and positions.
-//! - `consumer`: `read` has the calls, `turn` one turn of a read, made of `find`, `load` and `pass`. `heartbeat`.
+//! - `consumer`: `read` has the calls, `turn` one turn of a read, made of `load` and `pass`. `heartbeat`.
 //! - `source`: what a conductor needs of a ring.
 //! - `steps`: the steps as a trait, so that bodies may lie in words (`words`) or in slots (`slots`).
 //! - `claim`, `fault`: an open claim, and why calls refuse.

@@ -1,9 +1,7 @@
 //! What producers say of themselves, and how they are cut in two and put together.
-pub(crate) mod admission;
-pub(crate) mod body;
-pub(crate) mod headers;
 pub(crate) mod many_to_one;
 pub(crate) mod one_to_one;
+pub(crate) mod record;
 pub(crate) mod room;
 pub(crate) mod service;
 pub(crate) mod settle;

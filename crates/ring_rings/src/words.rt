@@ -1,7 +1,7 @@
 //! The steps of a ring whose bodies lie in words, one atomic word for eight bytes, as the ring's format has it.
 use crate::consumer::load::load_body;
 use crate::consumer::pass::clear_up;
-use crate::producer::body::{put_bytes, store_record};
+use crate::producer::record::{put_bytes, store_record};
 use crate::steps::{Closes, Steps};
 use ring_table::{
     Key, RingSeat, RingTable, Wanted, close, copy_words, draw_correlation_id, join_consumer,

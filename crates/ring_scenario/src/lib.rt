@@ -2,11 +2,10 @@
 //!
 //! - `scenario`: a text, line by line. `input` reads it whole, `options` are the command line.
 //! - `runner`: what a run holds, and what each call prints; `printer` shows messages, `refusal` faults.
-//! - `service`: the conductor's side of a run, made, working and closed; `commanding`: the commands that lines ask for.
+//! - `service`: the conductor's side of a run, made, working and closed.
 //! - `fault`: why a line or a run ends early.
 #![tactic(auto)]
 
-mod commanding;
 mod fault;
 mod input;
 mod options;

@@ -18,7 +18,7 @@ use Rattle.ring_rings.specs.Joining.{Joins}
 use Rattle.ring_rings.proofs.RisingLemmas.{rising_more}
 use Rattle.ring_conductor.specs.declared.client.SendFault.{SendFault}
 use Rattle.ring_conductor.specs.declared.client.SendFault.TheVariants as fault
-use Rattle.ring_conductor.specs.declared.client.request.Request.{Request}
+use Rattle.ring_conductor.specs.declared.client.Request.{Request}
 use Rattle.ring_conductor.specs.Asking.{asked, drawn_in, IsSendable, RefusesAs, SendsAs}
 use Rattle.ring_protocol.specs.Command.{spelling_of, type_id_of}
 

@@ -1,12 +1,16 @@
-//! Whether a ring has room for a claim.
-ghost use Rattle.std.specs.Prelude.{◌≡◌, MatchResult};
+//! Whether a claim may go, its place, and whether a ring has room for it.
+ghost use Rattle.ring_layout.specs.Places.{IsCapacity, max_position};
+ghost use Rattle.ring_rings.specs.Claiming.{IsRefusedBy, request_refusal_of, tail_refusal_of};
+ghost use Rattle.ring_rings.specs.Making.{FindsRoom, FindsShortage, GoesBehind};
 ghost use Rattle.ring_table.specs.Seats.{IsSameSeat, IsSeatOf};
-ghost use Rattle.ring_rings.specs.Making.{FindsRoom, FindsShortage};
+ghost use Rattle.std.specs.Prelude.{◌≡◌, MatchResult, ◌%◌, ◌≤◌, IfOk, None};
 
 use crate::fault::TryFault;
 use crate::steps::Steps;
-use ring_layout::{Admission, has_room};
-use ring_table::RingSeat;
+use ring_layout::{
+    Admission, has_room, is_length, is_position, is_type_id, max_message, place_record,
+};
+use ring_table::{RingSeat, Wanted};
 use ring_words::ClaimFault;
 
 /// Looks for room for a claim: after the cached head, and then after the head.
@@ -44,4 +48,35 @@ pub(crate) fn find_room<B: Steps>(
     }
     let fault = ClaimFault::InsufficientCapacity { tail, head };
     Err(TryFault::Refused(fault))
+}
+
+/// Tests the type id and the length of a message.
+pub(crate) fn test_request(capacity: u32, wanted: Wanted) -> Result<(), ClaimFault>
+    ensures { IsRefusedBy (request_refusal_of capacity wanted.type_id wanted.len) result }
+{
+    let Wanted { type_id, len } = wanted;
+    if !is_type_id(type_id) {
+        return Err(ClaimFault::BadType { type_id });
+    }
+    if !is_length(capacity, len) {
+        let max = max_message(capacity);
+        return Err(ClaimFault::TooLong { len, max });
+    }
+    Ok(())
+}
+
+/// Returns where the next message after a tail goes.
+pub(crate) fn admit(capacity: u32, tail: u64, wanted: Wanted) -> Result<Admission, ClaimFault>
+    requires capacity { IsCapacity capacity }
+    requires request { request_refusal_of capacity wanted.type_id wanted.len ≡ None }
+    requires tail { (tail % 8 ≡ 0) × (tail ≤ max_position) }
+    ensures refused { IsRefusedBy (tail_refusal_of capacity tail wanted.type_id wanted.len) result }
+    ensures admitted { IfOk result (GoesBehind capacity tail wanted.type_id wanted.len) }
+    ensures whole { IfOk result (λ a. a.end % 8 ≡ 0) }
+{
+    let admission = place_record(capacity, tail, wanted.len);
+    if !is_position(admission.end) {
+        return Err(ClaimFault::PositionLimit { tail });
+    }
+    Ok(admission)
 }

@@ -1,14 +1,14 @@
-//! Commands go into the ring.
-ghost use Rattle.std.specs.Prelude.{◌≡◌, ◌↔◌, length, IfErr, IfNone, IfOk, IfSome, IsSome, OnOk};
-ghost use Rattle.ring_standalone.specs.Claims.{RefusesAfter, WritesAfter};
+//! The commands that lines ask for go into the ring.
+ghost use Rattle.ring_protocol.specs.Command.{content_of};
 ghost use Rattle.ring_rings.specs.Seats.{capacity_of, view_of, IsProducerOf, OpensNone};
-ghost use Rattle.ring_scenario.specs.Instructions.{FitsRoom};
+ghost use Rattle.ring_scenario.specs.Instructions.{FitsRoom, instruction_of};
 ghost use Rattle.ring_scenario.specs.Keeping.{KeepsButProducer};
 ghost use Rattle.ring_scenario.specs.Serving.{RefusesRequest, SendsRequest};
+ghost use Rattle.ring_standalone.specs.Claims.{RefusesAfter, WritesAfter};
+ghost use Rattle.std.specs.Prelude.{◌≡◌, ◌↔◌, length, IfErr, IfNone, IfOk, IfSome, IsSome, OnOk};
 
 use super::CommandService;
-use crate::commanding::command;
-use ring_conductor::encode_command;
+use ring_conductor::{Command, encode_command};
 use ring_lines::Request;
 use ring_rings::{ClaimFault, ManyToOneRing, Producer};
 use std::sync::Wait;
@@ -93,5 +93,48 @@ impl CommandService {
         ensures rest { KeepsButProducer self.old self.new }
     {
         send_request(rt, &self.ring, &mut self.producer, request)
+    }
+}
+
+/// The command with this correlation id.
+pub fn command(request: &Request, correlation: u64) -> Command<'_>
+    ensures { content_of result ≡ instruction_of request.now correlation }
+{
+    match request {
+        Request::Allocate {
+            type_id,
+            key,
+            label,
+        } => Command::Allocate {
+            correlation,
+            type_id: *type_id,
+            key,
+            label,
+        },
+        Request::Free { id } => Command::Free {
+            correlation,
+            id: *id,
+        },
+        Request::Set { id, value } => Command::Set {
+            correlation,
+            id: *id,
+            value: *value,
+        },
+        Request::Own {
+            owner,
+            type_id,
+            key,
+            label,
+        } => Command::AllocateOwned {
+            correlation,
+            type_id: *type_id,
+            owner: *owner,
+            key,
+            label,
+        },
+        Request::Close { owner } => Command::Close {
+            correlation,
+            owner: *owner,
+        },
     }
 }

@@ -3,7 +3,7 @@ use Rattle.ring_table.specs.declared.claim.StagedClaim.{StagedClaim}
 use Rattle.ring_table.specs.Seats.{IsSameSeat}
 use Rattle.ring_table.specs.Views.{with_claims}
 use Rattle.ring_rings.specs.Bodies.{put_at, IsFreshClaim}
-use Rattle.ring_rings.proofs.producer.body.store_body.Given as goal
+use Rattle.ring_rings.proofs.producer.record.store_body.Given as goal
 
 abbrev pub invariant-loop-k : goal.invariant-loop-k
 invariant-loop-k l = record {

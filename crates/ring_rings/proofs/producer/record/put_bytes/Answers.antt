@@ -10,8 +10,8 @@ use Rattle.ring_rings.specs.Bodies.{loaded, put_at}
 use Rattle.ring_rings.proofs.BodyLemmas.{turn_stores, turn_takes}
 use Rattle.ring_rings.proofs.MergeLemmas.{merged, overwritten_nothing}
 use Rattle.ring_rings.proofs.PutLemmas.{changed_same}
-use Rattle.ring_rings.proofs.producer.body.put_bytes.Goals.{After-merged_word-word}
-use Rattle.ring_rings.proofs.producer.body.put_bytes.Goals as goal
+use Rattle.ring_rings.proofs.producer.record.put_bytes.Goals.{After-merged_word-word}
+use Rattle.ring_rings.proofs.producer.record.put_bytes.Goals as goal
 
 pub loop-done-init : goal.loop-done-init
 loop-done-init c =

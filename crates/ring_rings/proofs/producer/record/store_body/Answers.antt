@@ -7,7 +7,7 @@ use Rattle.ring_rings.specs.Bodies.{put_at}
 use Rattle.ring_rings.proofs.BodyLemmas.{fresh_stores, fresh_takes}
 use Rattle.ring_rings.proofs.IndexLemmas.{index_of_body}
 use Rattle.ring_rings.proofs.ReadingSeats.{same_more, same_none}
-use Rattle.ring_rings.proofs.producer.body.store_body.Goals as goal
+use Rattle.ring_rings.proofs.producer.record.store_body.Goals as goal
 
 pub loop-k-init : goal.loop-k-init
 loop-k-init c = record {

@@ -4,7 +4,7 @@ use Rattle.ring_layout.specs.History.{overwritten}
 use Rattle.ring_layout.proofs.WordBytes.{overwritten_word}
 use Rattle.ring_table.specs.Staged.{body_word}
 use Rattle.ring_rings.proofs.MergeLemmas.{small_at, small_overwritten}
-use Rattle.ring_rings.proofs.producer.body.merged_word.Goals as goal
+use Rattle.ring_rings.proofs.producer.record.merged_word.Goals as goal
 
 pub returns-clause-word : goal.returns-clause-word
 unfolding body_word

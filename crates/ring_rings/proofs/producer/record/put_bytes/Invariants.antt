@@ -3,7 +3,7 @@ use Rattle.ring_table.specs.Changes.{changed}
 use Rattle.ring_table.specs.Seats.{IsSameSeat}
 use Rattle.ring_table.specs.Views.{with_claims}
 use Rattle.ring_rings.specs.Bodies.{loaded, put_at}
-use Rattle.ring_rings.proofs.producer.body.put_bytes.Given as goal
+use Rattle.ring_rings.proofs.producer.record.put_bytes.Given as goal
 
 abbrev pub invariant-loop-done : goal.invariant-loop-done
 invariant-loop-done l = record {

@@ -3,7 +3,7 @@ use Rattle.ring_table.specs.declared.claim.Stage.TheVariants.{Padded}
 use Rattle.ring_table.specs.declared.view.View.{View}
 use Rattle.ring_table.specs.Changes.{recorded, staged}
 use Rattle.ring_table.specs.Views.{with_claims}
-use Rattle.ring_rings.proofs.producer.headers.store_whole.Goals as goal
+use Rattle.ring_rings.proofs.producer.record.store_whole.Goals as goal
 
 pub store_record-requires-clause-last : goal.store_record-requires-clause-last
 store_record-requires-clause-last g c =
