@@ -1,31 +1,26 @@
 -- What calls send and receive, by what they do to views.
-use Rattle.std.proofs.Common.{◌≡◌, ◌≢◌, ◌⊎◌, ◌∙◌, ◌<◌, ℕ, ℤ, zero, suc, Bool, true, false, List, [], ◌∷◌, ◌++◌, refl, sym, ap, subst, append_assoc, arith, inl, inr, lt-ltb, le-ltb, cond}
+use Rattle.std.proofs.Common.{◌≡◌, ◌∙◌, ◌<◌, ℕ, ℤ, zero, suc, List, [], ◌∷◌, ◌++◌, refl, sym, ap, subst, append_assoc, arith, inl, inr, lt-ltb, le-ltb, cond}
 use mathlib.Core.Option.{some, some-injective, some-ne-none}
 use lib.ListN.{get_elem?}
 use Rattle.std.proofs.lemmas.Bool.{cases_lt}
 use Rattle.std.proofs.lemmas.List.{append-nil}
-use Rattle.ring_layout.specs.declared.message.Claim.{Claim}
 use Rattle.ring_layout.specs.declared.message.ClaimState.TheVariants.{Open, Committed, Aborted}
 use Rattle.ring_layout.specs.declared.message.Message.{Message}
 use Rattle.ring_layout.specs.History.{committed_of, shown}
-use Rattle.ring_words.specs.Ring.{Ring, IsRing, Has}
-use Rattle.ring_words.specs.declared.fault.ClaimFault.{ClaimFault}
+use Rattle.ring_words.specs.Ring.{Ring, IsRing}
 use Rattle.ring_words.proofs.UniqueLemmas.{alike}
 use Rattle.ring_table.specs.declared.claim.PlacedMessage.{PlacedMessage}
 use Rattle.ring_table.specs.declared.claim.StagedClaim.{StagedClaim}
 use Rattle.ring_table.specs.declared.claim.Stage.{Stage}
 use Rattle.ring_table.specs.declared.claim.Stage.TheVariants.{Moved, Padded, Stored}
 use Rattle.ring_table.specs.declared.view.View.{View}
-use Rattle.ring_table.specs.Changes.{changed, changed_at, staged}
+use Rattle.ring_table.specs.Changes.{changed, staged}
 use Rattle.ring_table.specs.Owners.{insert_claim, interleaved}
 use Rattle.ring_table.specs.ProducerSteps.{HasClaimAt, IsStagedOpen}
 use Rattle.ring_table.specs.Passing.{placed_committed_of, placed_message, shown_at}
 use Rattle.ring_table.specs.Staged.{AreAbove, AreRising, claim_of, unplaced}
 use Rattle.ring_table.proofs.HistoryLemmas.{changed_at_other, changed_at_place}
-use Rattle.ring_rings.specs.declared.fault.TryFault.{TryFault}
-use Rattle.ring_rings.specs.declared.fault.TryFault.TheVariants.{Refused, Contended}
-use Rattle.ring_rings.specs.Claiming.{AreContended, Refuses, RefusesTry}
-use Rattle.ring_rings.specs.Claiming.{claim_behind, record_behind}
+use Rattle.ring_rings.specs.Claiming.{claim_behind, record_behind, AreContended}
 use Rattle.ring_rings.specs.Closing.{HandsOut}
 use Rattle.ring_rings.specs.Reading.{messages_of}
 use Rattle.ring_rings.specs.declared.ring.Producer.{Producer}
@@ -67,18 +62,6 @@ pub write_sends : (cs ds : List StagedClaim) (C tail : ℕ) (type_id : ℤ) (bod
     → ds ≡ cs ++ record_behind C tail type_id body ∷ [] → sent_of ds ≡ sent_of cs ++ message type_id body ∷ []
 write_sends cs ds C tail type_id body more =
     ap sent_of more ∙ sent_of-append cs (record_behind C tail type_id body ∷ [])
-
-pub refused_sends_none : (many : Bool) (C : ℕ) (type_id : ℤ) (len : ℕ) (v : View) (fault : ClaimFault) (w : View)
-    → Refuses many C type_id len v fault w → sent_in w ≡ sent_in v
-refused_sends_none many C type_id len v fault w (inl h) = ap sent_in h.1
-refused_sends_none many C type_id len v fault w (inr (inl h)) = ap sent_in h.view
-refused_sends_none many C type_id len v fault w (inr (inr h)) = ap sent_in h.view
-
-pub refused_try_sends_none : (many : Bool) (C : ℕ) (type_id : ℤ) (len : ℕ) (v : View) (fault : TryFault) (w : View)
-    → RefusesTry many C type_id len v fault w → sent_in w ≡ sent_in v
-refused_try_sends_none many C type_id len v (Refused fault) w h = refused_sends_none many C type_id len v fault w h
-refused_try_sends_none true C type_id len v (Contended tail seen) w h = ap sent_in h.view
-refused_try_sends_none false C type_id len v (Contended tail seen) w h = absurd h
 
 pub tries_send_none : (C : ℕ) (type_id : ℤ) (len : ℕ) (tries : List (ℕ × ℕ)) (v w : View)
     → AreContended C type_id len tries v w → sent_in w ≡ sent_in v
