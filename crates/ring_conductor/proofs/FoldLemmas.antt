@@ -1,5 +1,5 @@
 -- A handler that serves each message folds them.
-use Rattle.std.proofs.Common.{◌≡◌, ◌∙◌, ℕ, suc, ◌+◌, ◌*◌, ◌≤◌, List, [], ◌∷◌, ◌++◌, length, refl, ap, subst, arith}
+use Rattle.std.proofs.Common.{◌≡◌, ◌∙◌, ℕ, ◌+◌, ◌*◌, ◌≤◌, List, [], ◌∷◌, ◌++◌, length, refl, subst, arith}
 use Rattle.std.specs.Prelude.{All}
 use Rattle.std.proofs.lemmas.List.Elements.{All-head, All-tail}
 use Rattle.ring_words.specs.declared.read.action.Action.{Action}
@@ -10,8 +10,6 @@ use Rattle.ring_layout.specs.Handles.{Handles}
 use Rattle.ring_conductor.specs.declared.conductor.working.Serving.{Serving}
 use Rattle.ring_layout.specs.History.{span}
 use Rattle.ring_layout.proofs.PlaceLemmas.{next_le, span_bounds}
-use Rattle.ring_table.specs.declared.claim.PlacedMessage.{PlacedMessage}
-use Rattle.ring_rings.specs.Reading.{messages_of}
 use Rattle.ring_board.specs.declared.shared.view.View.{View}
 use Rattle.ring_protocol.specs.declared.reply.Reply.{Reply}
 use Rattle.ring_protocol.specs.Reply.{spelling_of}
