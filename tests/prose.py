@@ -1,4 +1,4 @@
-"""What tests/documents asks of prose: paths that exist, plain words, and not too many of them."""
+"""What tests/documents asks of prose: paths that exist, plain words, not too many of them, and a short glossary."""
 import fnmatch
 import os
 import re
@@ -8,6 +8,8 @@ TOP = os.path.dirname(os.path.dirname(os.path.abspath(__file__)))
 MOST_WORDS = 27000
 MOST_WORDS_OF_README = 1000
 MOST_LINES_OF_README = 120
+MOST_WORDS_OF_CALLS = 20
+STRUCTURES = {"rings", "broadcast buffer", "counters", "conductor"}
 PLACEHOLDER = r"(^|[/_])(NAME|CRATE|X|FILE|FUNCTION|MODULE|TYPE|DIR|PATH)([/_.]|$)"
 ENDINGS = r"[\w}]\.(?:rt|antt|md|py|svg|c|h|hpp|rs|ring|out|edit|txt|toml)$"
 COMMENT = {".rt": r"^\s*//[/!]? ?(.*)", ".antt": r"^\s*-- ?(.*)"}
@@ -144,3 +146,30 @@ def check_counts(report, pages):
     readme = read("README.md")
     report.need("README.md", counts["README.md"] <= MOST_WORDS_OF_README, "%d words" % counts["README.md"])
     report.need("README.md", readme.count("\n") <= MOST_LINES_OF_README, "%d lines" % readme.count("\n"))
+
+
+def explained(table):
+    """The words that a table of the glossary explains, each with the last line in bold above it."""
+    above = None
+    for line in table.split("\n"):
+        cell = line.split("|")[1].strip() if line.startswith("|") else ""
+        if cell.startswith("**"):
+            above = cell.strip("*")
+        elif cell not in ("", "Word", "---"):
+            for word in cell.split(", "):
+                yield above, word
+
+
+def check_glossary(report):
+    """The first table has what callers need, the second the rest. Each word is in one of them, once."""
+    page = "docs/GLOSSARY.md"
+    tables = [list(explained(table)) for table in re.split(r"(?m)^## ", read(page))[1:]]
+    report.need(page, len(tables) == 2, "%d tables" % len(tables))
+    counts = {above: sum(1 for its, _word in tables[0] if its == above) for above, _word in tables[0]}
+    report.need(page, set(counts) == STRUCTURES | {"several"}, "the first table is of " + ", ".join(map(str, counts)))
+    for structure in STRUCTURES:
+        count = counts.get(structure, 0) + counts.get("several", 0)
+        report.need(page, count <= MOST_WORDS_OF_CALLS, "%d words for callers of: %s" % (count, structure))
+    words = [word for table in tables for _above, word in table]
+    for word in sorted(set(words)):
+        report.need(page, words.count(word) == 1, "explains twice: " + word)

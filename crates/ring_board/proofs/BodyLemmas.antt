@@ -217,20 +217,23 @@ pub loaded_stays : (C place : ℕ) (before loads after : List Load) (body : List
     → IsLoaded C (before ++ (loads ++ after)) place body
 loaded_stays C place before loads after body h = (h.0, λ j lt. word_stays C _ _ before loads after (h.1 j lt), h.2, h.3)
 
+-- a body that was loaded is in the log
+pub loaded_now : (m m' : Sat) (place : ℕ) (body : List ℕ) → GaveBody place body m m'
+    → IsLoaded m'.0.capacity m'.0.log place body
+loaded_now m m' place body gave = subst (λ (s : Sat). IsLoaded s.0.capacity s.0.log place body) (sym gave.1)
+    (subst (λ (l : List Load). IsLoaded m.0.capacity (m.0.log ++ l) place body) (append_nil gave.0)
+    (loaded_stays m.0.capacity place m.0.log gave.0 [] body gave.2))
+
 -- a body that was loaded, and then validated, is that of the copy of its record
 pub loaded_whole : (m m1 m2 : Sat) (r : RawRecord) (body : List ℕ) → IsAnsweredRecord m1.0 r
     → GaveBody r.place body m m1
     → IsRight m1.0 r → Validated r true m1 m2
     → length body ≡ r.len → (n : ℕ) × (c : Taken) × (get_elem? m2.0.copies n ≡ some c) × (c.place ≡ r.place)
     × (c.message.body ≡ body)
-loaded_whole m m1 m2 r body answered gave right valid long = let q = answered.copy in let c : Taken = q.1 in
-    let loaded : IsLoaded m1.0.capacity m1.0.log r.place body =
-    subst (λ (s : Sat). IsLoaded s.0.capacity s.0.log r.place body) (sym gave.1)
-    (subst (λ (l : List Load). IsLoaded m.0.capacity (m.0.log ++ l) r.place body) (append_nil gave.0)
-    (loaded_stays m.0.capacity r.place m.0.log gave.0 [] body gave.2)) in (
-      q.0,
-      c,
-      ap (λ (s : Sat). get_elem? s.0.copies q.0) valid.1 ∙ q.2,
-      q.3,
-      sym (right q.0 c body q.2 q.3 loaded (long ∙ sym q.5)),
-    )
+loaded_whole m m1 m2 r body answered gave right valid long = let q = answered.copy in let c : Taken = q.1 in (
+  q.0,
+  c,
+  ap (λ (s : Sat). get_elem? s.0.copies q.0) valid.1 ∙ q.2,
+  q.3,
+  sym (right q.0 c body q.2 q.3 (loaded_now m m1 r.place body gave) (long ∙ sym q.5)),
+)

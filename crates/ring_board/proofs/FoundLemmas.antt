@@ -16,8 +16,8 @@ use Rattle.ring_board.specs.declared.shared.view.Stage.TheVariants.{Resting, Sur
 use Rattle.ring_board.specs.declared.receiver.found.Found.TheVariants.{Entry}
 use Rattle.ring_board.specs.Records.{announced, body_len, is_padding, bytes_of, message_of}
 use Rattle.ring_board.specs.Views.{Sat, at_stage, logged, word_load, last_tail}
-use Rattle.ring_board.specs.ReceiverSteps.{copied, tail_loaded, header_loaded, word_loaded, passed, validated, IsSound, IsSoundAt, IsUnread, header_seen, answered, AnswersEntry}
-use Rattle.ring_board.specs.Receiving.{CopiedWords, TookAll, FailedValidation, GotCopy, GotMiss, GotRecord, IsInBuffer, ComesTo, FoundIs, NearIs}
+use Rattle.ring_board.specs.ReceiverSteps.{after_copy, tail_loaded, header_loaded, word_loaded, passed, validated, IsSound, IsSoundAt, IsUnread, header_seen, answered, AnswersEntry}
+use Rattle.ring_board.specs.Receiving.{CopiedWords, TookAll, FailedBody, GotCopy, GotMiss, GotRecord, IsInBuffer, ComesTo, FoundIs, NearIs}
 
 passed_after : (v : View) (st : Stage) (x : ℕ) → v.stage ≡ st → x < v.at + v.capacity
     → validated v x ≡ logged (passed v st) (Intent x)
@@ -137,9 +137,9 @@ unread_answered m m1 m2 p w x body h is lt = let loads : List Load = h.0 in let 
       loads ++ Intent x ∷ [],
       is ∙ (ap (λ (y : Sat). (answered y.0 (header_seen y.0.stage) body x, y.1)) h.2
           ∙ (ap (λ (n : ℕ). (answered v n body x, m.1)) seen
-          ∙ (ap (λ (b : Bool). (logged (cond b (copied v (message_of w body)) (at_stage v Behind)) (Intent x), m.1))
+          ∙ (ap (λ (b : Bool). (logged (cond b (after_copy v (message_of w body)) (at_stage v Behind)) (Intent x), m.1))
           (lt-ltb x (p + m.0.capacity) lt)
-          ∙ ap (λ (l : List Load). (record (copied (record m.0 { at = p }) (message_of w body)) { log = l }, m.1))
+          ∙ ap (λ (l : List Load). (record (after_copy (record m.0 { at = p }) (message_of w body)) { log = l }, m.1))
           (append_assoc m.0.log loads (Intent x ∷ []))))),
       later_loads m.0 loads (Intent x ∷ []) p h.4,
     )
@@ -220,16 +220,16 @@ took_from m m1 m2 p w len out f h = let b : List ℕ = take len out in
     taken_on k = (
       f.0 ++ k.0,
       k.1 ∙ ap (λ (l : List Load).
-          (record (copied (record m.0 { at = p }) (message_of w (take len out))) { log = l }, m.1))
+          (record (after_copy (record m.0 { at = p }) (message_of w (take len out))) { log = l }, m.1))
           (append_assoc m.0.log f.0 k.0),
       later_loads m.0 f.0 k.0 p f.2,
     )
 
-pub missed_from : (m m1 m2 : Sat) (p w x : ℕ) → (f : FoundIs (Entry p w) m m1) → FailedValidation x m1 m2
+pub missed_from : (m m1 m2 : Sat) (p w x : ℕ) → (f : FoundIs (Entry p w) m m1) → FailedBody x m1 m2
     → GotMiss p x m m2
-missed_from m m1 m2 p w x f h = missed_on (subst (λ (u : Sat). FailedValidation x u m2) f.1 h)
+missed_from m m1 m2 p w x f h = missed_on (subst (λ (u : Sat). FailedBody x u m2) f.1 h)
   where
-    missed_on : FailedValidation x (record m.0 { stage = Reading w []; at = p; log = m.0.log ++ f.0 }, m.1) m2
+    missed_on : FailedBody x (record m.0 { stage = Reading w []; at = p; log = m.0.log ++ f.0 }, m.1) m2
         → GotMiss p x m m2
     missed_on k = (
       f.0 ++ k.0,

@@ -20,7 +20,7 @@ use Rattle.ring_board.specs.Records.{end, words_of_body, word_count, header_of, 
 use Rattle.ring_board.specs.Runs.{IsCopy, Neighbours, AreRuns}
 use Rattle.ring_board.specs.Rule.{Logged, latest, Receives, IsHeader, Knows, IsBoard, Holds}
 use Rattle.ring_board.specs.Views.{at_stage, logged}
-use Rattle.ring_board.specs.ReceiverSteps.{copy_of, copied, passed, validated, IsSound, IsSoundAt, IsUnread, answered, latest_loaded}
+use Rattle.ring_board.specs.ReceiverSteps.{copy_of, after_copy, passed, validated, IsSound, IsSoundAt, IsUnread, answered, latest_loaded}
 use Rattle.ring_board.proofs.PlaceLemmas.{lies_needed, lies_inside, lies_whole, chain_next, chain_last}
 use Rattle.ring_board.proofs.StoreLemmas.{words_long}
 use Rattle.ring_board.proofs.ByteLemmas.{announced_header, header_not_padding, padding_kind, message_whole, message_back}
@@ -117,9 +117,9 @@ module _ (C e : ℕ) (s : St) (by : ℕ) (mine : View) (h : IsBoard C e by mine 
         empty [] g = refl
         empty (y ∷ ys) g = absurd (omega arith)
 
-    copy_kept : (i : ℕ) (cs : List (ℕ × (Unit {0}))) → Kept i cs (record (copied v m) { log = log })
+    copy_kept : (i : ℕ) (cs : List (ℕ × (Unit {0}))) → Kept i cs (record (after_copy v m) { log = log })
     copy_kept i cs =
-        let u : View = record (copied v m) { log = log } in let climbs = k.climbs in let roomy = h.lawful.roomy in
+        let u : View = record (after_copy v m) { log = log } in let climbs = k.climbs in let roomy = h.lawful.roomy in
         let on' = shown_has C e h.lawful.roomy h.lawful.whole s.words mine.sent mine.stage v.next r on in
         let ch = shown_chain C e h.lawful.roomy h.lawful.whole s.words mine.sent mine.stage h.memory.running
         h.memory.chain in
@@ -289,7 +289,7 @@ module _ (C e : ℕ) (s : St) (by : ℕ) (mine : View) (h : IsBoard C e by mine 
       answer_of capacity k ne r on right = let logs = seen_intent x is in let body : List ℕ = r.message.body in
           let f = (entry C e s by mine h id v at r v.next on).0 in (
             body,
-            checked (copied v (message_of w body)) x i cs is capacity
+            checked (after_copy v (message_of w body)) x i cs is capacity
                 (λ lt. copy_kept (message_of w body) (v.log ++ Intent x ∷ []) ne capacity k r on (right lt).0
                 (ap (λ (y : ℕ). message_of y body) (right lt).1 ∙ message_whole C r.message h.lawful.narrow f.lawful)
                 logs i cs)

@@ -29,6 +29,10 @@ abbrev pub GaveBody : ℕ → List ℕ → Sat → Sat → Type 0
 GaveBody place body m m' =
     (loads : List Load) × (m' ≡ (record m.0 { log = m.0.log ++ loads }, m.1)) × IsLoaded m.0.capacity loads place body
 
+-- these bytes were loaded as the body of this record
+abbrev pub HasLoaded : View → RawRecord → List ℕ → Type 0
+HasLoaded v r body = IsLoaded v.capacity v.log r.place body
+
 -- if the intent x has not reached the place plus the capacity, what was loaded as a record's body is the body that the
 -- transmitter gave it
 abbrev pub AreRight : View → ℕ → Type 0
@@ -39,8 +43,7 @@ AreRight v x = (n : ℕ) (c : Taken) (body : List ℕ) → get_elem? v.copies n 
 -- the body of this record, wherever it was loaded, is the one that the transmitter gave it
 abbrev pub IsRight : View → RawRecord → Type 0
 IsRight v r = (n : ℕ) (c : Taken) (body : List ℕ) → get_elem? v.copies n ≡ some c → c.place ≡ r.place
-    → IsLoaded v.capacity v.log r.place body
-    → length body ≡ length c.message.body → body ≡ c.message.body
+    → HasLoaded v r body → length body ≡ length c.message.body → body ≡ c.message.body
 
 -- an intent was loaded, everything else is as before, and the return value is whether it is below the place plus the
 -- capacity

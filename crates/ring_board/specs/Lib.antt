@@ -8,6 +8,7 @@ pub mod TransmitterSteps
 pub mod ReceiverSteps
 pub mod Refusals
 pub mod Seats
+pub mod Board
 pub mod Lending
 pub mod Closing
 pub mod Receiving

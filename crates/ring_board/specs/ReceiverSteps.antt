@@ -1,5 +1,5 @@
 -- What each step of a receiver shows its seat.
-use Rattle.std.specs.Prelude.{◌≡◌, ℕ, ◌+◌, ◌-◌, ◌/◌, ◌%◌, ◌<◌, ◌≤◌, suc, if◌then◌else◌, nat_lt, List, [], ◌∷◌, ◌++◌, length, true, false, ◌⊎◌}
+use Rattle.std.specs.Prelude.{◌≡◌, ℕ, ◌+◌, ◌/◌, ◌%◌, ◌<◌, ◌≤◌, suc, if◌then◌else◌, nat_lt, List, [], ◌∷◌, ◌++◌, length, true, false, ◌⊎◌}
 use mathlib.Core.Option.{some}
 use lib.ListN.{get_elem?}
 use Rattle.ring_layout.specs.declared.message.Message.{Message}
@@ -49,8 +49,8 @@ abbrev pub copy_of : View → Message → Taken
 copy_of v m = record { place = v.at; message = m; count = v.count }
 
 -- the receiver after a copy of this message
-abbrev pub copied : View → Message → View
-copied v m = record v {
+abbrev pub after_copy : View → Message → View
+after_copy v m = record v {
   stage = Resting;
   at = v.at + span (length m.body);
   next = suc v.next;
@@ -62,7 +62,7 @@ copied v m = record v {
 abbrev pub passed : View → Stage → View
 passed v (Headed w) = at_stage v (if is_padding w then Padded w else Reading w [])
 passed v (Again w) = at_stage v (Reading w [])
-passed v (Reading w ws) = copied v (message_in w ws)
+passed v (Reading w ws) = after_copy v (message_in w ws)
 passed v st = v
 
 -- an intent was loaded: a place is valid if it is less than the capacity below it
@@ -100,7 +100,7 @@ header_seen _ = 0
 -- an intent was loaded, to validate the header w of a record with this body, which is returned unread
 abbrev pub answered : View → ℕ → List ℕ → ℕ → View
 answered v w body x =
-    logged (if nat_lt x (v.at + v.capacity) then copied v (message_of w body) else at_stage v Behind) (Intent x)
+    logged (if nat_lt x (v.at + v.capacity) then after_copy v (message_of w body) else at_stage v Behind) (Intent x)
 
 abbrev pub AnswersEntry : Sat → ℕ → Sat → Type 0
 AnswersEntry m x m' = (body : List ℕ) × (m' ≡ (answered m.0 (header_seen m.0.stage) body x, m.1))

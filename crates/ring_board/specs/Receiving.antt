@@ -15,7 +15,7 @@ use Rattle.ring_board.specs.declared.receiver.found.Found.{Found}
 use Rattle.ring_board.specs.declared.receiver.found.Found.TheVariants.{Nothing, Entry, Missed}
 use Rattle.ring_board.specs.Records.{announced, is_padding, bytes_of, message_of}
 use Rattle.ring_board.specs.Views.{Sat}
-use Rattle.ring_board.specs.ReceiverSteps.{copied, IsSound, IsUnread}
+use Rattle.ring_board.specs.ReceiverSteps.{after_copy, IsSound, IsUnread}
 
 -- a receiver of a broadcast buffer of capacity C rests at this place
 abbrev pub RestsAt : ℕ → ℕ → Sat → Type 0
@@ -58,11 +58,12 @@ CopiedWords w count out m m' = (ws : List ℕ) × (loads : List Load)
 -- a body of len bytes was copied to the front of out, and validated
 abbrev pub TookAll : ℕ → ℕ → List ℕ → Sat → Sat → Type 0
 TookAll w len out m m' = (loads : List Load)
-    × (m' ≡ (record (copied m.0 (message_of w (take len out))) { log = m.0.log ++ loads }, m.1)) × (len ≤ length out)
+    × (m' ≡ (record (after_copy m.0 (message_of w (take len out))) { log = m.0.log ++ loads }, m.1))
+    × (len ≤ length out)
 
--- a validation failed at the intent x
-abbrev pub FailedValidation : ℕ → Sat → Sat → Type 0
-FailedValidation x m m' = (loads : List Load)
+-- the validation of a body failed at the intent x
+abbrev pub FailedBody : ℕ → Sat → Sat → Type 0
+FailedBody x m m' = (loads : List Load)
     × (m' ≡ (record m.0 { stage = Behind; log = m.0.log ++ (loads ++ Intent x ∷ []) }, m.1))
     × (m.0.at + m.0.capacity ≤ x)
 

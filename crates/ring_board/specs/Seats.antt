@@ -18,7 +18,6 @@ use Rattle.ring_board.specs.declared.board.Receiver.{Receiver}
 use Rattle.ring_board.specs.declared.board.RawRecord.{RawRecord}
 use Rattle.ring_board.specs.declared.board.Copied.{Copied}
 use Rattle.ring_board.specs.declared.shared.view.Taken.{Taken}
-use Rattle.ring_board.specs.declared.shared.view.Joined.{Joined}
 use Rattle.ring_board.specs.declared.fault.Lapped.{Lapped}
 use Rattle.ring_board.specs.Rule.{opening_view}
 use Rattle.ring_board.specs.Receiving.{GotNothing, GotCopy, GotLapped, GotRecord, IsInBuffer}
@@ -45,13 +44,6 @@ start_of board = board.table.shared.key.start
 -- what the transmitter knows: the transmitted list is its part `sent`
 abbrev pub view_of : Transmitter → View
 view_of t = t.seat.me.0
-
-abbrev pub transmitted : Transmitter → List Record
-transmitted t = t.seat.me.0.sent
-
--- the receivers that were joined, the oldest first
-abbrev pub heard_by : Transmitter → List Joined
-heard_by t = t.seat.me.0.heard
 
 abbrev pub shares_of : Transmitter → ℕ
 shares_of t = t.seat.me.0.shares
@@ -131,26 +123,11 @@ raw_seat r = r.seat.me
 abbrev pub raw_view : Receiver → View
 raw_view r = r.seat.me.0
 
--- where the receiver subscribed
-abbrev pub raw_subscribed_at : Receiver → ℕ
-raw_subscribed_at r = r.seat.me.0.from
-
--- the records that it returned, each with the body that the transmitter gave it
-abbrev pub answered_by : Receiver → List Taken
-answered_by r = r.seat.me.0.copies
-
 -- a record that a receiver with this view returned
 pub record IsAnsweredRecord (v : View) (r : RawRecord) : Type 0 where
   pub copy : (n : ℕ) × (c : Taken) × (get_elem? v.copies n ≡ some c) × (c.place ≡ r.place)
       × (c.message.type_id ≡ r.type_id) × (length c.message.body ≡ r.len)
   pub inside : IsInBuffer v.capacity r
-
--- where the receiver is: the record there is looked for next
-abbrev pub raw_stands_at : Receiver → ℕ
-raw_stands_at r = r.seat.me.0.at
-
-abbrev pub raw_lapped_count_of : Receiver → ℕ
-raw_lapped_count_of r = r.seat.me.0.count
 
 -- what a call of `receive_next` returned and did
 abbrev pub ReceivedNext : Receiver → Receiver → Result (Option RawRecord) Lapped → Type 0
@@ -182,19 +159,6 @@ receiver_seat r = raw_seat r.receiver
 
 abbrev pub receiver_view : CopyReceiver → View
 receiver_view r = raw_view r.receiver
-
-abbrev pub subscribed_at : CopyReceiver → ℕ
-subscribed_at r = raw_subscribed_at r.receiver
-
--- the messages that it copied
-abbrev pub copies_of : CopyReceiver → List Taken
-copies_of r = answered_by r.receiver
-
-abbrev pub place_in : CopyReceiver → ℕ
-place_in r = raw_stands_at r.receiver
-
-abbrev pub lapped_count_of : CopyReceiver → ℕ
-lapped_count_of r = raw_lapped_count_of r.receiver
 
 -- what a call of `receive` returned and did
 abbrev pub Received : CopyReceiver → CopyReceiver → Result (Option Copied) Lapped → Type 0

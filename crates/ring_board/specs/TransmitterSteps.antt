@@ -1,5 +1,5 @@
 -- What each step of the transmitter shows its seat.
-use Rattle.std.specs.Prelude.{◌≡◌, ℕ, ◌+◌, ◌-◌, ◌≤◌, if◌then◌else◌, nat_lt, nat_le, List, [], ◌∷◌, ◌++◌, pos}
+use Rattle.std.specs.Prelude.{◌≡◌, ℕ, ◌+◌, ◌≤◌, if◌then◌else◌, nat_lt, nat_le, List, [], ◌∷◌, ◌++◌, pos}
 use Rattle.ring_layout.specs.Places.{room, max_position}
 use Rattle.ring_layout.specs.Refusals.{all_shares}
 use Rattle.ring_board.specs.declared.shared.view.Stage.TheVariants.{Idle, Begun, Storing, Written, Shown}

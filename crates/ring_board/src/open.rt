@@ -1,11 +1,12 @@
 //! How a broadcast buffer is made and closed.
-ghost use Rattle.std.specs.Prelude.{◌≡◌, ℕ, ◌+◌, ◌/◌, ◌%◌, ◌<◌, ◌≤◌, slice_index, slice_get, vec_len, IfOk};
+ghost use Rattle.std.specs.Prelude.{◌≡◌, ℕ, ◌+◌, ◌/◌, ◌%◌, ◌<◌, ◌≤◌, [], slice_index, slice_get, vec_len, IfOk};
 ghost use Rattle.std.specs.Slots.{slots_items, slots_len, IsFull};
 ghost use Rattle.ring_layout.specs.Places.{is_board_capacity, max_position, IsBoardCapacity};
 ghost use Rattle.ring_layout.specs.Refusals.{make_refusal_of, IsMadeUnless, IsRefusedAs};
 ghost use Rattle.ring_board.specs.Layout.{intent_index, tail_index, latest_index};
 ghost use Rattle.ring_board.specs.Runs.{AreAllRuns};
-ghost use Rattle.ring_board.specs.Seats.{capacity_of, start_of, heard_by, IsNewAt, shares_of, transmitted, IsTransmitterOf};
+ghost use Rattle.ring_board.specs.Board.{heard_by, transmitted};
+ghost use Rattle.ring_board.specs.Seats.{capacity_of, start_of, IsNewAt, shares_of, IsTransmitterOf};
 ghost use Rattle.ring_board.specs.Closing.{IsClosed, closed_words, closed_capacity, close_refusal_of, kept_open};
 
 use crate::board::{Board, BoardCloseRefused, ClosedBoard, Transmitter};
@@ -34,6 +35,7 @@ impl Board {
     /// Makes a broadcast buffer that starts at position 0, with its transmitter, which holds all shares. The errors are
     /// those of `new_at`.
     pub fn new(alloc: Global, capacity: u32) -> Result<(Board, Transmitter), MakeFault>
+        ensures transmitted { IfOk result (λ made. transmitted made.1 ≡ []) }
         ensures refused { IsMadeUnless (make_refusal_of (is_board_capacity capacity) capacity 0) result }
         ensures board { IfOk result (λ made. (capacity_of made.0 ≡ capacity) × (start_of made.0 ≡ 0)) }
         ensures transmitter { IfOk result (IsNewAt capacity 0) }
@@ -49,6 +51,7 @@ impl Board {
         capacity: u32,
         start: u64,
     ) -> Result<(Board, Transmitter), MakeFault>
+        ensures transmitted { IfOk result (λ made. transmitted made.1 ≡ []) }
         ensures refused { IsMadeUnless (make_refusal_of (is_board_capacity capacity) capacity start) result }
         ensures board { IfOk result (λ made. (capacity_of made.0 ≡ capacity) × (start_of made.0 ≡ start)) }
         ensures transmitter { IfOk result (IsNewAt capacity start) }
@@ -102,10 +105,10 @@ impl Board {
     /// that are elsewhere; buffer and transmitter then come back unchanged.
     pub fn close(self, transmitter: Transmitter) -> Result<ClosedBoard, BoardCloseRefused>
         requires { IsTransmitterOf self transmitter }
-        ensures refused { IsRefusedAs (kept_open self transmitter) (close_refusal_of (shares_of transmitter)) result }
+        ensures runs { IfOk result (λ _. AreAllRuns (transmitted transmitter) (heard_by transmitter)) }
         ensures closed { IfOk result (λ c. (closed_capacity c ≡ capacity_of self)
             × IsClosed (capacity_of self) (start_of self) (transmitted transmitter) (closed_words c)) }
-        ensures runs { IfOk result (λ _. AreAllRuns (transmitted transmitter) (heard_by transmitter)) }
+        ensures refused { IsRefusedAs (kept_open self transmitter) (close_refusal_of (shares_of transmitter)) result }
     {
         if transmitter.shares != ALL_SHARES {
             return Err(BoardCloseRefused {

@@ -1,6 +1,6 @@
 //! What receivers do.
-pub(crate) mod approach;
 pub(crate) mod copying;
 pub(crate) mod found;
+pub(crate) mod next_record;
 pub(crate) mod raw;
 pub(crate) mod seat;

@@ -1,5 +1,5 @@
 //! The transmitter's calls.
-ghost use Rattle.std.specs.Prelude.{◌≡◌, ℕ, ◌+◌, ◌-◌, ◌/◌, ◌%◌, ◌^◌, ◌<◌, ◌≤◌, pos, ◌≤ℤ◌, [], length, IfOk, OnOk, OnErr};
+ghost use Rattle.std.specs.Prelude.{◌≡◌, ℕ, ◌+◌, ◌-◌, ◌/◌, ◌%◌, ◌^◌, ◌<◌, ◌≤◌, pos, ◌≤ℤ◌, [], ◌∷◌, ◌++◌, length, IfOk, OnOk, OnErr};
 ghost use Rattle.ring_layout.specs.History.{span};
 ghost use Rattle.ring_layout.specs.Headers.{header};
 ghost use Rattle.ring_layout.specs.Places.{max_position, next_place};
@@ -9,7 +9,8 @@ ghost use Rattle.ring_board.specs.Records.{end, end_of};
 ghost use Rattle.ring_board.specs.Views.{at_stage};
 ghost use Rattle.ring_board.specs.TransmitterSteps.{draft, drafted, sent_on};
 ghost use Rattle.ring_board.specs.Refusals.{transmit_refusal_of, IsRefusedBy, IsRefusedAs};
-ghost use Rattle.ring_board.specs.Seats.{IsSeatOf, IsSameSeat, capacity_of, view_of, tail_of, shares_of, transmitted, IsTransmitterOf, next_record, IsBegunOf, IsFilledOf, begun_view, filled_view, filled_record, begun_tail, begun_type_id, begun_len, HasBegun, refused_with};
+ghost use Rattle.ring_board.specs.Board.{transmitted};
+ghost use Rattle.ring_board.specs.Seats.{IsSeatOf, IsSameSeat, capacity_of, view_of, tail_of, shares_of, IsTransmitterOf, next_record, IsBegunOf, IsFilledOf, begun_view, filled_view, filled_record, begun_tail, begun_type_id, begun_len, HasBegun, refused_with};
 
 use crate::board::{BeginRefused, Begun, Board, Filled, Transmitter};
 use crate::fault::TransmitFault;
@@ -127,6 +128,8 @@ impl Board {
         body: &[u8],
     ) -> Result<(), TransmitFault>
         requires { IsTransmitterOf self.now transmitter.old }
+        ensures transmitted { OnOk result (transmitted transmitter.new ≡ transmitted transmitter.old
+            ++ next_record (capacity_of self.now) (tail_of transmitter.old) type_id body.now ∷ []) }
         ensures board { IsTransmitterOf self.now transmitter.new }
         ensures refused { IsRefusedBy (transmit_refusal_of (capacity_of self.now) (tail_of transmitter.old) type_id
             (length body.now)) result }
@@ -154,6 +157,7 @@ impl Board {
         len: usize,
     ) -> Result<Begun, BeginRefused>
         requires { IsTransmitterOf self.now transmitter }
+        ensures transmitted { IfOk result (λ b. (begun_view b).sent ≡ transmitted transmitter) }
         ensures refused { IsRefusedAs (refused_with transmitter)
             (transmit_refusal_of (capacity_of self.now) (tail_of transmitter) type_id len) result }
         ensures begun { IfOk result (λ b. IsBegunOf self.now b
@@ -189,6 +193,9 @@ impl Board {
     pub fn fill(&self, begun: Begun, body: &[u8]) -> Filled
         requires board { IsBegunOf self.now begun }
         requires len { length body.now ≡ begun_len begun }
+        ensures transmitted { (filled_view result).sent ≡ (begun_view begun).sent }
+        ensures stored { filled_record result
+            ≡ next_record (capacity_of self.now) (begun_tail begun) (begun_type_id begun) body.now }
         ensures board { IsFilledOf self.now result }
         ensures filled { filled_view result ≡ at_stage (begun_view begun)
             (Written (next_record (capacity_of self.now) (begun_tail begun) (begun_type_id begun) body.now)) }
@@ -214,6 +221,7 @@ impl Board {
     /// Shows the record to the receivers, and moves the tail past it.
     pub fn publish(&self, filled: Filled) -> Transmitter
         requires { IsFilledOf self.now filled }
+        ensures transmitted { transmitted result ≡ (filled_view filled).sent ++ filled_record filled ∷ [] }
         ensures board { IsTransmitterOf self.now result }
         ensures sent { view_of result ≡ sent_on (filled_view filled) (filled_record filled) }
     {

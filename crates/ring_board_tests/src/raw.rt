@@ -4,7 +4,8 @@ ghost use mathlib.Core.Option.{some};
 ghost use lib.ListN.{get_elem?};
 ghost use Rattle.ring_board.specs.declared.shared.view.Taken.{Taken};
 ghost use Rattle.ring_board.specs.declared.board.RawRecord.{RawRecord};
-ghost use Rattle.ring_board.specs.Seats.{IsRawOf, IsAnsweredRecord, raw_view, answered_by, place_of, len_of};
+ghost use Rattle.ring_board.specs.Board.{returned};
+ghost use Rattle.ring_board.specs.Seats.{IsRawOf, IsAnsweredRecord, raw_view, place_of, len_of};
 
 use crate::bench::Answer::{Body, Done, Lapped, Nothing, Number, Record, Valid};
 use crate::bench::Call::{
@@ -21,7 +22,7 @@ fn is_loaded_whole(board: &Board, receiver: &mut Receiver, raw: &RawRecord, out:
     requires raw { IsAnsweredRecord (raw_view receiver.old) raw.now }
     requires room { len_of raw.now ≤ length out.old }
     ensures board { IsRawOf board.now receiver.new }
-    ensures whole { result ≡ true → (n : ℕ) × (c : Taken) × (get_elem? (answered_by receiver.new) n ≡ some c)
+    ensures whole { result ≡ true → (n : ℕ) × (c : Taken) × (get_elem? (returned receiver.new) n ≡ some c)
         × (c.place ≡ place_of raw.now) × (c.message.body ≡ take (len_of raw.now) out.new) }
 {
     receiver.load_body(board, raw, out);

@@ -13,7 +13,8 @@ use Rattle.ring_board.specs.declared.board.Board.{Board}
 use Rattle.ring_board.specs.declared.board.CopyReceiver.{CopyReceiver}
 use Rattle.ring_board.specs.declared.board.Transmitter.{Transmitter}
 use Rattle.ring_board.specs.declared.shared.view.View.{View as BoardView}
-use Rattle.ring_board.specs.Seats.{IsTransmitterOf, heard_by, receiver_view, shares_of as board_shares_of, view_of}
+use Rattle.ring_board.specs.Board.{heard_by}
+use Rattle.ring_board.specs.Seats.{IsTransmitterOf, receiver_view, shares_of as board_shares_of, view_of}
 use Rattle.ring_board.specs.Views.{as_joined, joined}
 use Rattle.ring_counters.specs.declared.values.seats.CounterValues.{CounterValues}
 use Rattle.ring_counters.specs.declared.manager.CountersManager.{CountersManager}

@@ -16,7 +16,8 @@ use Rattle.ring_board.specs.declared.shared.view.Joined.{Joined}
 use Rattle.ring_board.specs.declared.shared.view.Record.{Record}
 use Rattle.ring_board.specs.Closing.{IsClosed, closed_capacity, closed_words}
 use Rattle.ring_board.specs.Runs.{AreAllRuns}
-use Rattle.ring_board.specs.Seats.{capacity_of, heard_by, shares_of as board_shares_of, start_of, transmitted}
+use Rattle.ring_board.specs.Board.{heard_by, transmitted}
+use Rattle.ring_board.specs.Seats.{capacity_of, shares_of as board_shares_of, start_of}
 use Rattle.ring_counters.specs.declared.manager.CountersManager.{CountersManager}
 use Rattle.ring_counters.specs.Manager.{registry_of, writes_of}
 use Rattle.ring_counters.specs.declared.values.seats.CounterValues.{CounterValues}

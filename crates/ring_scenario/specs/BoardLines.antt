@@ -5,15 +5,15 @@ use Rattle.ring_board.specs.Seats.{capacity_of, next_record, shares_of, tail_of,
 use Rattle.ring_board.specs.TransmitterSteps.{sent_on}
 use Rattle.ring_board.specs.declared.fault.SubscribeFault.{SubscribeFault}
 use Rattle.ring_board.specs.declared.fault.TransmitFault.{TransmitFault}
-use Rattle.ring_loose.specs.Held.{held_in}
-use Rattle.ring_loose.specs.Receivers.{LeavesCrowd, ReceivesAt, Subscribes, crowd}
-use Rattle.ring_loose.specs.declared.loose_board.LooseBoard.{LooseBoard}
-use Rattle.ring_loose.specs.declared.received.Received.{Received}
+use Rattle.ring_standalone.specs.Held.{held_in}
+use Rattle.ring_standalone.specs.Receivers.{LeavesAt, ReceivesAt, Subscribes, by_number}
+use Rattle.ring_standalone.specs.declared.board.StandaloneBoard.{StandaloneBoard}
+use Rattle.ring_standalone.specs.declared.received.Received.{Received}
 use Rattle.ring_scenario.specs.RefusalTexts.{subscribe_refused, transmit_refused}
 use Rattle.ring_scenario.specs.Texts.{answer_text, done_text, number_text, ok_text, received_text}
 
 -- a message was transmitted, or refused
-pub record TransmitsLine (type_id : ℤ) (body : List ℕ) (old new : LooseBoard) (text : List ℕ) : Type 0 where
+pub record TransmitsLine (type_id : ℤ) (body : List ℕ) (old new : StandaloneBoard) (text : List ℕ) : Type 0 where
   pub sent : Result (Unit {0}) TransmitFault
   pub refused : IsRefusedBy
       (transmit_refusal_of (capacity_of old.board) (tail_of old.transmitter) type_id (length body)) sent
@@ -24,17 +24,17 @@ pub record TransmitsLine (type_id : ℤ) (body : List ℕ) (old new : LooseBoard
   pub prints : text ≡ done_text transmit_refused sent
 
 -- a receiver was made, or refused
-pub record SubscribesLine (old new : LooseBoard) (text : List ℕ) : Type 0 where
+pub record SubscribesLine (old new : StandaloneBoard) (text : List ℕ) : Type 0 where
   pub made : Result ℕ SubscribeFault
   pub refused : IsSubscribedUnless (subscribe_refusal_of (shares_of old.transmitter)) made
   pub subscribed : IfOk made
-      (λ number. Subscribes (crowd old.transmitter old.receivers) number (crowd new.transmitter new.receivers))
+      (λ number. Subscribes (by_number old.transmitter old.receivers) number (by_number new.transmitter new.receivers))
   pub same : OnErr made ((new.transmitter ≡ old.transmitter) × (held_in new.receivers ≡ held_in old.receivers))
   pub board : new.board ≡ old.board
   pub prints : text ≡ answer_text (number_text (codes "receiver")) subscribe_refused made
 
 -- the receiver of this number was asked for the next message
-pub record ReceivesLine (number : ℕ) (old new : LooseBoard) (text : List ℕ) : Type 0 where
+pub record ReceivesLine (number : ℕ) (old new : StandaloneBoard) (text : List ℕ) : Type 0 where
   pub received : Received
   pub receives : ReceivesAt received old.receivers number new.receivers
   pub board : new.board ≡ old.board
@@ -42,7 +42,7 @@ pub record ReceivesLine (number : ℕ) (old new : LooseBoard) (text : List ℕ) 
   pub prints : text ≡ received_text received
 
 -- the receiver of this number left
-pub record LeavesLine (number : ℕ) (old new : LooseBoard) (text : List ℕ) : Type 0 where
-  pub left : LeavesCrowd (crowd old.transmitter old.receivers) number (crowd new.transmitter new.receivers)
+pub record LeavesLine (number : ℕ) (old new : StandaloneBoard) (text : List ℕ) : Type 0 where
+  pub left : LeavesAt (by_number old.transmitter old.receivers) number (by_number new.transmitter new.receivers)
   pub board : new.board ≡ old.board
   pub prints : text ≡ ok_text

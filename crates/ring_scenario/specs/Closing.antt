@@ -6,14 +6,14 @@ use Rattle.ring_table.specs.declared.claim.StagedClaim.{StagedClaim}
 use Rattle.ring_table.specs.Passing.{placed_committed_of}
 use Rattle.ring_rings.specs.Closing.{AreOrdered}
 use Rattle.ring_rings.specs.Seats.{capacity_of, claims_of, start_of}
-use Rattle.ring_loose.specs.Loose.{Loose, aborted_view}
+use Rattle.ring_standalone.specs.Standalone.{Standalone, aborted_view}
 use Rattle.ring_counters.specs.Manager.{registry_of, shares_of}
 use Rattle.ring_conductor.specs.Conducting.{manager_in, received_of}
 use Rattle.ring_scenario.specs.declared.service.CommandService.{CommandService}
 use Rattle.ring_scenario.specs.declared.service.closing.Served.{Served}
 
 -- the number of messages that the reads of a ring took, held within 64 bits
-abbrev pub read_count : Loose → ℕ
+abbrev pub read_count : Standalone → ℕ
 read_count l = min (length l.consumer.consumer.taken) (2 ^ 64 - 1)
 
 -- The claims are one after another from the ring's start on, in tail-exchange order. Their committed messages, with
@@ -26,9 +26,9 @@ pub record TakesAllBut (C start : ℕ) (claims : List StagedClaim) (taken : List
   pub counted : count ≡ length left
 
 -- the ring of a run took all but this many messages, after its open claims were aborted
-abbrev pub LeavesMessages : Loose → ℕ → Type 0
+abbrev pub LeavesMessages : Standalone → ℕ → Type 0
 LeavesMessages l count =
-    TakesAllBut l.capacity 0 (aborted_view l.holder).producer.claims l.consumer.consumer.taken count
+    TakesAllBut l.capacity 0 (aborted_view l.producer).producer.claims l.consumer.consumer.taken count
 
 -- the number of commands that the conductor took, which are all messages committed to its ring but those that it left,
 -- with its counters, which have all shares of the values

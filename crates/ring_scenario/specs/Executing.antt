@@ -14,9 +14,9 @@ use Rattle.ring_lines.specs.declared.call.Call.{Call}
 use Rattle.ring_lines.specs.declared.call.Call.TheVariants as call
 use Rattle.ring_lines.specs.declared.service_call.ServiceCall.{ServiceCall}
 use Rattle.ring_lines.specs.declared.service_call.ServiceCall.TheVariants as asks
-use Rattle.ring_loose.specs.Claims.{SettlesAt}
-use Rattle.ring_loose.specs.Held.{IsFree, held_in}
-use Rattle.ring_loose.specs.Loose.{Loose, beaten_view, with_holder, with_reader, with_view}
+use Rattle.ring_standalone.specs.Claims.{SettlesAt}
+use Rattle.ring_standalone.specs.Held.{IsFree, held_in}
+use Rattle.ring_standalone.specs.Standalone.{Standalone, beaten_view, with_numbered_claims, with_reader, with_view}
 use Rattle.ring_scenario.specs.declared.runner.Runner.{Runner}
 use Rattle.ring_scenario.specs.declared.service.CommandService.{CommandService}
 use Rattle.ring_scenario.specs.Instructions.{FitsRoom}
@@ -62,29 +62,29 @@ pub record StormsLine (plan : StormPlan) (text : List ℕ) : Type 0 where
   pub prints : text ≡ answer_text storm_text storm_refused ran
 
 -- a claim was settled
-abbrev pub SettlesLine : ClaimState → ℕ → Loose → Loose → List ℕ → Type 0
+abbrev pub SettlesLine : ClaimState → ℕ → Standalone → Standalone → List ℕ → Type 0
 SettlesLine state number old new text =
-    SettlesAt state old.holder number new.holder × (new ≡ with_holder new.holder old) × (text ≡ ok_text)
+    SettlesAt state old.producer number new.producer × (new ≡ with_numbered_claims new.producer old) × (text ≡ ok_text)
 
 -- a line made its call, and the text is what the call returned
 abbrev pub Executes : Call → Runner → Runner → List ℕ → Type 0
-Executes (call.Write type_id body) old new text = WritesLine type_id body.items old.loose new.loose text
-Executes (call.Claim type_id len) old new text = ClaimsLine type_id len old.loose new.loose text
-Executes (call.Put number offset bytes) old new text = PutsLine number offset bytes.items old.loose new.loose text
-Executes (call.Commit number) old new text = SettlesLine Committed number old.loose new.loose text
-Executes (call.Abort number) old new text = SettlesLine Aborted number old.loose new.loose text
-Executes (call.Read limit) old new text = ReadsLine limit old.loose new.loose text
-Executes (call.Control limit actions) old new text = ControlsLine limit actions.items old.loose new.loose text
+Executes (call.Write type_id body) old new text = WritesLine type_id body.items old.ring new.ring text
+Executes (call.Claim type_id len) old new text = ClaimsLine type_id len old.ring new.ring text
+Executes (call.Put number offset bytes) old new text = PutsLine number offset bytes.items old.ring new.ring text
+Executes (call.Commit number) old new text = SettlesLine Committed number old.ring new.ring text
+Executes (call.Abort number) old new text = SettlesLine Aborted number old.ring new.ring text
+Executes (call.Read limit) old new text = ReadsLine limit old.ring new.ring text
+Executes (call.Control limit actions) old new text = ControlsLine limit actions.items old.ring new.ring text
 Executes call.Positions old new text =
-    (p : Positions) × LoadsPositions old.loose.capacity old.loose.holder.view p.head p.tail new.loose.holder.view
-    × (new.loose ≡ with_view new.loose.holder.view old.loose) × (text ≡ positions_text p)
-Executes call.Correlation old new text = (id : ℕ) × DrawsId old.loose.holder.view id new.loose.holder.view
-    × (new.loose ≡ with_view new.loose.holder.view old.loose) × (text ≡ number_text (codes "correlation") id)
+    (p : Positions) × LoadsPositions old.ring.capacity old.ring.producer.view p.head p.tail new.ring.producer.view
+    × (new.ring ≡ with_view new.ring.producer.view old.ring) × (text ≡ positions_text p)
+Executes call.Correlation old new text = (id : ℕ) × DrawsId old.ring.producer.view id new.ring.producer.view
+    × (new.ring ≡ with_view new.ring.producer.view old.ring) × (text ≡ number_text (codes "correlation") id)
 Executes (call.Beat value) old new text =
-    (new.loose ≡ with_reader (beaten_view value old.loose) old.loose) × (text ≡ ok_text)
+    (new.ring ≡ with_reader (beaten_view value old.ring) old.ring) × (text ≡ ok_text)
 Executes call.Heartbeat old new text =
-    (value : ℕ) × LoadsHeartbeat old.loose.capacity old.loose.holder.view value new.loose.holder.view
-    × (new.loose ≡ with_view new.loose.holder.view old.loose) × (text ≡ number_text (codes "heartbeat") value)
+    (value : ℕ) × LoadsHeartbeat old.ring.capacity old.ring.producer.view value new.ring.producer.view
+    × (new.ring ≡ with_view new.ring.producer.view old.ring) × (text ≡ number_text (codes "heartbeat") value)
 Executes (call.Transmit type_id body) old new text = TransmitsLine type_id body.items old.board new.board text
 Executes call.Subscribe old new text = SubscribesLine old.board new.board text
 Executes (call.Receive number) old new text = ReceivesLine number old.board new.board text
@@ -94,9 +94,9 @@ Executes (call.Service c) old new text = Serves c old.service new.service text
 
 -- a line cannot be executed: nothing is held under its number, or its command has no room
 abbrev pub CannotExecute : Call → Runner → Type 0
-CannotExecute (call.Put number offset bytes) r = IsFree r.loose.holder.claims number
-CannotExecute (call.Commit number) r = IsFree r.loose.holder.claims number
-CannotExecute (call.Abort number) r = IsFree r.loose.holder.claims number
+CannotExecute (call.Put number offset bytes) r = IsFree r.ring.producer.claims number
+CannotExecute (call.Commit number) r = IsFree r.ring.producer.claims number
+CannotExecute (call.Abort number) r = IsFree r.ring.producer.claims number
 CannotExecute (call.Receive number) r = IsFree (held_in r.board.receivers) number
 CannotExecute (call.Leave number) r = IsFree (held_in r.board.receivers) number
 CannotExecute (call.Service c) r = CannotServe c r.service

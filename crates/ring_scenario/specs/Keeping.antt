@@ -16,17 +16,17 @@ KeepsButRing old new = (new.board ≡ old.board) × KeepsService old new
 
 -- all but the broadcast buffer is as it was
 abbrev pub KeepsButBoard : Runner → Runner → Type 0
-KeepsButBoard old new = (new.loose ≡ old.loose) × KeepsService old new
+KeepsButBoard old new = (new.ring ≡ old.ring) × KeepsService old new
 
 -- all but the conductor's parts is as it was
 abbrev pub KeepsOthers : Runner → Runner → Type 0
-KeepsOthers old new = (new.loose ≡ old.loose) × (new.board ≡ old.board) × (new.serves ≡ old.serves)
+KeepsOthers old new = (new.ring ≡ old.ring) × (new.board ≡ old.board) × (new.serves ≡ old.serves)
     × (new.commands ≡ old.commands)
 
 -- the same, and it is known that a line used them
 abbrev pub KeepsButService : Runner → Runner → Type 0
 KeepsButService old new =
-    (new.loose ≡ old.loose) × (new.board ≡ old.board) × (new.serves ≡ true) × (new.commands ≡ old.commands)
+    (new.ring ≡ old.ring) × (new.board ≡ old.board) × (new.serves ≡ true) × (new.commands ≡ old.commands)
 
 -- the parts that a line does not name are as they were
 abbrev pub KeepsRest : Call → Runner → Runner → Type 0

@@ -9,8 +9,8 @@ use Rattle.ring_counters.specs.Manager.{registry_of, writes_of}
 use Rattle.ring_counters.specs.Registry.{fresh_registry}
 use Rattle.ring_counters.specs.Seats.{values_count}
 use Rattle.ring_conductor.specs.Conducting.{board_view, manager_in, ring_view, value_shares_of}
-use Rattle.ring_loose.specs.Held.{held_in}
-use Rattle.ring_loose.specs.Loose.{fresh_loose}
+use Rattle.ring_standalone.specs.Held.{held_in}
+use Rattle.ring_standalone.specs.Standalone.{fresh_standalone}
 use Rattle.ring_scenario.specs.declared.options.Options.{Options}
 use Rattle.ring_scenario.specs.declared.runner.Runner.{Runner}
 use Rattle.ring_scenario.specs.declared.service.CommandService.{CommandService}
@@ -33,7 +33,7 @@ pub record ServesBy (options : Options) (s : CommandService) : Type 0 where
 
 -- each part is the one that the options describe, as it is made, and no line asked anything of the conductor's side
 pub record RunsBy (options : Options) (r : Runner) : Type 0 where
-  pub ring : r.loose ≡ fresh_loose options.ring
+  pub ring : r.ring ≡ fresh_standalone options.ring
   pub board : board_capacity_of r.board.board ≡ options.board
   pub transmitter : view_of r.board.transmitter ≡ opening_view options.board 0
   pub receivers : held_in r.board.receivers ≡ []

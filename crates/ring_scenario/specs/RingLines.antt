@@ -6,37 +6,37 @@ use Rattle.ring_words.specs.declared.read.action.Action.{Action}
 use Rattle.ring_words.specs.declared.read.end.ReadEnd.{ReadEnd}
 use Rattle.ring_words.specs.Read.{stop_of}
 use Rattle.ring_rings.specs.Reading.{Controls, EndsAt, Reads}
-use Rattle.ring_loose.specs.declared.loose_ring.Claimed.{Claimed}
-use Rattle.ring_loose.specs.Claims.{Declines, Puts, Tries, WritesAfter}
-use Rattle.ring_loose.specs.Loose.{Loose, head_in, with_holder, with_reader, with_view}
+use Rattle.ring_standalone.specs.declared.ring.Claimed.{Claimed}
+use Rattle.ring_standalone.specs.Claims.{Declines, Puts, Tries, WritesAfter}
+use Rattle.ring_standalone.specs.Standalone.{Standalone, head_in, with_numbered_claims, with_reader, with_view}
 use Rattle.ring_scenario.specs.Printing.{Printed, Prints, unprinted}
 use Rattle.ring_scenario.specs.RefusalTexts.{claim_refused, put_refused}
 use Rattle.ring_scenario.specs.Texts.{answer_text, claimed_text, done_text, read_text}
 
 -- a message was written, or refused
-pub record WritesLine (type_id : ℤ) (body : List ℕ) (old new : Loose) (text : List ℕ) : Type 0 where
+pub record WritesLine (type_id : ℤ) (body : List ℕ) (old new : Standalone) (text : List ℕ) : Type 0 where
   pub written : Result (Unit {0}) ClaimFault
-  pub wrote : OnOk written (WritesAfter old.capacity type_id body old.holder.view new.holder.view)
-  pub refused : IfErr written (λ fault. Declines old.capacity old.holder type_id (length body) fault new.holder)
-  pub rest : new ≡ with_view new.holder.view old
+  pub wrote : OnOk written (WritesAfter old.capacity type_id body old.producer.view new.producer.view)
+  pub refused : IfErr written (λ fault. Declines old.capacity old.producer type_id (length body) fault new.producer)
+  pub rest : new ≡ with_view new.producer.view old
   pub prints : text ≡ done_text claim_refused written
 
 -- room was claimed, or refused
-pub record ClaimsLine (type_id : ℤ) (len : ℕ) (old new : Loose) (text : List ℕ) : Type 0 where
+pub record ClaimsLine (type_id : ℤ) (len : ℕ) (old new : Standalone) (text : List ℕ) : Type 0 where
   pub tried : Result Claimed ClaimFault
-  pub claimed : Tries old.capacity type_id len old.holder tried new.holder
-  pub rest : new ≡ with_holder new.holder old
+  pub claimed : Tries old.capacity type_id len old.producer tried new.producer
+  pub rest : new ≡ with_numbered_claims new.producer old
   pub prints : text ≡ answer_text claimed_text claim_refused tried
 
 -- bytes were put into the claim of this number, or refused
-pub record PutsLine (number offset : ℕ) (bytes : List ℕ) (old new : Loose) (text : List ℕ) : Type 0 where
+pub record PutsLine (number offset : ℕ) (bytes : List ℕ) (old new : Standalone) (text : List ℕ) : Type 0 where
   pub tried : Result (Unit {0}) PutRange
-  pub put : Puts number offset bytes old.holder tried new.holder
-  pub rest : new ≡ with_holder new.holder old
+  pub put : Puts number offset bytes old.producer tried new.producer
+  pub rest : new ≡ with_numbered_claims new.producer old
   pub prints : text ≡ done_text put_refused tried
 
 -- at most `limit` messages were read, and each was printed
-pub record ReadsLine (limit : ℕ) (old new : Loose) (text : List ℕ) : Type 0 where
+pub record ReadsLine (limit : ℕ) (old new : Standalone) (text : List ℕ) : Type 0 where
   pub end : ReadEnd
   pub printed : Printed
   pub reads : Reads Prints limit old.consumer new.consumer (unprinted []) printed end.messages
@@ -46,7 +46,7 @@ pub record ReadsLine (limit : ℕ) (old new : Loose) (text : List ℕ) : Type 0 
   pub prints : text ≡ printed.text ++ read_text end
 
 -- the same of a read that heeds these actions, one for each message
-pub record ControlsLine (limit : ℕ) (actions : List Action) (old new : Loose) (text : List ℕ) : Type 0 where
+pub record ControlsLine (limit : ℕ) (actions : List Action) (old new : Standalone) (text : List ℕ) : Type 0 where
   pub end : ReadEnd
   pub printed : Printed
   pub controls : Controls Prints limit old.consumer new.consumer (unprinted actions) printed end

@@ -2,14 +2,15 @@
 use Rattle.std.specs.Prelude.{◌≡◌, ◌⊎◌, ◌↔◌, ℕ, ◌+◌, List, [], ◌∷◌, ◌++◌, IfSome, IsSome, IsTrue, Option, None, Some, codes, decimal, length}
 use Rattle.std.specs.Io.KnownBytes.{Appends}
 use Rattle.ring_board.specs.Runs.{AreAllRuns}
-use Rattle.ring_board.specs.Seats.{transmitted, view_of}
+use Rattle.ring_board.specs.Board.{transmitted}
+use Rattle.ring_board.specs.Seats.{view_of}
 use Rattle.ring_counters.specs.Manager.{registry_of}
 use Rattle.ring_counters.specs.Registry.{live_of}
 use Rattle.ring_lines.specs.declared.call.Call.{Call}
 use Rattle.ring_lines.specs.Lines.{AsksFor}
 use Rattle.ring_lines.specs.Text.{AllBlank, IsBlank, IsEnd, lines_of, words_of}
-use Rattle.ring_loose.specs.Held.{held_in}
-use Rattle.ring_loose.specs.Receivers.{all_left}
+use Rattle.ring_standalone.specs.Held.{held_in}
+use Rattle.ring_standalone.specs.Receivers.{all_left}
 use Rattle.ring_scenario.specs.Closing.{LeavesMessages, TookAndLeft, read_count}
 use Rattle.ring_scenario.specs.declared.options.Options.{Options}
 use Rattle.ring_scenario.specs.declared.runner.Ended.{Ended}
@@ -71,8 +72,8 @@ ended_text e = end_text e ++ finished_text e.served
 -- committed; the runs of the broadcast buffer's messages that its receivers copied; and what the conductor finished
 -- with, if a line used it
 pub record EndsAs (r : Runner) (e : Ended) : Type 0 where
-  pub messages : e.messages ≡ read_count r.loose
-  pub left : LeavesMessages r.loose e.left
+  pub messages : e.messages ≡ read_count r.ring
+  pub left : LeavesMessages r.ring e.left
   pub copies : AreAllRuns (transmitted r.board.transmitter)
       (all_left (held_in r.board.receivers) (view_of r.board.transmitter)).heard
   pub served : IsSome e.served ↔ IsTrue r.serves

@@ -9,9 +9,9 @@ use Rattle.ring_counters.specs.Seats.{values_count}
 use Rattle.ring_counters.specs.declared.fault.BadId.{BadId}
 use Rattle.ring_counters.specs.declared.values.seats.ValueReader.{ValueReader}
 use Rattle.ring_conductor.specs.Conducting.{KeepsAllCounters, KeepsTheRest, manager_in, transmitter_of, value_shares_of}
-use Rattle.ring_loose.specs.Held.{IsHeld, held_in}
-use Rattle.ring_loose.specs.Receivers.{ReceivesAt, Subscribes, crowd}
-use Rattle.ring_loose.specs.declared.received.Received.{Received}
+use Rattle.ring_standalone.specs.Held.{IsHeld, held_in}
+use Rattle.ring_standalone.specs.Receivers.{ReceivesAt, Subscribes, by_number}
+use Rattle.ring_standalone.specs.declared.received.Received.{Received}
 use Rattle.ring_scenario.specs.Keeping.{KeepsButListeners, KeepsButWatchers}
 use Rattle.ring_scenario.specs.RefusalTexts.{load_refused, shares_refused, subscribe_refused}
 use Rattle.ring_scenario.specs.ServiceTexts.{value_text}
@@ -23,8 +23,8 @@ use Rattle.ring_scenario.specs.declared.service.CommandService.{CommandService}
 pub record ListensLine (old new : CommandService) (text : List ℕ) : Type 0 where
   pub made : Result ℕ SubscribeFault
   pub refused : IsSubscribedUnless (subscribe_refusal_of (shares_of (transmitter_of old.conductor))) made
-  pub listens : IfOk made (λ number. Subscribes (crowd (transmitter_of old.conductor) old.listeners) number
-      (crowd (transmitter_of new.conductor) new.listeners))
+  pub listens : IfOk made (λ number. Subscribes (by_number (transmitter_of old.conductor) old.listeners) number
+      (by_number (transmitter_of new.conductor) new.listeners))
   pub same : OnErr made ((new.conductor ≡ old.conductor) × (held_in new.listeners ≡ held_in old.listeners))
   pub others : KeepsTheRest old.conductor new.conductor
   pub rest : KeepsButListeners old new

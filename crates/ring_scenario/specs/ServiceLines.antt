@@ -10,7 +10,7 @@ use Rattle.ring_counters.specs.declared.info.CounterInfo.{CounterInfo}
 use Rattle.ring_conductor.specs.declared.conductor.Work.{Work}
 use Rattle.ring_conductor.specs.Conducting.{Works, ledger_of, manager_in, ring_view}
 use Rattle.ring_lines.specs.declared.request.Request.{Request}
-use Rattle.ring_loose.specs.Claims.{RefusesAfter, WritesAfter}
+use Rattle.ring_standalone.specs.Claims.{RefusesAfter, WritesAfter}
 use Rattle.ring_scenario.specs.Instructions.{FitsRoom}
 use Rattle.ring_scenario.specs.Keeping.{KeepsButConductor, KeepsButProducer}
 use Rattle.ring_scenario.specs.RefusalTexts.{claim_refused, id_refused, memory_refused}

@@ -1,9 +1,10 @@
 //! What a run holds, and what its calls print.
 ghost use Rattle.std.specs.Prelude.{◌≡◌, ◌↔◌, ℕ, None, IfErr, IfOk, IfSome, IsOkUnless, IsSome, IsTrue, OnOk, codes, string_bytes};
 ghost use Rattle.ring_board.specs.Runs.{AreAllRuns};
-ghost use Rattle.ring_board.specs.Seats.{transmitted, view_of};
-ghost use Rattle.ring_loose.specs.Held.{IsFree, held_in};
-ghost use Rattle.ring_loose.specs.Receivers.{all_left};
+ghost use Rattle.ring_board.specs.Board.{transmitted};
+ghost use Rattle.ring_board.specs.Seats.{view_of};
+ghost use Rattle.ring_standalone.specs.Held.{IsFree, held_in};
+ghost use Rattle.ring_standalone.specs.Receivers.{all_left};
 ghost use Rattle.ring_scenario.specs.Closing.{read_count, LeavesMessages, TookAndLeft};
 ghost use Rattle.ring_scenario.specs.Sizes.{size_fault_of};
 ghost use Rattle.ring_scenario.specs.Texts.{number_text, positions_text};
@@ -17,7 +18,7 @@ use crate::options::Options;
 use crate::printer::Printer;
 use crate::service::{CommandService, Served};
 use ring_lines::{Call, LineFault};
-use ring_loose::{LooseBoard, LooseRing};
+use ring_standalone::{StandaloneBoard, StandaloneRing};
 use ring_words::{Action, MakeFault, Positions};
 use std::alloc::{AllocError, Global};
 use std::sync::Wait;
@@ -27,15 +28,15 @@ use std::thread::Threads;
 #[derive(Drop)]
 pub struct Runner {
     alloc: Global,
-    loose: LooseRing,
-    board: LooseBoard,
+    ring: StandaloneRing,
+    board: StandaloneBoard,
     service: CommandService,
     /// Capacity of the command ring, and of a storm's.
     commands: u32,
     messages: u64,
     /// Whether a line asked something of the conductor's side.
     serves: bool,
-    ghost counted: { messages ≡ read_count loose },
+    ghost counted: { messages ≡ read_count ring },
 }
 
 /// What `end` says.
@@ -53,7 +54,7 @@ impl Runner {
     ghost use Rattle.ring_words.specs.declared.positions.Positions.{Positions};
     ghost use Rattle.ring_rings.specs.Joining.{LoadsPositions};
     ghost use Rattle.ring_table.specs.ServiceSteps.{DrawsId, LoadsHeartbeat};
-    ghost use Rattle.ring_loose.specs.Loose.{with_view};
+    ghost use Rattle.ring_standalone.specs.Standalone.{with_view};
     ghost use Rattle.ring_scenario.specs.BoardLines.{ReceivesLine, SubscribesLine, TransmitsLine};
     ghost use Rattle.ring_scenario.specs.Executing.{CannotExecute, Executes};
     ghost use Rattle.ring_scenario.specs.Keeping.{KeepsButBoard, KeepsButRing, KeepsRest};
@@ -66,12 +67,12 @@ impl Runner {
         ensures made { IsOkUnless result RunFault.OutOfMemory }
         ensures options { IfOk result (RunsBy options.now) }
     {
-        let loose = LooseRing::new(alloc, options.ring).map_err(from_make)?;
-        let board = LooseBoard::new(alloc, options.board).map_err(from_make)?;
+        let ring = StandaloneRing::new(alloc, options.ring).map_err(from_make)?;
+        let board = StandaloneBoard::new(alloc, options.board).map_err(from_make)?;
         let service = CommandService::new(alloc, options)?;
         Ok(Runner {
             alloc,
-            loose,
+            ring,
             board,
             service,
             commands: options.commands,
@@ -95,11 +96,11 @@ impl Runner {
                 bytes,
             } => self.put(number, offset, bytes.as_slice())?,
             Call::Commit { number } => {
-                self.loose.commit(number).ok_or(LineFault::Bad)?;
+                self.ring.commit(number).ok_or(LineFault::Bad)?;
                 self.ok()?
             }
             Call::Abort { number } => {
-                self.loose.abort(number).ok_or(LineFault::Bad)?;
+                self.ring.abort(number).ok_or(LineFault::Bad)?;
                 self.ok()?
             }
             Call::Read { limit } => self.read(limit)?,
@@ -107,7 +108,7 @@ impl Runner {
             Call::Positions => self.positions()?,
             Call::Correlation => self.correlation()?,
             Call::Beat { value } => {
-                self.loose.set_heartbeat(value);
+                self.ring.set_heartbeat(value);
                 self.ok()?
             }
             Call::Heartbeat => self.heartbeat()?,
@@ -126,85 +127,85 @@ impl Runner {
 
     fn write<R: Wait>(&mut self, rt: &R, type_id: i32, body: &[u8]) -> Result<String, AllocError>
         ensures line { IfOk result (λ text.
-            WritesLine type_id body.now self.old.loose self.new.loose (string_bytes text)) }
+            WritesLine type_id body.now self.old.ring self.new.ring (string_bytes text)) }
         ensures rest { KeepsButRing self.old self.new }
     {
-        let written = self.loose.write(rt, type_id, body);
+        let written = self.ring.write(rt, type_id, body);
         self.done(written)
     }
 
     fn claim<R: Wait>(&mut self, rt: &R, type_id: i32, len: usize) -> Result<String, AllocError>
         ensures line { IfOk result (λ text.
-            ClaimsLine type_id len self.old.loose self.new.loose (string_bytes text)) }
+            ClaimsLine type_id len self.old.ring self.new.ring (string_bytes text)) }
         ensures rest { KeepsButRing self.old self.new }
     {
-        let tried = self.loose.claim(rt, type_id, len)?;
+        let tried = self.ring.claim(rt, type_id, len)?;
         self.claimed(tried)
     }
 
     fn put(&mut self, number: usize, offset: usize, bytes: &[u8]) -> Result<String, LineFault>
         ensures line { IfOk result (λ text.
-            PutsLine number offset bytes.now self.old.loose self.new.loose (string_bytes text)) }
+            PutsLine number offset bytes.now self.old.ring self.new.ring (string_bytes text)) }
         ensures rest { KeepsButRing self.old self.new }
-        ensures bad { IfErr result (λ fault. fault ≡ LineFault.Bad → IsFree self.old.loose.holder.claims number) }
+        ensures bad { IfErr result (λ fault. fault ≡ LineFault.Bad → IsFree self.old.ring.producer.claims number) }
     {
-        let Some(put) = self.loose.put(number, offset, bytes) else {
+        let Some(put) = self.ring.put(number, offset, bytes) else {
             return Err(LineFault::Bad);
         };
         Ok(self.done(put)?)
     }
 
     fn read(&mut self, limit: u32) -> Result<String, AllocError>
-        ensures line { IfOk result (λ text. ReadsLine limit self.old.loose self.new.loose (string_bytes text)) }
+        ensures line { IfOk result (λ text. ReadsLine limit self.old.ring self.new.ring (string_bytes text)) }
         ensures rest { KeepsButRing self.old self.new }
     {
         let mut printer = Printer::new(self.alloc, &[]);
-        let end = self.loose.read(limit, &mut printer);
+        let end = self.ring.read(limit, &mut printer);
         self.messages = self.messages.saturating_add(u64::from(end.messages));
         self.read_text(printer, end)
     }
 
     fn control(&mut self, limit: u32, actions: &[Action]) -> Result<String, AllocError>
         ensures line { IfOk result (λ text.
-            ControlsLine limit actions.now self.old.loose self.new.loose (string_bytes text)) }
+            ControlsLine limit actions.now self.old.ring self.new.ring (string_bytes text)) }
         ensures rest { KeepsButRing self.old self.new }
     {
         let mut printer = Printer::new(self.alloc, actions);
-        let end = self.loose.controlled_read(limit, &mut printer);
+        let end = self.ring.controlled_read(limit, &mut printer);
         self.messages = self.messages.saturating_add(u64::from(end.messages));
         self.read_text(printer, end)
     }
 
     fn positions(&mut self) -> Result<String, AllocError>
-        ensures line { IfOk result (λ text. (p : Positions) × LoadsPositions self.old.loose.capacity
-            self.old.loose.holder.view p.head p.tail self.new.loose.holder.view
-            × (self.new.loose ≡ with_view self.new.loose.holder.view self.old.loose)
+        ensures line { IfOk result (λ text. (p : Positions) × LoadsPositions self.old.ring.capacity
+            self.old.ring.producer.view p.head p.tail self.new.ring.producer.view
+            × (self.new.ring ≡ with_view self.new.ring.producer.view self.old.ring)
             × (string_bytes text ≡ positions_text p)) }
         ensures rest { KeepsButRing self.old self.new }
     {
-        let Positions { head, tail } = self.loose.positions();
+        let Positions { head, tail } = self.ring.positions();
         format!(in self.alloc; "head {head} tail {tail}\n")
     }
 
     fn correlation(&mut self) -> Result<String, AllocError>
         ensures line { IfOk result (λ text. (id : ℕ)
-            × DrawsId self.old.loose.holder.view id self.new.loose.holder.view
-            × (self.new.loose ≡ with_view self.new.loose.holder.view self.old.loose)
+            × DrawsId self.old.ring.producer.view id self.new.ring.producer.view
+            × (self.new.ring ≡ with_view self.new.ring.producer.view self.old.ring)
             × (string_bytes text ≡ number_text (codes "correlation") id)) }
         ensures rest { KeepsButRing self.old self.new }
     {
-        let id = self.loose.next_correlation_id();
+        let id = self.ring.next_correlation_id();
         format!(in self.alloc; "correlation {id}\n")
     }
 
     fn heartbeat(&mut self) -> Result<String, AllocError>
-        ensures line { IfOk result (λ text. (value : ℕ) × LoadsHeartbeat self.old.loose.capacity
-            self.old.loose.holder.view value self.new.loose.holder.view
-            × (self.new.loose ≡ with_view self.new.loose.holder.view self.old.loose)
+        ensures line { IfOk result (λ text. (value : ℕ) × LoadsHeartbeat self.old.ring.capacity
+            self.old.ring.producer.view value self.new.ring.producer.view
+            × (self.new.ring ≡ with_view self.new.ring.producer.view self.old.ring)
             × (string_bytes text ≡ number_text (codes "heartbeat") value)) }
         ensures rest { KeepsButRing self.old self.new }
     {
-        let value = self.loose.heartbeat();
+        let value = self.ring.heartbeat();
         format!(in self.alloc; "heartbeat {value}\n")
     }
 
@@ -241,22 +242,22 @@ impl Runner {
     /// Aborts the open claims, joins receivers, listeners and watchers, closes all, and counts the messages that are
     /// left.
     pub fn close(self) -> Ended
-        ensures messages { result.messages ≡ read_count self.loose }
-        ensures left { LeavesMessages self.loose result.left }
+        ensures messages { result.messages ≡ read_count self.ring }
+        ensures left { LeavesMessages self.ring result.left }
         ensures copies { AreAllRuns (transmitted self.board.transmitter)
             (all_left (held_in self.board.receivers) (view_of self.board.transmitter)).heard }
         ensures served { IsSome result.served ↔ IsTrue self.serves }
         ensures finished { IfSome result.served (TookAndLeft self.service) }
     {
         let Runner {
-            loose,
+            ring,
             board,
             service,
             messages,
             serves,
             ..
         } = self;
-        let left = loose.close().drain();
+        let left = ring.close().drain();
         let _ = board.close();
         let served = service.close();
         Ended {

@@ -3,8 +3,8 @@ ghost use Rattle.std.specs.Prelude.{◌≡◌, ◌+◌};
 ghost use Rattle.ring_layout.specs.Refusals.{all_shares};
 ghost use Rattle.ring_rings.specs.Seats.{open_claims_of, shares_of, IsConsumerOf, IsProducerOf};
 ghost use Rattle.ring_conductor.specs.Conducting.{consumer_of, manager_in, transmitter_of, value_shares_of};
-ghost use Rattle.ring_loose.specs.Held.{held_count, held_in};
-ghost use Rattle.ring_loose.specs.Receivers.{crowd, shares_in, IsCrowdOf};
+ghost use Rattle.ring_standalone.specs.Held.{held_count, held_in};
+ghost use Rattle.ring_standalone.specs.Receivers.{by_number, shares_in, AreReceiversOf};
 ghost use Rattle.ring_scenario.specs.Watchers.{AreWatchedBy};
 
 mod closing;
@@ -18,8 +18,8 @@ pub use closing::Served;
 use ring_board::{Board, CopyReceiver};
 use ring_conductor::Conductor;
 use ring_counters::{CounterValues, ValueReader};
-use ring_loose::Numbered;
 use ring_rings::{ManyToOneRing, Producer};
+use ring_standalone::Numbered;
 
 /// A conductor with its ring, its broadcast buffer and its counters, the listeners to its replies and the watchers of
 /// the counters' values. Listeners and watchers are numbered from 1, each kind for itself. No number is given twice.
@@ -36,8 +36,8 @@ pub struct CommandService {
     ghost produces: { IsProducerOf ring producer },
     ghost consumes: { IsConsumerOf ring (consumer_of conductor) },
     ghost whole: { (open_claims_of producer ≡ 0) × (shares_of producer ≡ all_shares) },
-    ghost listen: { IsCrowdOf board (crowd (transmitter_of conductor) listeners) },
-    ghost shares: { shares_in (crowd (transmitter_of conductor) listeners) ≡ all_shares },
+    ghost listen: { AreReceiversOf board (by_number (transmitter_of conductor) listeners) },
+    ghost shares: { shares_in (by_number (transmitter_of conductor) listeners) ≡ all_shares },
     ghost watch: { AreWatchedBy values (manager_in conductor) watchers },
     ghost value_shares: { value_shares_of conductor + held_count (held_in watchers) ≡ all_shares },
 }

@@ -42,7 +42,7 @@ use Rattle.ring_protocol.proofs.ReadCommands.{command_again}
 use Rattle.ring_storm.specs.declared.plan.StormPlan.{StormPlan}
 use Rattle.ring_conductor.specs.Applied.{allocated, applied, done_unless, obeyed, obeyed_if_read}
 use Rattle.ring_storm.specs.Storming.{counters_after, storm_counters}
-use Rattle.ring_storm.specs.Turns.{AreAllTurns, AreTurns, Deeds, Turns, label_of}
+use Rattle.ring_storm.specs.Turns.{AreAllTurns, AreTurns, ClientHistory, Turns, label_of}
 
 -- Counters of which none was freed ---------------------------------------------
 
@@ -262,7 +262,7 @@ module _ (client : ℕ) (few : client < 64) where
   abbrev asked_at : ℕ → ℕ
   asked_at number = cond (number == 1) 1 0
 
-  turn_asks : (number : ℕ) (old new : Deeds) (turn : Turns client number old new)
+  turn_asks : (number : ℕ) (old new : ClientHistory) (turn : Turns client number old new)
       → IsAsked turn.sent.claim.message (asked_at number)
   turn_asks number old new turn = by (number == 1) turn.sent.message
     where
@@ -293,7 +293,7 @@ module _ (client : ℕ) (few : client < 64) where
   one_at_first zero = refl
   one_at_first (suc n) = ap (λ b. 1 + cond b 1 0) (ne_eqb (suc (suc n)) 1 (λ e. omega arith))
 
-  turns_ask : (n : ℕ) (d : Deeds) → AreTurns client n d → Ask d.claims (asked_by n)
+  turns_ask : (n : ℕ) (d : ClientHistory) → AreTurns client n d → Ask d.claims (asked_by n)
   turns_ask zero d h = subst (λ l. Ask l 0) (sym h.0) refl
   turns_ask (suc n) d h =
       let turn = h.2 in

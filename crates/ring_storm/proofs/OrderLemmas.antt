@@ -19,7 +19,7 @@ use Rattle.ring_protocol.specs.Command.{Allocate, Set}
 use Rattle.ring_protocol.specs.Command as command
 use Rattle.ring_protocol.specs.Reply as reply
 use Rattle.ring_conductor.specs.Account.{messages_in}
-use Rattle.ring_storm.specs.Turns.{AreAllTurns, AreTurns, Deeds, Turns, counter_told, label_of, turn_of}
+use Rattle.ring_storm.specs.Turns.{AreAllTurns, AreTurns, ClientHistory, Turns, counter_told, label_of, turn_of}
 use Rattle.ring_storm.proofs.LiveLemmas.{is_spelled, known_correlation}
 use Rattle.ring_storm.proofs.MergeLemmas.{IsMerged, merged}
 
@@ -79,12 +79,12 @@ counter_low (told.Refused correlation code) counter h low = low
 counter_low (told.Closed correlation freed) counter h low = low
 
 module _ (client : ℕ) (few : client < 64) where
-  counter_fits : (n : ℕ) (d : Deeds) → AreTurns client n d → d.counter < 2 ^ 32
+  counter_fits : (n : ℕ) (d : ClientHistory) → AreTurns client n d → d.counter < 2 ^ 32
   counter_fits zero d h = subst (λ c. c < 2 ^ 32) (sym h.2) (omega arith)
   counter_fits (suc n) d h = subst (λ c. c < 2 ^ 32) (sym h.2.counter)
       (counter_low h.2.told h.0.counter h.2.heard.spells.has_spelling (counter_fits n h.0 h.1))
 
-  turn_says : (number : ℕ) (old new : Deeds) (turn : Turns client number old new) → number ≤ 10000
+  turn_says : (number : ℕ) (old new : ClientHistory) (turn : Turns client number old new) → number ≤ 10000
       → old.counter < 2 ^ 32 → let m = turn.sent.claim.message in
       command.Spells m.type_id m.body (turn_of client old.counter number (turn.draw % 2 ^ 64))
   turn_says number old new turn short low = record {
@@ -101,13 +101,13 @@ module _ (client : ℕ) (few : client < 64) where
       by true = is_spelled client few (turn.draw % 2 ^ 64) known
       by false = (known, low, record { sfits = omega arith })
 
-  pub turn_says_in : (n : ℕ) (d : Deeds) → n ≤ 9999 → (h : AreTurns client (suc n) d)
+  pub turn_says_in : (n : ℕ) (d : ClientHistory) → n ≤ 9999 → (h : AreTurns client (suc n) d)
       → let m = h.2.sent.claim.message in
       command.Spells m.type_id m.body (turn_of client h.0.counter (suc n) (h.2.draw % 2 ^ 64))
   turn_says_in n d short h = turn_says (suc n) h.0 d h.2 (omega arith) (counter_fits n h.0 h.1)
 
   module _ (all : List Message) (commands : ℕ) (short : commands ≤ 10000) where
-    rest_of : (n : ℕ) (d : Deeds) (cs : List StagedClaim) → n ≤ commands → AreTurns client n d → IsHeard all d.copies
+    rest_of : (n : ℕ) (d : ClientHistory) (cs : List StagedClaim) → n ≤ commands → AreTurns client n d → IsHeard all d.copies
         → Rest all commands client n d.counter cs → Rest all commands client 0 0 (d.claims ++ cs)
     rest_of zero d cs le h heard rest =
         subst (λ l. Rest all commands client 0 0 (l ++ cs)) (sym h.0)

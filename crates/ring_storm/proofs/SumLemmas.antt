@@ -23,7 +23,7 @@ use Rattle.ring_protocol.specs.Command as command
 use Rattle.ring_conductor.specs.Account.{Account, IsFoldOf, account_of, fresh_account, messages_in, untimed}
 use Rattle.ring_storm.specs.Storming.{sum_of, with_value_of, HasOwnCounter}
 use Rattle.ring_conductor.specs.Asking.{drawn_in}
-use Rattle.ring_storm.specs.Turns.{AreAllTurns, AreTurns, Deeds, label_of, last_set, turn_of}
+use Rattle.ring_storm.specs.Turns.{AreAllTurns, AreTurns, ClientHistory, label_of, last_set, turn_of}
 use Rattle.ring_layout.proofs.Sums.{total-append}
 use Rattle.ring_conductor.proofs.DrawLemmas.{all_drawn, drawn_below, draws_in, one_at_most}
 use Rattle.ring_storm.proofs.HoldLemmas.{Ends, Holds, all_done}
@@ -46,7 +46,7 @@ turn_correlation client counter number correlation = by (number == 1)
 
 module _ (client : ℕ) (few : client < 64) where
   -- a client's claims have its draws for correlation ids, one each
-  own_stamped : (n : ℕ) (d : Deeds) → n ≤ 10000 → AreTurns client n d → stamps (messages_by d.claims) ≡ reduced d.draws
+  own_stamped : (n : ℕ) (d : ClientHistory) → n ≤ 10000 → AreTurns client n d → stamps (messages_by d.claims) ≡ reduced d.draws
   own_stamped zero d short h = ap (λ l. stamps (messages_by l)) h.0 ∙ sym (ap reduced h.1)
   own_stamped (suc n) d short h =
       let turn = h.2 in
@@ -64,7 +64,7 @@ module _ (client : ℕ) (few : client < 64) where
       ∙ ((λ i. rest i ++ here i ∷ [])
       ∙ (sym (reduced-append before.draws (turn.draw ∷ [])) ∙ sym (ap reduced turn.drawn)))))
 
-  own_said : (n : ℕ) (d : Deeds) → n ≤ 10000 → AreTurns client n d → Each IsSaid d.claims
+  own_said : (n : ℕ) (d : ClientHistory) → n ≤ 10000 → AreTurns client n d → Each IsSaid d.claims
   own_said zero d short h = subst (Each IsSaid) (sym h.0) tt
   own_said (suc n) d short h =
       let turn = h.2 in

@@ -19,7 +19,7 @@ use Rattle.ring_conductor.specs.declared.client.SendFault.TheVariants as fault
 use Rattle.ring_conductor.specs.declared.client.request.Request.{Request}
 use Rattle.ring_conductor.specs.Asking.{asked, IsHeard, IsSendable, RefusesAs, SendsAs}
 use Rattle.ring_protocol.specs.Command.{Instruction, spelling_of, type_id_of}
-use Rattle.ring_storm.specs.Turns.{Adds, AreAllTurns, AreAnswered, AreTurns, Deeds, Extends, Lengthens, Turns}
+use Rattle.ring_storm.specs.Turns.{Adds, AreAllTurns, AreAnswered, AreTurns, ClientHistory, Extends, Lengthens, Turns}
 
 -- Longer lists -------------------------------------------------------------------
 
@@ -88,37 +88,37 @@ hears_more correlation old new (Lapped l) h = ([], ap (λ (m : Sat). m.0.copies)
 
 -- Turns --------------------------------------------------------------------------
 
-pub same_deeds : (d : Deeds) → Extends d d
-same_deeds d =
+pub same_history : (d : ClientHistory) → Extends d d
+same_history d =
     record { claims = same_length d.claims; draws = same_length d.draws; copies = same_length d.copies }
 
 -- before the first turn
-pub no_turn : (client n : ℕ) (d : Deeds) → n ≡ 0 → length d.claims ≡ 0 → d.draws ≡ [] → d.counter ≡ 0
+pub no_turn : (client n : ℕ) (d : ClientHistory) → n ≡ 0 → length d.claims ≡ 0 → d.draws ≡ [] → d.counter ≡ 0
     → AreTurns client n d
 no_turn client n d none sent drawn counter =
     subst (λ k. AreTurns client k d) (sym none) (nothing d.claims (omega arith), drawn, counter)
 
-pub turns_as : (client other n m : ℕ) (d : Deeds) → other ≡ client → m ≡ n → AreTurns client n d → AreTurns other m d
+pub turns_as : (client other n m : ℕ) (d : ClientHistory) → other ≡ client → m ≡ n → AreTurns client n d → AreTurns other m d
 turns_as client other n m d same_client same h =
     subst (λ k. AreTurns k m d) (sym same_client) (subst (λ k. AreTurns client k d) (sym same) h)
 
 -- one more, of a client that is otherwise the same
-pub next_turn : (client other n m number : ℕ) (old new : Deeds) → other ≡ client → m ≡ n → number ≡ n + 1
+pub next_turn : (client other n m number : ℕ) (old new : ClientHistory) → other ≡ client → m ≡ n → number ≡ n + 1
     → Turns client number old new → AreTurns client n old → AreTurns other (m + 1) new
 next_turn client other n m number old new same_client same is turn h =
     turns_as client other (suc n) (m + 1) new same_client (ap (λ k. k + 1) same ∙ add-one n)
     (old, h, subst (λ k. Turns client k old new) (is ∙ add-one n) turn)
 
--- No other deeds -------------------------------------------------------------------
+-- Nothing else -------------------------------------------------------------------
 
-sent_all : (client n : ℕ) (d : Deeds) → AreTurns client n d → length d.claims ≡ n
+sent_all : (client n : ℕ) (d : ClientHistory) → AreTurns client n d → length d.claims ≡ n
 sent_all client zero d h = ap length h.0
 sent_all client (suc n) d h =
     let before = sent_all client n h.0 h.1 in
     let all = ap length h.2.sent.added ∙ length-append h.0.claims (h.2.sent.claim ∷ []) in
     omega arith
 
-pub drew_all : (client n : ℕ) (d : Deeds) → AreTurns client n d → length d.draws ≡ n
+pub drew_all : (client n : ℕ) (d : ClientHistory) → AreTurns client n d → length d.draws ≡ n
 drew_all client zero d h = ap length h.1
 drew_all client (suc n) d h =
     let before = drew_all client n h.0 h.1 in
@@ -132,14 +132,14 @@ no_more old new more few =
     more.1 ∙ (ap (λ l. old ++ l) (nothing more.0 (omega arith)) ∙ append-nil old)
 
 -- a client did all that it had to, and each of its commands had its reply
-pub record HasDoneAll (commands client seen : ℕ) (d : Deeds) : Type 0 where
+pub record HasDoneAll (commands client seen : ℕ) (d : ClientHistory) : Type 0 where
   pub answered : AreAnswered client seen d
   pub counted : seen ≡ commands
   pub few : (length d.claims ≤ commands) × (length d.draws ≤ commands)
   pub rising : AreRising d.claims
 
--- the deeds of a client are put among those of others: its claims by place, receiver and service after the others
-pub record PutAmong (d : Deeds) (claims others : List StagedClaim) (receivers before : List Joined) (receiver : Joined)
+-- the history of a client is put among those of others: its claims by place, receiver and service after the others
+pub record PutAmong (d : ClientHistory) (claims others : List StagedClaim) (receivers before : List Joined) (receiver : Joined)
     (services served : List Service) (service : Service) : Type 0 where
   pub together : claims ≡ interleaved others d.claims
   pub joined : receivers ≡ before ++ receiver ∷ []
@@ -149,7 +149,7 @@ pub record PutAmong (d : Deeds) (claims others : List StagedClaim) (receivers be
 
 -- the turns of one client more, which had all its replies: it made no more claims and draws than it had replies, so
 -- that they are those of its turns
-pub all_turns : (commands client seen : ℕ) (d : Deeds) (claims others : List StagedClaim)
+pub all_turns : (commands client seen : ℕ) (d : ClientHistory) (claims others : List StagedClaim)
     (receivers before : List Joined) (receiver : Joined) (services served : List Service) (service : Service)
     → AreAllTurns commands client others before served → HasDoneAll commands client seen d
     → PutAmong d claims others receivers before receiver services served service

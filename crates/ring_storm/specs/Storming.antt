@@ -38,7 +38,7 @@ use Rattle.ring_storm.specs.declared.plan.StormFault.TheVariants.{BadPlan, OutOf
 use Rattle.ring_storm.specs.declared.plan.StormPlan.{StormPlan}
 use Rattle.ring_storm.specs.declared.plan.StormReport.{StormReport}
 use Rattle.ring_storm.specs.declared.seats.StormClient.{StormClient}
-use Rattle.ring_storm.specs.declared.seats.Hub.{Hub}
+use Rattle.ring_storm.specs.declared.seats.Endpoints.{Endpoints}
 use Rattle.ring_storm.specs.declared.seats.LevelEnd.{LevelEnd}
 use Rattle.ring_storm.specs.declared.seats.StormEnd.{StormEnd}
 use Rattle.ring_storm.specs.declared.shared.Shared.{Shared}
@@ -47,7 +47,7 @@ use Rattle.ring_conductor.specs.Asking.{draws_of, producer_of, receiver_of, serv
 use Rattle.ring_conductor.specs.Conducting.{IsConductorOf, manager_in, received_of, transmitter_of, value_shares_of}
 use Rattle.ring_conductor.specs.Finishing.{HandsOn, Headline, claims_in, joined_by, joined_in, received_in, replies_in, services_in}
 use Rattle.ring_conductor.specs.Account.{IsFoldOf, messages_in}
-use Rattle.ring_storm.specs.Turns.{AreAllTurns, AreAnswered, Deeds, claims_by, copies_by, draws_by, label_of, last_set}
+use Rattle.ring_storm.specs.Turns.{AreAllTurns, AreAnswered, ClientHistory, claims_by, copies_by, draws_by, label_of, last_set}
 
 -- The plan ---------------------------------------------------------------------
 
@@ -139,8 +139,8 @@ IsClientOf ring board c =
     IsClientSeat ring (producer_of c.client) × IsReceiverOf board (receiver_of c.client) × (c.index < 64)
 
 -- what it did
-abbrev pub deeds_of : StormClient → Deeds
-deeds_of c = record {
+abbrev pub history_of : StormClient → ClientHistory
+history_of c = record {
   claims = claims_by c.client;
   draws = draws_by c.client;
   copies = copies_by c.client;
@@ -160,7 +160,7 @@ pub record HasWorked (commands client : ℕ) (c : StormClient) : Type 0 where
   pub sent : SentAtMost commands c
   pub seen : c.seen ≤ commands
   pub index : c.index ≡ client
-  pub answered : AreAnswered c.index c.seen (deeds_of c)
+  pub answered : AreAnswered c.index c.seen (history_of c)
 
 -- the number of commands that the conductor took
 abbrev pub taken_by : Conductor → ℕ
@@ -173,10 +173,11 @@ HasCounters p c = (registry_of (manager_in c) ≡ storm_counters p (messages_of 
 
 -- producer and conductor belong to this ring, this board and these values, the counters are those of the messages
 -- taken, no other thread reads their values, and the producer drew no number
-abbrev pub IsHubOf : {K B : Type 0} {G : Ghosts B} → StormPlan → Ring K B G → Board → CounterValues → Hub → Type 0
-IsHubOf p ring board values hub = IsProducerOf ring hub.producer
-    × IsConductorOf IsConsumerOf ring board values hub.conductor × HasCounters p hub.conductor
-    × (draws_of hub.producer ≡ [])
+abbrev pub AreEndpointsOf : {K B : Type 0} {G : Ghosts B} → StormPlan → Ring K B G → Board → CounterValues → Endpoints
+    → Type 0
+AreEndpointsOf p ring board values endpoints = IsProducerOf ring endpoints.producer
+    × IsConductorOf IsConsumerOf ring board values endpoints.conductor × HasCounters p endpoints.conductor
+    × (draws_of endpoints.producer ≡ [])
 
 -- the same at what all threads share
 abbrev pub IsClientAt : {G B : Type 0} {H : Ghosts B} → Shared G B H → StormClient → Type 0
@@ -185,14 +186,14 @@ IsClientAt s c = IsClientOf s.ring.now s.board.now c
 abbrev pub IsConductorAt : {G B : Type 0} {H : Ghosts B} → Shared G B H → Conductor → Type 0
 IsConductorAt s c = IsConductorOf IsConsumerOf s.ring.now s.board.now s.values.now c
 
-abbrev pub IsHubAt : {G B : Type 0} {H : Ghosts B} → Shared G B H → Hub → Type 0
-IsHubAt s hub = IsHubOf s.plan s.ring.now s.board.now s.values.now hub
+abbrev pub AreEndpointsAt : {G B : Type 0} {H : Ghosts B} → Shared G B H → Endpoints → Type 0
+AreEndpointsAt s endpoints = AreEndpointsOf s.plan s.ring.now s.board.now s.values.now endpoints
 
 -- all commands were taken, and this many clients had all their replies: each was seen, in its turn
 abbrev pub IsDone : StormPlan → ℕ → LevelEnd → Type 0
-IsDone p clients end = (all_commands p ≤ taken_by end.hub.conductor) × (end.seen ≡ clients * p.commands)
-    × AreAllTurns p.commands clients (claims_of end.hub.producer) (joined_by end.hub.conductor)
-    (services_of end.hub.producer)
+IsDone p clients end = (all_commands p ≤ taken_by end.endpoints.conductor) × (end.seen ≡ clients * p.commands)
+    × AreAllTurns p.commands clients (claims_of end.endpoints.producer) (joined_by end.endpoints.conductor)
+    (services_of end.endpoints.producer)
 
 -- what the conductor's thread gives back: the conductor with the counters of the messages taken; it has joined no
 -- receiver, and if it is done it took all commands
@@ -204,32 +205,33 @@ pub record HasConducted {K B : Type 0} {G : Ghosts B} (p : StormPlan) (ring : Ri
   pub done : IsTrue end.is_done → all_commands p ≤ taken_by end.conductor
 
 -- no command was sent, and neither a receiver nor a producer was joined
-abbrev pub IsUnused : Hub → Type 0
-IsUnused hub = (claims_of hub.producer ≡ []) × (joined_by hub.conductor ≡ []) × (services_of hub.producer ≡ [])
+abbrev pub IsUnused : Endpoints → Type 0
+IsUnused endpoints = (claims_of endpoints.producer ≡ []) × (joined_by endpoints.conductor ≡ [])
+    × (services_of endpoints.producer ≡ [])
 
--- hub as it is before the first client: of this ring, this board and these values, and unused
+-- the endpoints before the first client: of this ring, this board and these values, and unused
 pub record IsFreshOf {K B : Type 0} {G : Ghosts B} (p : StormPlan) (ring : Ring K B G) (board : Board) (values : CounterValues)
-    (hub : Hub) : Type 0 where
-  pub of : IsHubOf p ring board values hub
-  pub unused : IsUnused hub
+    (endpoints : Endpoints) : Type 0 where
+  pub of : AreEndpointsOf p ring board values endpoints
+  pub unused : IsUnused endpoints
 
-abbrev pub IsFreshAt : {G B : Type 0} {H : Ghosts B} → Shared G B H → Hub → Type 0
-IsFreshAt s hub = IsFreshOf s.plan s.ring.now s.board.now s.values.now hub
+abbrev pub IsFreshAt : {G B : Type 0} {H : Ghosts B} → Shared G B H → Endpoints → Type 0
+IsFreshAt s endpoints = IsFreshOf s.plan s.ring.now s.board.now s.values.now endpoints
 
 -- no share of ring or board is away, and no claim is open
-pub record HasAll (hub : Hub) : Type 0 where
-  pub producers : shares_of hub.producer ≡ all_shares
-  pub receivers : board_shares_of hub.conductor ≡ all_shares
-  pub settled : open_claims_of hub.producer ≡ 0
+pub record HasAll (endpoints : Endpoints) : Type 0 where
+  pub producers : shares_of endpoints.producer ≡ all_shares
+  pub receivers : board_shares_of endpoints.conductor ≡ all_shares
+  pub settled : open_claims_of endpoints.producer ≡ 0
 
 -- as many shares of ring and board as before, and as many open claims
-pub record HasSeatsBack (old new : Hub) : Type 0 where
+pub record HasSeatsBack (old new : Endpoints) : Type 0 where
   pub producers : shares_of new.producer ≡ shares_of old.producer
   pub receivers : board_shares_of new.conductor ≡ board_shares_of old.conductor
   pub open_claims : open_claims_of new.producer ≡ open_claims_of old.producer
 
 -- one share of the ring and one of the board are lent, and nothing else that is counted is another
-pub record LendsSeats (old new : Hub) : Type 0 where
+pub record LendsSeats (old new : Endpoints) : Type 0 where
   pub producers : shares_of new.producer + 1 ≡ shares_of old.producer
   pub receivers : board_shares_of new.conductor + 1 ≡ board_shares_of old.conductor
   pub open_claims : open_claims_of new.producer ≡ open_claims_of old.producer
@@ -240,7 +242,7 @@ pub record LendsSeats (old new : Hub) : Type 0 where
 
 -- a client's seats are joined: one share of the ring and one of the board more, its claims put among the others, and
 -- its receiver and its service after the others
-pub record TakesSeats (c : StormClient) (old new : Hub) : Type 0 where
+pub record TakesSeats (c : StormClient) (old new : Endpoints) : Type 0 where
   pub producers : shares_of new.producer ≡ shares_of old.producer + 1
   pub receivers : board_shares_of new.conductor ≡ board_shares_of old.conductor + 1
   pub open_claims : open_claims_of new.producer ≡ open_claims_of old.producer
@@ -251,12 +253,12 @@ pub record TakesSeats (c : StormClient) (old new : Hub) : Type 0 where
   pub services : services_of new.producer ≡ services_of old.producer ++ service_of (producer_of c.client) ∷ []
   pub taken : taken_by new.conductor ≡ taken_by old.conductor
 
--- The end of a level: hub with the seats of this many clients, which sent no more commands and saw no more replies than
--- the plan has for them; all of these, each in its turn, if nothing failed
+-- The end of a level: the endpoints with the seats of this many clients, which sent no more commands and saw no more
+-- replies than the plan has for them; all of these, each in its turn, if nothing failed
 pub record IsEndOf {K B : Type 0} {G : Ghosts B} (p : StormPlan) (ring : Ring K B G) (board : Board) (values : CounterValues)
     (clients : ℕ) (end : LevelEnd) : Type 0 where
-  pub hub : IsHubOf p ring board values end.hub
-  pub sent : sent_by end.hub.producer ≤ clients * p.commands
+  pub endpoints : AreEndpointsOf p ring board values end.endpoints
+  pub sent : sent_by end.endpoints.producer ≤ clients * p.commands
   pub seen : end.seen ≤ clients * p.commands
   pub done : (end.failure ≡ None) → IsDone p clients end
 
@@ -265,16 +267,16 @@ IsEndAt s clients end = IsEndOf s.plan s.ring.now s.board.now s.values.now clien
 
 -- The end ----------------------------------------------------------------------
 
--- What is left of a storm, whether all is done or some gave up. Hub has all seats of this ring, this board and these
--- values, with no more claims than all commands, and with it the conductor finished: the headline holds of it, and all
--- that it hands on is handed on
+-- What is left of a storm, whether all is done or some gave up. The endpoints have all seats of this ring, this board
+-- and these values, with no more claims than all commands, and the conductor finished with them: the headline holds of
+-- them, and all that they hand on is handed on
 pub record HasFinished {K B : Type 0} {G : Ghosts B} (p : StormPlan) (ring : Ring K B G) (board : Board) (values : CounterValues)
     (e : StormEnd) : Type 0 where
-  pub hub : Hub
-  pub end : IsEndOf p ring board values p.clients (record { hub = hub; seen = e.seen; failure = e.failure })
-  pub all : HasAll hub
-  pub headline : Headline (capacity_of ring) (start_of ring) hub.producer hub.conductor e.finished
-  pub hands_on : HandsOn (capacity_of ring) board values hub.producer hub.conductor e.finished
+  pub endpoints : Endpoints
+  pub end : IsEndOf p ring board values p.clients (record { endpoints = endpoints; seen = e.seen; failure = e.failure })
+  pub all : HasAll endpoints
+  pub headline : Headline (capacity_of ring) (start_of ring) endpoints.producer endpoints.conductor e.finished
+  pub hands_on : HandsOn (capacity_of ring) board values endpoints.producer endpoints.conductor e.finished
 
 -- The report -------------------------------------------------------------------
 

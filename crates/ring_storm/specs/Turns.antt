@@ -10,7 +10,7 @@ use Rattle.ring_table.specs.declared.view.Service.{Service}
 use Rattle.ring_rings.specs.Seats.{claims_of}
 use Rattle.ring_board.specs.declared.shared.view.Joined.{Joined}
 use Rattle.ring_board.specs.declared.shared.view.Taken.{Taken}
-use Rattle.ring_board.specs.Seats.{copies_of}
+use Rattle.ring_board.specs.Board.{copied}
 use Rattle.ring_protocol.specs.declared.reply.Reply.{Reply}
 use Rattle.ring_protocol.specs.declared.reply.Reply.TheVariants.{Allocated, Done, Refused, Closed}
 use Rattle.ring_conductor.specs.declared.client.Client.{Client}
@@ -43,7 +43,7 @@ abbrev pub draws_by : Client → List ℕ
 draws_by c = draws_of (producer_of c)
 
 abbrev pub copies_by : Client → List Taken
-copies_by c = copies_of (receiver_of c)
+copies_by c = copied (receiver_of c)
 
 -- the second list begins with the first
 abbrev pub Lengthens : {A : Type 0} → List A → List A → Type 0
@@ -65,14 +65,14 @@ pub record IsAnswered (correlation : ℕ) (r : Reply) (old new : List Taken) : T
   pub answers : reply.correlation_id_of r ≡ correlation
 
 -- what a client did: its claims, the numbers that it drew, its copies, and the id of its counter, as it knows it
-pub record Deeds : Type 0 where
+pub record ClientHistory : Type 0 where
   pub claims : List StagedClaim
   pub draws : List ℕ
   pub copies : List Taken
   pub counter : ℕ
 
 -- each list begins with the old one
-pub record Extends (old new : Deeds) : Type 0 where
+pub record Extends (old new : ClientHistory) : Type 0 where
   pub claims : Lengthens old.claims new.claims
   pub draws : Lengthens old.draws new.draws
   pub copies : Lengthens old.copies new.copies
@@ -86,7 +86,7 @@ counter_told (Closed correlation freed) counter = counter
 
 -- A client drew one number, and its command was sent with that correlation id; if it sets a counter, this is the one
 -- that the client knew. Then a reply with that id came, which may have the id of its counter
-pub record Turns (client number : ℕ) (old new : Deeds) : Type 0 where
+pub record Turns (client number : ℕ) (old new : ClientHistory) : Type 0 where
   pub draw : ℕ
   pub drawn : new.draws ≡ old.draws ++ draw ∷ []
   pub sent : Adds (turn_of client old.counter number (draw % 2 ^ 64)) old.claims new.claims
@@ -94,14 +94,14 @@ pub record Turns (client number : ℕ) (old new : Deeds) : Type 0 where
   pub heard : IsAnswered (draw % 2 ^ 64) told old.copies new.copies
   pub counter : new.counter ≡ counter_told told old.counter
 
--- the deeds are the first n commands of a client and no others, each with its reply among the copies, in order
-abbrev pub AreTurns : ℕ → ℕ → Deeds → Type 0
+-- the history is the first n commands of a client and no others, each with its reply among the copies, in order
+abbrev pub AreTurns : ℕ → ℕ → ClientHistory → Type 0
 AreTurns client zero d = (d.claims ≡ []) × (d.draws ≡ []) × (d.counter ≡ 0)
-AreTurns client (suc n) d = (before : Deeds) × AreTurns client n before × Turns client (suc n) before d
+AreTurns client (suc n) d = (before : ClientHistory) × AreTurns client n before × Turns client (suc n) before d
 
--- the deeds begin with the first n commands of a client, each with its reply
-pub record AreAnswered (client n : ℕ) (d : Deeds) : Type 0 where
-  pub before : Deeds
+-- the history begins with the first n commands of a client, each with its reply
+pub record AreAnswered (client n : ℕ) (d : ClientHistory) : Type 0 where
+  pub before : ClientHistory
   pub turns : AreTurns client n before
   pub more : Extends before d
 
@@ -110,7 +110,7 @@ pub record AreAnswered (client n : ℕ) (d : Deeds) : Type 0 where
 -- service has the numbers that it drew
 pub record AddsClient (commands client : ℕ) (claims more_claims : List StagedClaim)
     (receivers more_receivers : List Joined) (services more_services : List Service) : Type 0 where
-  pub own : Deeds
+  pub own : ClientHistory
   pub turns : AreTurns client commands own
   pub rising : AreRising own.claims
   pub together : more_claims ≡ interleaved claims own.claims

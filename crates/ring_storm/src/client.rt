@@ -4,8 +4,8 @@ ghost use Rattle.std.specs.Prelude.{IfNone, IfSome, OnSome};
 ghost use Rattle.std.specs.Bool.{OnFalse, OnTrue};
 ghost use Rattle.ring_board.specs.Seats.{IsReceiverOf};
 ghost use Rattle.ring_conductor.specs.Asking.{asked, producer_of, receiver_of};
-ghost use Rattle.ring_storm.specs.Storming.{HasWorked, IsClientAt, IsClientSeat, IsNew, deeds_of, sent_by};
-ghost use Rattle.ring_storm.specs.Turns.{Adds, Deeds, Extends, IsAnswered, Lengthens, Turns};
+ghost use Rattle.ring_storm.specs.Storming.{HasWorked, IsClientAt, IsClientSeat, IsNew, history_of, sent_by};
+ghost use Rattle.ring_storm.specs.Turns.{Adds, ClientHistory, Extends, IsAnswered, Lengthens, Turns};
 ghost use Rattle.ring_storm.specs.Turns.{claims_by, copies_by, draws_by, label_of, numbered};
 
 use crate::gate::Gate;
@@ -139,7 +139,7 @@ impl<G: Gate, B: Steps> Shared<'_, G, B> {
     /// Reports to the gate that the client's newest command, which has this number, has its reply. Only this function
     /// reports to the gate.
     fn tell_answered(&self, client: &StormClient, number: u32)
-        requires heard { (before : Deeds) × Turns client.now.index number before (deeds_of client.now) }
+        requires heard { (before : ClientHistory) × Turns client.now.index number before (history_of client.now) }
     {
         self.gate.answered(client.index, number);
     }
@@ -148,8 +148,8 @@ impl<G: Gate, B: Steps> Shared<'_, G, B> {
     fn command(&self, client: &mut StormClient, number: u32) -> Option<()>
         requires { IsClientAt self.now client.old }
         ensures client { IsClientAt self.now client.new }
-        ensures turn { OnSome result (Turns client.old.index number (deeds_of client.old) (deeds_of client.new)) }
-        ensures grows { Extends (deeds_of client.old) (deeds_of client.new) }
+        ensures turn { OnSome result (Turns client.old.index number (history_of client.old) (history_of client.new)) }
+        ensures grows { Extends (history_of client.old) (history_of client.new) }
         ensures sent { sent_by (producer_of client.new.client) ≤ sent_by (producer_of client.old.client) + 1 }
         ensures drawn { length (draws_by client.new.client) ≤ length (draws_by client.old.client) + 1 }
         ensures same { (client.new.index ≡ client.old.index) × (client.new.seen ≡ client.old.seen) }

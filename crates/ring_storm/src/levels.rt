@@ -11,7 +11,7 @@ ghost use Rattle.ring_storm.specs.Storming.{all_commands, board_shares_of, failu
 use crate::conductor::ConductorEnd;
 use crate::gate::Gate;
 use crate::promises::{ClientBack, ConductorBack};
-use crate::seats::{Failure, Hub, LevelEnd, StormClient};
+use crate::seats::{Endpoints, Failure, LevelEnd, StormClient};
 use crate::shared::Shared;
 use core::thread::Stack;
 use ring_rings::{Closes, Steps};
@@ -30,13 +30,13 @@ fn stack_of<G: Gate>(gate: &G, thread: u32) -> Stack {
 }
 
 /// A level that goes no deeper, since memory ran out or a thread could not be started.
-fn give_up(hub: Hub) -> LevelEnd
-    ensures hub { result.hub ≡ hub }
+fn give_up(endpoints: Endpoints) -> LevelEnd
+    ensures endpoints { result.endpoints ≡ endpoints }
     ensures seen { result.seen ≡ 0 }
     ensures failure { result.failure ≡ Some OutOfMemory }
 {
     LevelEnd {
-        hub,
+        endpoints,
         seen: 0,
         failure: Some(Failure::OutOfMemory),
     }
@@ -47,20 +47,20 @@ fn conduct<'s, E, R: Threads, G: Gate + Sync, B: Closes + Sync>(
     scope: &'s Scope<'s, E>,
     rt: &'s R,
     shared: Shared<'s, G, B>,
-    hub: Hub,
+    endpoints: Endpoints,
 ) -> LevelEnd
     requires plan { IsPlan shared.plan }
-    requires hub { IsFreshAt shared hub }
-    ensures hub { IsFreshAt shared.entry result.hub }
-    ensures producer { result.hub.producer ≡ hub.producer }
-    ensures receivers { board_shares_of result.hub.conductor ≡ board_shares_of hub.conductor }
+    requires endpoints { IsFreshAt shared endpoints }
+    ensures endpoints { IsFreshAt shared.entry result.endpoints }
+    ensures producer { result.endpoints.producer ≡ endpoints.producer }
+    ensures receivers { board_shares_of result.endpoints.conductor ≡ board_shares_of endpoints.conductor }
     ensures seen { result.seen ≡ 0 }
-    ensures done { (result.failure ≡ None) → all_commands shared.entry.plan ≤ taken_by result.hub.conductor }
+    ensures done { (result.failure ≡ None) → all_commands shared.entry.plan ≤ taken_by result.endpoints.conductor }
 {
-    let Hub {
+    let Endpoints {
         producer,
         conductor,
-    } = hub;
+    } = endpoints;
     // The closure takes plain references, since nothing is known in it of a struct that holds references.
     let Shared {
         ring,
@@ -101,7 +101,7 @@ fn conduct<'s, E, R: Threads, G: Gate + Sync, B: Closes + Sync>(
         Ok(child) => {
             let ConductorEnd { conductor, is_done } = child.join(rt);
             LevelEnd {
-                hub: Hub {
+                endpoints: Endpoints {
                     producer,
                     conductor,
                 },
@@ -117,7 +117,7 @@ fn conduct<'s, E, R: Threads, G: Gate + Sync, B: Closes + Sync>(
             // The closure ends at once, since all are stopped, and gives the conductor back.
             shared.stop();
             let ConductorEnd { conductor, .. } = (closure.value)();
-            give_up(Hub {
+            give_up(Endpoints {
                 producer,
                 conductor,
             })
@@ -133,21 +133,21 @@ pub(crate) fn level<'s, E, R: Threads, G: Gate + Sync, B: Closes + Sync>(
     alloc: Global,
     shared: Shared<'s, G, B>,
     remaining: u32,
-    mut hub: Hub,
+    mut endpoints: Endpoints,
 ) -> LevelEnd
     requires plan { IsPlan shared.plan × (remaining ≤ 64) }
-    requires hub { IsFreshAt shared hub }
-    requires shares { (remaining < shares_of hub.producer) × (remaining < board_shares_of hub.conductor) }
+    requires endpoints { IsFreshAt shared endpoints }
+    requires shares { (remaining < shares_of endpoints.producer) × (remaining < board_shares_of endpoints.conductor) }
     ensures end { IsEndAt shared.entry remaining result }
-    ensures seats { HasSeatsBack hub result.hub }
+    ensures seats { HasSeatsBack endpoints result.endpoints }
 {
     if remaining == 0 {
-        return conduct(scope, rt, shared, hub);
+        return conduct(scope, rt, shared, endpoints);
     }
     let index = remaining - 1;
-    let Ok(client) = shared.split_client(alloc, &mut hub, index) else {
+    let Ok(client) = shared.split_client(alloc, &mut endpoints, index) else {
         shared.stop();
-        return give_up(hub);
+        return give_up(endpoints);
     };
     let Shared {
         ring,
@@ -184,14 +184,14 @@ pub(crate) fn level<'s, E, R: Threads, G: Gate + Sync, B: Closes + Sync>(
     );
     let (end, client) = match started {
         Ok(child) => {
-            let end = level(scope, rt, alloc, shared, index, hub);
+            let end = level(scope, rt, alloc, shared, index, endpoints);
             (end, child.join(rt))
         }
         Err(closure) => {
             // The closure ends at once, since all are stopped, and gives the seats back.
             shared.stop();
             let client = (closure.value)();
-            (give_up(hub), client)
+            (give_up(endpoints), client)
         }
     };
     gather(shared, index, end, client)
@@ -209,22 +209,26 @@ fn gather<G, B: Steps>(
     requires client { IsClientAt shared client }
     requires worked { HasWorked shared.plan.commands index client }
     ensures end { IsEndAt shared.entry (index + 1) result }
-    ensures seats { TakesSeats client end.hub result.hub }
+    ensures seats { TakesSeats client end.endpoints result.endpoints }
     ensures failure { result.failure ≡ failure_after client.seen shared.entry.plan.commands end.failure }
 {
     let LevelEnd {
-        mut hub,
+        mut endpoints,
         seen,
         failure,
     } = end;
-    let replies = shared.join_client(&mut hub, client);
+    let replies = shared.join_client(&mut endpoints, client);
     let seen = seen + replies;
     if replies < u64::from(shared.plan.commands) {
         return LevelEnd {
-            hub,
+            endpoints,
             seen,
             failure: Some(failure.unwrap_or(Failure::TurnsSpent)),
         };
     }
-    LevelEnd { hub, seen, failure }
+    LevelEnd {
+        endpoints,
+        seen,
+        failure,
+    }
 }

@@ -7,8 +7,8 @@
 
 mod client;
 mod conductor;
+mod endpoints;
 mod gate;
-mod hub;
 mod levels;
 mod plan;
 mod promises;

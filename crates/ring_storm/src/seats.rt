@@ -21,7 +21,7 @@ pub(crate) struct StormClient {
 
 /// The seats from which those of the clients are split.
 #[derive(Drop)]
-pub(crate) struct Hub {
+pub(crate) struct Endpoints {
     pub(crate) producer: Producer,
     pub(crate) conductor: Conductor,
 }
@@ -49,7 +49,7 @@ impl From<Failure> for StormFault {
 /// What comes back from the clients and the conductor, with all their seats.
 #[derive(Drop)]
 pub(crate) struct LevelEnd {
-    pub(crate) hub: Hub,
+    pub(crate) endpoints: Endpoints,
     /// The number of replies that came to the clients that had sent their commands.
     pub(crate) seen: u64,
     pub(crate) failure: Option<Failure>,

@@ -7,7 +7,7 @@ use crate::gate::Gate;
 use crate::levels::level;
 use crate::plan::{StormFault, StormPlan, StormReport};
 use crate::report::report;
-use crate::seats::{Hub, LevelEnd, StormEnd};
+use crate::seats::{Endpoints, LevelEnd, StormEnd};
 use crate::shared::Shared;
 use ring_board::Board;
 use ring_conductor::{Conductor, finish};
@@ -65,7 +65,7 @@ pub fn storm_over<B: Closes + Drop + Sync, R: Threads + Wait, G: Gate + Sync>(
     let Ok((values, counters)) = CountersManager::new(alloc, plan.clients, 0) else {
         return Err(StormFault::OutOfMemory);
     };
-    let hub = Hub {
+    let endpoints = Endpoints {
         producer,
         conductor: Conductor::new(consumer, transmitter, counters),
     };
@@ -73,7 +73,7 @@ pub fn storm_over<B: Closes + Drop + Sync, R: Threads + Wait, G: Gate + Sync>(
         finished,
         seen,
         failure,
-    } = run(rt, alloc, plan, gate, ring, board, values, hub);
+    } = run(rt, alloc, plan, gate, ring, board, values, endpoints);
     match failure {
         Some(failure) => Err(StormFault::from(failure)),
         None => Ok(report(finished, seen)),
@@ -89,17 +89,19 @@ fn run<B: Closes + Drop + Sync, R: Threads + Wait, G: Gate + Sync>(
     ring: Ring<ManyToOne, B>,
     board: Board,
     values: CounterValues,
-    hub: Hub,
+    endpoints: Endpoints,
 ) -> StormEnd
     requires plan { IsPlan plan.now }
-    requires hub { IsFreshOf plan.now ring board values hub }
-    requires whole { HasAll hub }
+    requires endpoints { IsFreshOf plan.now ring board values endpoints }
+    requires whole { HasAll endpoints }
     ensures { HasFinished plan.now ring board values result }
 {
-    let LevelEnd { hub, seen, failure } = run_threads(
-        rt, alloc, plan, gate, &ring, &board, &values, hub,
-    );
-    let finished = match finish(ring, board, values, hub.conductor, hub.producer) {
+    let LevelEnd {
+        endpoints,
+        seen,
+        failure,
+    } = run_threads(rt, alloc, plan, gate, &ring, &board, &values, endpoints);
+    let finished = match finish(ring, board, values, endpoints.conductor, endpoints.producer) {
         Ok(finished) => finished,
         Err(_refused) => unreachable!(),
     };
@@ -119,13 +121,13 @@ fn run_threads<B: Closes + Sync, R: Threads + Wait, G: Gate + Sync>(
     ring: &Ring<ManyToOne, B>,
     board: &Board,
     values: &CounterValues,
-    hub: Hub,
+    endpoints: Endpoints,
 ) -> LevelEnd
     requires plan { IsPlan plan.now }
-    requires hub { IsFreshOf plan.now ring.now board.now values.now hub }
-    requires whole { HasAll hub }
+    requires endpoints { IsFreshOf plan.now ring.now board.now values.now endpoints }
+    requires whole { HasAll endpoints }
     ensures end { IsEndOf plan.now ring.now board.now values.now plan.now.clients result }
-    ensures whole { HasAll result.hub }
+    ensures whole { HasAll result.endpoints }
 {
     let flag = AtomicBool::new(false);
     let stopped = &flag;
@@ -135,10 +137,10 @@ fn run_threads<B: Closes + Sync, R: Threads + Wait, G: Gate + Sync>(
         rt,
         |scope| -> LevelEnd
             requires plan { IsPlan plan }
-            requires hub { IsFreshOf plan ring.now board.now values.now hub }
-            requires whole { HasAll hub }
+            requires endpoints { IsFreshOf plan ring.now board.now values.now endpoints }
+            requires whole { HasAll endpoints }
             ensures end { IsEndOf plan ring.entry.now board.entry.now values.entry.now plan.clients result }
-            ensures whole { HasAll result.hub }
+            ensures whole { HasAll result.endpoints }
         {
             let shared = Shared {
                 ring,
@@ -148,7 +150,7 @@ fn run_threads<B: Closes + Sync, R: Threads + Wait, G: Gate + Sync>(
                 stopped,
                 plan,
             };
-            level(scope, rt, alloc, shared, plan.clients, hub)
+            level(scope, rt, alloc, shared, plan.clients, endpoints)
         },
     )
 }

@@ -1,17 +1,18 @@
 //! Copying receivers.
-ghost use Rattle.std.specs.Prelude.{◌≡◌, ◌+◌, ◌/◌, ◌<◌, ◌≤◌, take, IfOk, OnErr, MatchResult, MatchOption};
+ghost use Rattle.std.specs.Prelude.{◌≡◌, ◌+◌, ◌/◌, ◌<◌, ◌≤◌, [], ◌∷◌, ◌++◌, take, IfOk, OnErr, MatchResult, MatchOption};
 
 use crate::board::{Board, Copied, CopyReceiver, Transmitter};
 use crate::fault::{Lapped, SubscribeFault};
-use crate::receiver::found::Front;
+use crate::receiver::found::CopiedMessage;
 use ring_layout::has_spare_share;
 use std::alloc::Global;
 
 impl Board {
     ghost use Rattle.ring_board.specs.Runs.{AreRuns};
-    ghost use Rattle.ring_board.specs.Views.{fewer, newcomer, joined};
+    ghost use Rattle.ring_board.specs.Views.{as_joined, fewer, newcomer, joined};
     ghost use Rattle.ring_board.specs.Refusals.{subscribe_refusal_of, IsSubscribedUnless};
-    ghost use Rattle.ring_board.specs.Seats.{view_of, shares_of, transmitted, IsTransmitterOf, IsReceiverOf, receiver_view, subscribed_at, copies_of};
+    ghost use Rattle.ring_board.specs.Board.{copied, heard_by, latest_of, subscribed_at, transmitted};
+    ghost use Rattle.ring_board.specs.Seats.{view_of, shares_of, IsTransmitterOf, IsReceiverOf, receiver_view};
 
     /// Makes a copying receiver, which starts with the record at latest. It takes one share of the transmitter's.
     /// Returns, in this order: `NoShares` if the transmitter has one share; `OutOfMemory`. The transmitter is then
@@ -22,6 +23,8 @@ impl Board {
         transmitter: &mut Transmitter,
     ) -> Result<CopyReceiver, SubscribeFault>
         requires { IsTransmitterOf self.now transmitter.old }
+        ensures transmitted { transmitted transmitter.new ≡ transmitted transmitter.old }
+        ensures begins { IfOk result (λ r. (copied r ≡ []) × (subscribed_at r ≡ latest_of transmitter.old)) }
         ensures board { IsTransmitterOf self.now transmitter.new }
         ensures refused { IsSubscribedUnless (subscribe_refusal_of (shares_of transmitter.old)) result }
         ensures same { OnErr result (transmitter.new ≡ transmitter.old) }
@@ -43,10 +46,12 @@ impl Board {
     pub fn join(&self, transmitter: &mut Transmitter, receiver: CopyReceiver)
         requires transmitter { IsTransmitterOf self.now transmitter.old }
         requires receiver { IsReceiverOf self.now receiver }
+        ensures transmitted { transmitted transmitter.new ≡ transmitted transmitter.old }
+        ensures heard { heard_by transmitter.new ≡ heard_by transmitter.old ++ as_joined (receiver_view receiver) ∷ [] }
+        ensures runs { AreRuns (transmitted transmitter.old) (subscribed_at receiver) (copied receiver) }
         ensures board { IsTransmitterOf self.now transmitter.new }
         ensures view { view_of transmitter.new ≡ joined (view_of transmitter.old) (receiver_view receiver) }
         ensures shares { shares_of transmitter.new ≡ shares_of transmitter.old + 1 }
-        ensures runs { AreRuns (transmitted transmitter.old) (subscribed_at receiver) (copies_of receiver) }
     {
         let CopyReceiver {
             receiver: raw,
@@ -60,7 +65,8 @@ impl CopyReceiver {
     ghost use Rattle.std.specs.Borrow.{sem};
     ghost use Rattle.std.specs.Prelude.{vec_len};
     ghost use Rattle.ring_board.specs.Receiving.{GotNothing, GotCopy, GotLapped};
-    ghost use Rattle.ring_board.specs.Seats.{IsReceiverOf, receiver_seat, place_in, lapped_count_of, Received};
+    ghost use Rattle.ring_board.specs.Board.{lapped_count_of, place_in, CopiesNext};
+    ghost use Rattle.ring_board.specs.Seats.{IsReceiverOf, receiver_seat, Received};
     ghost use Rattle.ring_board.specs.Lending.{Rests};
 
     /// Returns the position, in bytes, at which the next call looks for a record. After `Lapped` the bytes that it
@@ -79,7 +85,7 @@ impl CopyReceiver {
     }
 
     /// Copies the next message to the front of its own scratch.
-    fn copy_next(&mut self, board: &Board) -> Result<Option<Front>, Lapped>
+    fn copy_next(&mut self, board: &Board) -> Result<Option<CopiedMessage>, Lapped>
         requires { IsReceiverOf board.now self.old }
         ensures board { IsReceiverOf board.now self.new }
         ensures got { MatchResult result (λ o. MatchOption o
@@ -94,7 +100,7 @@ impl CopyReceiver {
     }
 
     /// The copy at the front of the scratch.
-    fn front(&self, front: Front) -> Copied<'_>
+    fn front(&self, front: CopiedMessage) -> Copied<'_>
         requires { front.len ≤ vec_len self.now.scratch }
         ensures { (result.place ≡ front.place) × (result.type_id ≡ front.type_id)
             × (result.body.now ≡ take front.len self.now.scratch.items) }
@@ -110,7 +116,8 @@ impl CopyReceiver {
     /// the receiver: the count has risen by one, and the next call starts with the record at latest.
     pub fn receive(&mut self, board: &Board) -> Result<Option<Copied<'_>>, Lapped>
         requires { IsReceiverOf board.now self.old }
-        ensures* after { sem 𝓛 (Rests self.entry (λ new. IsReceiverOf board.now new × Received self.old new result)) }
+        ensures* after { sem 𝓛 (Rests self.entry (λ new. CopiesNext self.old new result
+            × IsReceiverOf board.now new × Received self.old new result)) }
     {
         match self.copy_next(board)? {
             None => Ok(None),

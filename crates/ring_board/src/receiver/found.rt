@@ -13,7 +13,7 @@ pub(crate) enum Found {
 
 /// A copy at the front of the scratch.
 #[derive(Clone, Copy)]
-pub(crate) struct Front {
+pub(crate) struct CopiedMessage {
     pub(crate) place: u64,
     pub(crate) type_id: i32,
     pub(crate) len: usize,
@@ -21,7 +21,7 @@ pub(crate) struct Front {
 
 /// A validation that failed, and the intent that showed it.
 #[derive(Clone, Copy)]
-pub(crate) struct Miss {
+pub(crate) struct FailedValidation {
     pub(crate) place: u64,
     pub(crate) intent: u64,
 }

@@ -1,23 +1,26 @@
 //! Raw receivers.
-ghost use Rattle.std.specs.Prelude.{◌≡◌, ◌==◌, ◌+◌, ◌/◌, ◌≤◌, true, length, take, drop, IfOk, OnErr, MatchResult, MatchOption};
+ghost use Rattle.std.specs.Prelude.{◌≡◌, ◌==◌, ◌+◌, ◌/◌, ◌≤◌, true, [], ◌∷◌, ◌++◌, length, take, drop, IfOk, OnErr, MatchResult, MatchOption};
 ghost use Rattle.ring_board.specs.Seats.{IsSeatOf, IsSameSeat};
 
 use crate::board::{Board, RawRecord, Receiver, Transmitter};
 use crate::fault::Lapped;
-use crate::receiver::found::Front;
+use crate::receiver::found::CopiedMessage;
 use crate::shared::steps::BoardSeat;
 use ring_layout::{NoShares, has_spare_share, put_part, span};
 
 impl Board {
     ghost use Rattle.ring_board.specs.Runs.{AreRuns};
-    ghost use Rattle.ring_board.specs.Views.{fewer, newcomer, joined};
+    ghost use Rattle.ring_board.specs.Views.{as_joined, fewer, newcomer, joined};
     ghost use Rattle.ring_layout.specs.Refusals.{share_refusal_of, IsRefusedBy};
-    ghost use Rattle.ring_board.specs.Seats.{view_of, shares_of, transmitted, IsTransmitterOf, IsRawOf, raw_view, raw_subscribed_at, answered_by};
+    ghost use Rattle.ring_board.specs.Board.{heard_by, latest_of, raw_subscribed_at, returned, transmitted};
+    ghost use Rattle.ring_board.specs.Seats.{view_of, shares_of, IsTransmitterOf, IsRawOf, raw_view};
 
     /// Makes a raw receiver, which starts with the record at latest. It takes one share of the transmitter's and no
     /// memory. Returns `NoShares` if the transmitter has one share, which is then unchanged.
     pub fn subscribe_raw(&self, transmitter: &mut Transmitter) -> Result<Receiver, NoShares>
         requires { IsTransmitterOf self.now transmitter.old }
+        ensures transmitted { transmitted transmitter.new ≡ transmitted transmitter.old }
+        ensures begins { IfOk result (λ r. (returned r ≡ []) × (raw_subscribed_at r ≡ latest_of transmitter.old)) }
         ensures board { IsTransmitterOf self.now transmitter.new }
         ensures refused { IsRefusedBy (share_refusal_of (shares_of transmitter.old)) result }
         ensures same { OnErr result (transmitter.new ≡ transmitter.old) }
@@ -34,10 +37,12 @@ impl Board {
     pub fn join_raw(&self, transmitter: &mut Transmitter, receiver: Receiver)
         requires transmitter { IsTransmitterOf self.now transmitter.old }
         requires receiver { IsRawOf self.now receiver }
+        ensures transmitted { transmitted transmitter.new ≡ transmitted transmitter.old }
+        ensures heard { heard_by transmitter.new ≡ heard_by transmitter.old ++ as_joined (raw_view receiver) ∷ [] }
+        ensures runs { AreRuns (transmitted transmitter.old) (raw_subscribed_at receiver) (returned receiver) }
         ensures board { IsTransmitterOf self.now transmitter.new }
         ensures view { view_of transmitter.new ≡ joined (view_of transmitter.old) (raw_view receiver) }
         ensures shares { shares_of transmitter.new ≡ shares_of transmitter.old + 1 }
-        ensures runs { AreRuns (transmitted transmitter.old) (raw_subscribed_at receiver) (answered_by receiver) }
     {
         let Receiver {
             seat,
@@ -51,14 +56,15 @@ impl Board {
 }
 
 impl Receiver {
-    ghost use Rattle.ring_board.specs.Bodies.{GaveBody, IsRight, Validated};
+    ghost use Rattle.ring_board.specs.Bodies.{GaveBody, HasLoaded, IsRight, Validated};
     ghost use Rattle.ring_board.specs.Receiving.{GotNothing, GotCopy, GotLapped};
-    ghost use Rattle.ring_board.specs.Seats.{IsRawOf, IsAnsweredRecord, raw_seat, raw_view, raw_stands_at, raw_lapped_count_of, ReceivedNext, StaysAnswered, place_of, len_of};
+    ghost use Rattle.ring_board.specs.Board.{raw_lapped_count_of, raw_place_in, ReturnsNext};
+    ghost use Rattle.ring_board.specs.Seats.{IsRawOf, IsAnsweredRecord, raw_seat, raw_view, ReceivedNext, StaysAnswered, place_of, len_of};
 
     /// Returns the position, in bytes, at which the next call looks for a record. After `Lapped` the bytes that it
     /// passed over are this less `Lapped.place`, which is never 0.
     pub fn place(&self) -> u64
-        ensures { result ≡ raw_stands_at self.now }
+        ensures { result ≡ raw_place_in self.now }
     {
         self.place
     }
@@ -74,11 +80,12 @@ impl Receiver {
     /// the receiver: the count has risen by one, and the next call starts with the record at latest.
     pub fn receive_next(&mut self, board: &Board) -> Result<Option<RawRecord>, Lapped>
         requires { IsRawOf board.now self.old }
+        ensures returned { ReturnsNext self.old self.new result }
         ensures board { IsRawOf board.now self.new }
         ensures got { ReceivedNext self.old self.new result }
         ensures kept { StaysAnswered self.old self.new }
     {
-        match board.answer(&mut self.seat, self.place) {
+        match board.next_raw(&mut self.seat, self.place) {
             Ok(None) => Ok(None),
             Ok(Some(record)) => {
                 self.place = record.place + span(record.len);
@@ -98,7 +105,7 @@ impl Receiver {
         &mut self,
         board: &Board,
         scratch: &mut [u8],
-    ) -> Result<Option<Front>, Lapped>
+    ) -> Result<Option<CopiedMessage>, Lapped>
         requires board { IsRawOf board.now self.old }
         requires room { length scratch.old ≡ board.now.capacity / 8 }
         ensures board { IsRawOf board.now self.new }
@@ -108,7 +115,7 @@ impl Receiver {
         ensures len { MatchResult result (λ o. MatchOption o (Unit {0}) (λ f. f.len ≤ length scratch.new))
             (λ l. Unit {0}) }
     {
-        match board.attempt(&mut self.seat, self.place, scratch) {
+        match board.copy_next(&mut self.seat, self.place, scratch) {
             Ok(None) => Ok(None),
             Ok(Some(front)) => {
                 self.place = front.place + span(front.len);
@@ -129,6 +136,7 @@ impl Receiver {
         requires board { IsRawOf board.now self.old }
         requires raw { IsAnsweredRecord (raw_view self.old) raw.now }
         requires room { len_of raw.now ≤ length out.old }
+        ensures loaded { HasLoaded (raw_view self.new) raw.now (take (len_of raw.now) out.new) }
         ensures board { IsRawOf board.now self.new }
         ensures gave { GaveBody (place_of raw.now) (take (len_of raw.now) out.new) (raw_seat self.old)
             (raw_seat self.new) }
@@ -143,9 +151,9 @@ impl Receiver {
     pub fn validate(&mut self, board: &Board, raw: &RawRecord) -> bool
         requires board { IsRawOf board.now self.old }
         requires raw { IsAnsweredRecord (raw_view self.old) raw.now }
+        ensures right { result ≡ true → IsRight (raw_view self.old) raw.now }
         ensures board { IsRawOf board.now self.new }
         ensures validated { Validated raw.now result (raw_seat self.old) (raw_seat self.new) }
-        ensures right { result ≡ true → IsRight (raw_view self.old) raw.now }
         ensures kept { StaysAnswered self.old self.new }
     {
         let intent = board.check_answered(&mut self.seat);

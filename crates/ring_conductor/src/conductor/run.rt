@@ -1,7 +1,7 @@
 //! The conductor at work for several cycles.
 
 ghost use Rattle.std.specs.Prelude.{◌≡◌, ◌^◌, ◌≤◌, All};
-ghost use Rattle.ring_board.specs.Seats.{heard_by, transmitted};
+ghost use Rattle.ring_board.specs.Board.{heard_by, transmitted};
 ghost use Rattle.ring_conductor.specs.declared.conductor.WorkStop.TheVariants.{Limit};
 ghost use Rattle.ring_layout.specs.Lists.{Begins};
 ghost use Rattle.ring_conductor.specs.Conducting.{IsConductorOf};

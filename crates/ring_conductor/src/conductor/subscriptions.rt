@@ -3,8 +3,8 @@
 ghost use Rattle.std.specs.Prelude.{◌≡◌, ◌+◌, ◌<◌, ◌↔◌, IfOk, IsOk, OnErr, OnOk};
 ghost use Rattle.ring_board.specs.Refusals.{subscribe_refusal_of, IsSubscribedUnless};
 ghost use Rattle.ring_board.specs.Runs.{AreRuns};
-ghost use Rattle.ring_board.specs.Seats.{shares_of, transmitted, IsTransmitterOf, IsReceiverOf};
-ghost use Rattle.ring_board.specs.Seats.{receiver_view, subscribed_at, copies_of};
+ghost use Rattle.ring_board.specs.Board.{copied, subscribed_at, transmitted};
+ghost use Rattle.ring_board.specs.Seats.{receiver_view, shares_of, IsReceiverOf, IsTransmitterOf};
 ghost use Rattle.ring_board.specs.Views.{fewer, newcomer};
 ghost use Rattle.ring_counters.specs.Agree.{Agree};
 ghost use Rattle.ring_counters.specs.Manager.{registry_of, writes_of, IsManagerOf};
@@ -45,7 +45,7 @@ impl Conductor {
         requires transmitter { IsTransmitterOf board.now (transmitter_of self.old) }
         requires receiver { IsReceiverOf board.now receiver }
         ensures board { IsTransmitterOf board.now (transmitter_of self.new) }
-        ensures runs { AreRuns (transmitted (transmitter_of self.old)) (subscribed_at receiver) (copies_of receiver) }
+        ensures runs { AreRuns (transmitted (transmitter_of self.old)) (subscribed_at receiver) (copied receiver) }
         ensures joined { JoinsReceiver receiver self.old self.new }
         ensures others { KeepsTheRest self.old self.new }
     {

@@ -2,7 +2,7 @@
 
 ghost use Rattle.std.specs.Prelude.{◌≡◌, ◌^◌, ◌≤◌, []};
 ghost use Rattle.ring_rings.specs.Seats.{consumer_view, taken_of};
-ghost use Rattle.ring_board.specs.Seats.{heard_by, transmitted};
+ghost use Rattle.ring_board.specs.Board.{heard_by, transmitted};
 ghost use Rattle.ring_layout.specs.Lists.{Begins};
 ghost use Rattle.ring_conductor.specs.Conducting.{AreUnused, IsConductorOf, Works, work_stop};
 ghost use Rattle.ring_conductor.specs.Conducting.{consumer_of, manager_in, ledger_of, ring_view};

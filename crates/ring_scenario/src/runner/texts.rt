@@ -8,7 +8,7 @@ use super::Runner;
 use crate::printer::{Printer, hex_of};
 use crate::refusal::Refusal;
 use ring_counters::BadId;
-use ring_loose::{Claimed, Received};
+use ring_standalone::{Claimed, Received};
 use ring_words::{ClaimFault, ReadEnd, Stop};
 use std::alloc::AllocError;
 

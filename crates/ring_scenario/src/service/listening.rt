@@ -4,14 +4,14 @@ ghost use Rattle.ring_layout.specs.Refusals.{all_shares};
 ghost use Rattle.ring_board.specs.Refusals.{subscribe_refusal_of, IsSubscribedUnless};
 ghost use Rattle.ring_board.specs.Seats.{shares_of};
 ghost use Rattle.ring_conductor.specs.Conducting.{KeepsTheRest, transmitter_of};
-ghost use Rattle.ring_loose.specs.Held.{IsFree, held_in};
-ghost use Rattle.ring_loose.specs.Receivers.{LeavesCrowd, ReceivesAt, Subscribes, crowd, shares_in, IsCrowdOf};
+ghost use Rattle.ring_standalone.specs.Held.{IsFree, held_in};
+ghost use Rattle.ring_standalone.specs.Receivers.{LeavesAt, ReceivesAt, Subscribes, by_number, shares_in, AreReceiversOf};
 ghost use Rattle.ring_scenario.specs.Keeping.{KeepsButListeners, KeepsRing};
 
 use super::CommandService;
 use ring_board::{Board, CopyReceiver, SubscribeFault};
 use ring_conductor::Conductor;
-use ring_loose::{Numbered, Received, receive_at};
+use ring_standalone::{Numbered, Received, receive_at};
 use std::alloc::{AllocError, Global};
 
 /// Makes a listener, and keeps it under the next number, which is given. The room to keep it is made first.
@@ -21,17 +21,17 @@ fn make_listener(
     conductor: &mut Conductor,
     listeners: &mut Numbered<CopyReceiver>,
 ) -> Result<Result<usize, SubscribeFault>, AllocError>
-    requires { IsCrowdOf board.now (crowd (transmitter_of conductor.old) listeners.old) }
-    ensures crowd { IsCrowdOf board.now (crowd (transmitter_of conductor.new) listeners.new) }
+    requires { AreReceiversOf board.now (by_number (transmitter_of conductor.old) listeners.old) }
+    ensures numbered { AreReceiversOf board.now (by_number (transmitter_of conductor.new) listeners.new) }
     ensures made { IfOk result (λ made. IfOk made (λ number. Subscribes
-        (crowd (transmitter_of conductor.old) listeners.old) number
-        (crowd (transmitter_of conductor.new) listeners.new))) }
+        (by_number (transmitter_of conductor.old) listeners.old) number
+        (by_number (transmitter_of conductor.new) listeners.new))) }
     ensures same { IfOk result (λ made. OnErr made
         ((conductor.new ≡ conductor.old) × (held_in listeners.new ≡ held_in listeners.old))) }
     ensures refused { IfOk result (λ made.
         IsSubscribedUnless (subscribe_refusal_of (shares_of (transmitter_of conductor.old))) made) }
-    ensures shares { shares_in (crowd (transmitter_of conductor.new) listeners.new)
-        ≡ shares_in (crowd (transmitter_of conductor.old) listeners.old) }
+    ensures shares { shares_in (by_number (transmitter_of conductor.new) listeners.new)
+        ≡ shares_in (by_number (transmitter_of conductor.old) listeners.old) }
     ensures others { KeepsTheRest conductor.old conductor.new }
 {
     listeners.reserve()?;
@@ -49,16 +49,16 @@ fn join_listener(
     listeners: &mut Numbered<CopyReceiver>,
     number: usize,
 ) -> Option<()>
-    requires { IsCrowdOf board.now (crowd (transmitter_of conductor.old) listeners.old) }
-    ensures crowd { IsCrowdOf board.now (crowd (transmitter_of conductor.new) listeners.new) }
-    ensures left { OnSome result (LeavesCrowd
-        (crowd (transmitter_of conductor.old) listeners.old) number
-        (crowd (transmitter_of conductor.new) listeners.new)) }
+    requires { AreReceiversOf board.now (by_number (transmitter_of conductor.old) listeners.old) }
+    ensures numbered { AreReceiversOf board.now (by_number (transmitter_of conductor.new) listeners.new) }
+    ensures left { OnSome result (LeavesAt
+        (by_number (transmitter_of conductor.old) listeners.old) number
+        (by_number (transmitter_of conductor.new) listeners.new)) }
     ensures same { IfNone result
         ((conductor.new ≡ conductor.old) × (held_in listeners.new ≡ held_in listeners.old)) }
     ensures free { IfNone result (IsFree (held_in listeners.old) number) }
-    ensures shares { shares_in (crowd (transmitter_of conductor.new) listeners.new)
-        ≡ shares_in (crowd (transmitter_of conductor.old) listeners.old) }
+    ensures shares { shares_in (by_number (transmitter_of conductor.new) listeners.new)
+        ≡ shares_in (by_number (transmitter_of conductor.old) listeners.old) }
     ensures others { KeepsTheRest conductor.old conductor.new }
 {
     let listener = listeners.take(number)?;
@@ -72,8 +72,8 @@ impl CommandService {
         ensures refused { IfOk result (λ made.
             IsSubscribedUnless (subscribe_refusal_of (shares_of (transmitter_of self.old.conductor))) made) }
         ensures made { IfOk result (λ made. IfOk made (λ number. Subscribes
-            (crowd (transmitter_of self.old.conductor) self.old.listeners) number
-            (crowd (transmitter_of self.new.conductor) self.new.listeners))) }
+            (by_number (transmitter_of self.old.conductor) self.old.listeners) number
+            (by_number (transmitter_of self.new.conductor) self.new.listeners))) }
         ensures same { IfOk result (λ made. OnErr made ((self.new.conductor ≡ self.old.conductor)
             × (held_in self.new.listeners ≡ held_in self.old.listeners))) }
         ensures others { KeepsTheRest self.old.conductor self.new.conductor }
@@ -97,9 +97,9 @@ impl CommandService {
 
     /// Joins the listener of this number, if it is here.
     fn dismiss(&mut self, number: usize) -> Option<()>
-        ensures left { OnSome result (LeavesCrowd
-            (crowd (transmitter_of self.old.conductor) self.old.listeners) number
-            (crowd (transmitter_of self.new.conductor) self.new.listeners)) }
+        ensures left { OnSome result (LeavesAt
+            (by_number (transmitter_of self.old.conductor) self.old.listeners) number
+            (by_number (transmitter_of self.new.conductor) self.new.listeners)) }
         ensures same { IfNone result (held_in self.new.listeners ≡ held_in self.old.listeners) }
         ensures free { IfNone result (IsFree (held_in self.old.listeners) number) }
         ensures others { KeepsTheRest self.old.conductor self.new.conductor }

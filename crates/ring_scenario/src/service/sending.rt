@@ -1,6 +1,6 @@
 //! Commands go into the ring.
 ghost use Rattle.std.specs.Prelude.{◌≡◌, ◌↔◌, length, IfErr, IfNone, IfOk, IfSome, IsSome, OnOk};
-ghost use Rattle.ring_loose.specs.Claims.{RefusesAfter, WritesAfter};
+ghost use Rattle.ring_standalone.specs.Claims.{RefusesAfter, WritesAfter};
 ghost use Rattle.ring_rings.specs.Seats.{capacity_of, view_of, IsProducerOf, OpensNone};
 ghost use Rattle.ring_scenario.specs.Instructions.{FitsRoom};
 ghost use Rattle.ring_scenario.specs.Keeping.{KeepsButProducer};

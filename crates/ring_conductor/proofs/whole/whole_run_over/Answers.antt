@@ -12,7 +12,8 @@ use Rattle.ring_board.specs.declared.board.Transmitter.{Transmitter}
 use Rattle.ring_board.specs.declared.shared.view.View.{View as BoardView}
 use Rattle.ring_board.specs.Closing.{closed_words, IsClosed}
 use Rattle.ring_board.specs.Runs.{AreAllRuns}
-use Rattle.ring_board.specs.Seats.{capacity_of as board_capacity_of, receiver_seat, receiver_view, shares_of as board_shares_of, transmitted, view_of as transmitter_view}
+use Rattle.ring_board.specs.Board.{transmitted}
+use Rattle.ring_board.specs.Seats.{capacity_of as board_capacity_of, receiver_seat, receiver_view, shares_of as board_shares_of, view_of as transmitter_view}
 use Rattle.ring_board.specs.Views.{as_joined, fewer, newcomer}
 use Rattle.ring_counters.specs.declared.manager.CountersManager.{CountersManager}
 use Rattle.ring_counters.specs.Manager.{registry_of, writes_of}
@@ -22,7 +23,7 @@ use Rattle.ring_conductor.specs.declared.whole.WholeRun.{WholeRun}
 use Rattle.ring_conductor.specs.Account.{fresh_account}
 use Rattle.ring_conductor.specs.Asking.{IsHeard, client_seat, client_view}
 use Rattle.ring_conductor.specs.Conducting.{KeepsTheRest, consumer_of, ledger_of, manager_in, received_of, transmitter_of}
-use Rattle.ring_rings.specs.Ring.{sent, IsWhole}
+use Rattle.ring_rings.specs.Ring.{sent as sent_by, IsWhole}
 use Rattle.ring_conductor.specs.Finishing.{joined_by, replies_of}
 use Rattle.ring_conductor.specs.Whole.{Concludes, opening_ledger, settled_message}
 use Rattle.ring_conductor.proofs.AccountLemmas.{account_as, account_in, work_shares}
@@ -155,8 +156,8 @@ returns g c =
           (subst (λ n. AreOrdered (capacity_of ring) n cs) c.in-Ok.ensures.ring.1 e.headline.ordered));
       received = ap messages_of received_now ∙ taken;
       counted = e.hands_on.received ∙ sym (ap length received_now);
-      whole = subst (λ (x : Producer). IsWhole (sent x) (messages_of (received_of f.conductor.value)) f.rest)
-          (sym named_p) (subst (λ (x : Conductor). IsWhole (sent p) (messages_of (received_of x)) f.rest)
+      whole = subst (λ (x : Producer). IsWhole (sent_by x) (messages_of (received_of f.conductor.value)) f.rest)
+          (sym named_p) (subst (λ (x : Conductor). IsWhole (sent_by p) (messages_of (received_of x)) f.rest)
           (sym named_c) e.headline.whole);
       folded = two_folds (ledger_of begun.conductor) (ledger_of halfway.conductor) (ledger_of resumed.conductor)
           (ledger_of worked.conductor) (fresh_account 4 50) c.args.early c.args.late (messages_of early.messages)

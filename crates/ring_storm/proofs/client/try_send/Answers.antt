@@ -9,8 +9,8 @@ returns-clause-seat g c =
     let e = c.send_as.ensures in
     let left = leaves _ _ _ _ _ c.send_as.result e.sent e.refused in (
       e.producer,
-      e.holdings.holdings.shares ∙ c.requires.1,
-      e.holdings.open_claims ∙ c.requires.2,
+      e.keeps.holdings.shares ∙ c.requires.1,
+      e.keeps.open_claims ∙ c.requires.2,
       left.risen c.requires.3,
       left.joined ∙ c.requires.4,
     )

@@ -2,7 +2,7 @@ use Rattle.std.proofs.Common.{◌≡◌, refl, subst, arith}
 use Rattle.ring_board.specs.Seats.{receiver_view}
 use Rattle.ring_board.specs.Views.{as_joined}
 use Rattle.ring_conductor.specs.Asking.{producer_of, receiver_of, service_of}
-use Rattle.ring_storm.specs.Storming.{deeds_of}
+use Rattle.ring_storm.specs.Storming.{history_of}
 use Rattle.ring_storm.specs.Turns.{AreAnswered}
 use Rattle.ring_storm.proofs.TurnLemmas.{all_turns}
 use Rattle.ring_storm.proofs.levels.gather.Goals as goal
@@ -18,7 +18,7 @@ returns-clause-end g c =
     let counted = e.seen in
     let few = worked.seen in
     record {
-      hub = e.hub;
+      endpoints = e.endpoints;
       sent = omega (arith, before.sent, seats.sent, worked.sent.0);
       seen = omega (arith, before.seen, counted, few);
       done = λ none.
@@ -26,10 +26,10 @@ returns-clause-end g c =
           let same = c.from.ensures in
           let enough = c.if-replies-from.false in
           let all : client.seen ≡ commands = omega (arith, same, enough, counted, few) in
-          let answered = subst (λ i. AreAnswered i client.seen (deeds_of client)) worked.index worked.answered in (
+          let answered = subst (λ i. AreAnswered i client.seen (history_of client)) worked.index worked.answered in (
             omega (arith, done.0, seats.taken),
             omega (arith, done.1, counted, all),
-            all_turns commands c.args.index client.seen (deeds_of client) _ _ _ _
+            all_turns commands c.args.index client.seen (history_of client) _ _ _ _
                 (as_joined (receiver_view (receiver_of client.client))) _ _ (service_of (producer_of client.client))
                 done.2
                 (record {

@@ -2,9 +2,9 @@ use Rattle.ring_storm.proofs.storms.run.Goals as goal
 
 pub returns : goal.returns
 returns g c =
-    let threads = c.run_threads-hub.ensures in
+    let threads = c.run_threads-endpoints.ensures in
     record {
-      hub = c.run_threads-hub.result.hub;
+      endpoints = c.run_threads-endpoints.result.endpoints;
       end = threads.end;
       all = threads.whole;
       headline = c.in-Ok.ensures.headline;

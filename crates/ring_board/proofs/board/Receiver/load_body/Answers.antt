@@ -3,6 +3,7 @@ use Rattle.std.proofs.lemmas.List.{length-take-le}
 use Rattle.std.proofs.Math.Seq.{take-append_seam}
 use Rattle.ring_board.specs.Bodies.{GaveBody}
 use Rattle.ring_board.specs.Views.{Sat}
+use Rattle.ring_board.proofs.BodyLemmas.{loaded_now}
 use Rattle.ring_board.proofs.RawLemmas.{answered_same}
 use Rattle.ring_board.proofs.board.Receiver.load_body.Goals as goal
 
@@ -13,6 +14,9 @@ returns-clause-gave c =
     c.load_answered.auto.out ∙ length-take-le c.args.raw.now.len c.args.out.now c.requires.room in
     subst (λ (body : List ℕ). GaveBody c.args.raw.now.place body c.args.self.now.seat.me c.load_answered.new.seat.me)
     (sym (ap (λ (n : ℕ). take n (new ++ rest)) (sym same) ∙ take-append_seam new rest)) c.load_answered.ensures.gave
+
+pub returns-clause-loaded : goal.returns-clause-loaded
+returns-clause-loaded c = loaded_now _ _ _ _ (returns-clause-gave c)
 
 pub returns-clause-kept : goal.returns-clause-kept
 returns-clause-kept c = let new = c.load_answered.ensures.gave.1 in λ r h. answered_same _ _ r

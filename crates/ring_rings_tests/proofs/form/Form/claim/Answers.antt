@@ -9,9 +9,9 @@ invariant_of-self-in-Ok g c =
       record {
         producer = made.producer;
         first = c.in-Ok.ensures.opened.is_open;
-        second = IfSome_then c.self-3.inside.second was.0.second made.holdings.claims;
+        second = IfSome_then c.self-3.inside.second was.0.second made.keeps.claims;
       },
-      (λ one. made.holdings.shares ∙ was.1 one),
+      (λ one. made.keeps.shares ∙ was.1 one),
       was.2,
       was.3,
     )

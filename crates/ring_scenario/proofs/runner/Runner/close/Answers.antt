@@ -6,6 +6,6 @@ use Rattle.ring_scenario.proofs.runner.Runner.close.Goals as goal
 pub returns-clause-left : goal.returns-clause-left
 returns-clause-left c =
     let e = c.close.ensures in
-    subst (LeavesMessages c.args.self.loose) (sym c.from.ensures)
+    subst (LeavesMessages c.args.self.ring) (sym c.from.ensures)
     (takes_all_but _ _ _ _ _ e.rest e.settled c.drain-left.result
     (λ h has closed. (c.drain-left.ensures.whole h has closed).0))

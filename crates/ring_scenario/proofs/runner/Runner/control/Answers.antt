@@ -12,7 +12,7 @@ returns-clause-line c =
     (λ text shown. record {
       end = call.result;
       printed = printed_by call.new.handler;
-      controls = subst (λ (s : Printed). Controls Prints c.args.limit c.args.self.now.loose.consumer
+      controls = subst (λ (s : Printed). Controls Prints c.args.limit c.args.self.now.ring.consumer
           call.new.self.consumer s (printed_by call.new.handler) call.result) c.new-printer.ensures
           (printed_controls _ _ _ _ _ _ call.ensures.controls shown.0);
       ends = call.ensures.ends;

@@ -12,7 +12,7 @@ returns-clause-line c =
     (λ text shown. record {
       end = call.result;
       printed = printed_by call.new.handler;
-      reads = subst (λ (s : Printed). Reads Prints c.args.limit c.args.self.now.loose.consumer
+      reads = subst (λ (s : Printed). Reads Prints c.args.limit c.args.self.now.ring.consumer
           call.new.self.consumer s (printed_by call.new.handler) call.result.messages) c.new-printer.ensures
           (printed_reads _ _ _ _ _ _ call.ensures.reads shown.0);
       stopped = call.ensures.stopped;

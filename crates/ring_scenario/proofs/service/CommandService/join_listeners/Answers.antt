@@ -1,8 +1,8 @@
 use Rattle.std.proofs.Common.{◌∙◌, ◌+◌, ◌<◌, ℕ, length, arith}
 use Rattle.ring_conductor.specs.Conducting.{transmitter_of}
-use Rattle.ring_loose.specs.Receivers.{LeavesCrowd, crowd}
-use Rattle.ring_loose.specs.Held.{held_in}
-use Rattle.ring_loose.proofs.HeldLemmas.{all_back, given_up}
+use Rattle.ring_standalone.specs.Receivers.{LeavesAt, by_number}
+use Rattle.ring_standalone.specs.Held.{held_in}
+use Rattle.ring_standalone.proofs.HeldLemmas.{all_back, given_up}
 use Rattle.ring_scenario.proofs.service.CommandService.join_listeners.Goals as goal
 
 pub loop-index-preserved : goal.loop-index-preserved
@@ -13,8 +13,8 @@ loop-index-preserved c =
     let i : ℕ = c.loop-index.index in
     let inside : i < length xs = omega (arith, was.0, c.loop-index-test.true) in
     let step = given_up c.dismiss.result xs ys i
-    (LeavesCrowd (crowd (transmitter_of c.loop-index.self.conductor) c.loop-index.self.listeners) (i + 1)
-    (crowd (transmitter_of c.dismiss.new.self.conductor) c.dismiss.new.self.listeners))
+    (LeavesAt (by_number (transmitter_of c.loop-index.self.conductor) c.loop-index.self.listeners) (i + 1)
+    (by_number (transmitter_of c.dismiss.new.self.conductor) c.dismiss.new.self.listeners))
     c.dismiss.ensures.same c.dismiss.ensures.left (λ left. left.goes.given_up) c.dismiss.ensures.free (inside, was.1)
     in (
       step.0 ∙ was.0,

@@ -1,11 +1,11 @@
 use Rattle.std.proofs.Common.{subst}
 use Rattle.ring_board.specs.Seats.{IsReceiverOf}
-use Rattle.ring_loose.specs.Held.{Comes, held_in}
-use Rattle.ring_loose.proofs.HeldLemmas.{of_comes}
+use Rattle.ring_standalone.specs.Held.{Comes, held_in}
+use Rattle.ring_standalone.proofs.HeldLemmas.{of_comes}
 use Rattle.ring_scenario.proofs.service.listening.make_listener.Goals as goal
 
-pub returns-clause-crowd : goal.returns-clause-crowd
-returns-clause-crowd c =
+pub returns-clause-numbered : goal.returns-clause-numbered
+returns-clause-numbered c =
     let comes = subst (λ l. Comes c.in-Ok.listener l c.hold.result (held_in c.hold.new.self)) c.reserve.ensures.same
     c.hold.ensures in
     record {

@@ -1,6 +1,6 @@
 use Rattle.std.proofs.Common.{◌≡◌, ◌∙◌, ◌<◌, not, length, refl, sym, ap, arith}
-use Rattle.ring_storm.specs.Storming.{SentAtMost, deeds_of}
-use Rattle.ring_storm.proofs.TurnLemmas.{next_turn, no_turn, of_some, same_deeds, turns_as}
+use Rattle.ring_storm.specs.Storming.{SentAtMost, history_of}
+use Rattle.ring_storm.proofs.TurnLemmas.{next_turn, no_turn, of_some, same_history, turns_as}
 use Rattle.ring_storm.proofs.shared.Shared.run_client.Given.{Over}
 use Rattle.ring_storm.proofs.shared.Shared.run_client.Goals.{After-is_none}
 use Rattle.ring_storm.proofs.shared.Shared.run_client.Goals as goal
@@ -16,7 +16,7 @@ loop-number-init g c =
       drawn = omega (arith, drawn);
       seen = omega (arith, new.1);
       index = refl;
-      turns = no_turn client.index client.seen (deeds_of client) new.1 new.0 new.2 new.3;
+      turns = no_turn client.index client.seen (history_of client) new.1 new.0 new.2 new.3;
       within = omega arith;
     }
 
@@ -61,10 +61,10 @@ returns-else-is_none-clause-worked g c =
       index = is.2;
       answered =
           record {
-            before = deeds_of c.command.new.client;
+            before = history_of c.command.new.client;
             turns = next_turn _ _ _ _ _ _ _ e.same.0 e.same.1 (sym was.seen)
                 (of_some c.command.result _ (c.is_none.ensures ∙ ap not c.if-is_none.false) e.turn) was.turns;
-            more = same_deeds _;
+            more = same_history _;
           };
     }
 
@@ -78,7 +78,7 @@ returns-then-is_none-clause-worked g c =
       index = is.2;
       answered =
           record {
-            before = deeds_of c.loop-number.client;
+            before = history_of c.loop-number.client;
             turns = turns_as _ _ _ _ _ e.same.0 e.same.1 c.loop-number.invariant.turns;
             more = e.grows;
           };

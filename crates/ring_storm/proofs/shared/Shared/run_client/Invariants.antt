@@ -1,6 +1,6 @@
 use Rattle.std.proofs.Common.{◌≡◌, ◌+◌, ◌<◌, ◌≤◌, length}
 use Rattle.ring_conductor.specs.Asking.{producer_of}
-use Rattle.ring_storm.specs.Storming.{IsClientOf, deeds_of, sent_by}
+use Rattle.ring_storm.specs.Storming.{IsClientOf, history_of, sent_by}
 use Rattle.ring_storm.specs.Turns.{AreTurns, draws_by}
 use Rattle.ring_storm.proofs.shared.Shared.run_client.Given as goal
 
@@ -11,6 +11,6 @@ invariant-loop-number g l = record {
   drawn : length (draws_by l.client.client) < l.number;
   seen : l.client.seen + 1 ≡ l.number;
   index : l.client.index ≡ l.fn.client.index;
-  turns : AreTurns l.client.index l.client.seen (deeds_of l.client);
+  turns : AreTurns l.client.index l.client.seen (history_of l.client);
   within : l.number ≤ l.self.plan.commands + 1;
 }

@@ -1,5 +1,0 @@
-pub mod HeldLemmas
-mod ClaimsLemmas
-pub mod TryLemmas
-mod LooseLemmas
-mod LeavingLemmas

@@ -1,4 +1,0 @@
-pub mod Claims
-pub mod Held
-pub mod Loose
-pub mod Receivers

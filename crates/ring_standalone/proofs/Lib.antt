@@ -1,0 +1,5 @@
+pub mod HeldLemmas
+mod ClaimsLemmas
+pub mod TryLemmas
+mod StandaloneLemmas
+mod LeavingLemmas

@@ -1,0 +1,70 @@
+//! What is held by number.
+ghost use Rattle.std.specs.Prelude.{◌≡◌, ◌-◌, [], IfNone, IfSome, OnOk, Some, length, slice_set};
+
+use std::alloc::{AllocError, Global};
+
+/// Things that are held by number. Numbers count from 1 and are drawn in turn; none is given twice.
+#[derive(Drop)]
+pub struct Numbered<T> {
+    /// What is held under each number, less 1.
+    held: Vec<Option<T>>,
+}
+
+impl<T> Numbered<T> {
+    ghost use Rattle.ring_standalone.specs.Held.{Comes, Goes, HasRoomToHold, IsFree, held_in};
+
+    /// Nothing is held, and no number was drawn.
+    pub fn new(alloc: Global) -> Self
+        ensures { held_in result ≡ [] }
+    {
+        Numbered {
+            held: Vec::new(alloc),
+        }
+    }
+
+    /// The number of numbers that were drawn, which is the last one.
+    pub fn drawn(&self) -> usize
+        ensures { result ≡ length (held_in self.now) }
+    {
+        self.held.len()
+    }
+
+    /// Makes room for one more. Everything that is held stays, also if memory runs out.
+    pub fn reserve(&mut self) -> Result<(), AllocError>
+        ensures room { OnOk result (HasRoomToHold self.new) }
+        ensures same { held_in self.new ≡ held_in self.old }
+    {
+        self.held.reserve(1)
+    }
+
+    /// Holds one more, for which room was made, under the next number, and returns the number.
+    pub fn hold(&mut self, x: T) -> usize
+        requires { HasRoomToHold self.old }
+        ensures { Comes x (held_in self.old) result (held_in self.new) }
+    {
+        self.held.push_reserved(Some(x));
+        self.drawn()
+    }
+
+    /// Takes what is held under this number. Returns `None` if nothing is; nothing has changed then.
+    pub fn take(&mut self, number: usize) -> Option<T>
+        ensures taken { IfSome result (λ x. Goes x (held_in self.old) number (held_in self.new)) }
+        ensures same { IfNone result (held_in self.new ≡ held_in self.old) }
+        ensures free { IfNone result (IsFree (held_in self.old) number) }
+    {
+        let index = number.checked_sub(1)?;
+        self.held.get_mut(index)?.take()
+    }
+}
+
+impl<T: Drop> Numbered<T> {
+    ghost use Rattle.ring_standalone.specs.Held.{IsVacant, held_in};
+
+    /// Holds this under a number again, from which it was taken.
+    pub fn put_back(&mut self, number: usize, x: T)
+        requires { IsVacant (held_in self.old) number }
+        ensures { held_in self.new ≡ slice_set (held_in self.old) (number - 1) (Some x) }
+    {
+        self.held[number - 1] = Some(x);
+    }
+}
