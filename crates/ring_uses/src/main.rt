@@ -4,10 +4,12 @@
 mod claims;
 mod closing;
 mod numbers;
+mod producers;
 mod sum;
 
 use claims::abort_first;
 use numbers::Summed;
+use producers::gather;
 use std::io;
 use sum::add_up;
 
@@ -19,6 +21,7 @@ fn print_sum(rt: &impl Print, what: &str, summed: &Summed) -> io::Result<()> {
 
 fn main(rt: HostRuntime) -> anyhow::Result<()> {
     print_sum(&rt, "two threads", &add_up(&rt, rt.alloc(), 1_000)?)?;
+    print_sum(&rt, "four producers", &gather(&rt, rt.alloc(), 250)?)?;
     print_sum(&rt, "one claim of two", &abort_first(rt.alloc(), 5, 7)?)?;
     Ok(())
 }
