@@ -1,0 +1,95 @@
+-- The message of a claim.
+use Rattle.std.proofs.Common.{◌≡◌, ◌∙◌, ◌+◌, ◌<◌, ℕ, ℤ, zero, suc, Bool, List, [], ◌∷◌, ◌++◌, length, replicate, refl, sym, ap, subst, arith}
+use mathlib.Core.Option.{some, some-injective, some-ne-none}
+use lib.ListN.{get_elem?}
+use Rattle.std.proofs.lemmas.List.{append-nil, drop_all, length-replicate}
+use Rattle.ring_layout.specs.declared.message.Message.{Message}
+use Rattle.ring_layout.specs.History.{overwritten}
+use Rattle.ring_words.specs.Open.{ClaimAt}
+use Rattle.ring_table.specs.declared.claim.StagedClaim.{StagedClaim}
+use Rattle.ring_table.specs.declared.view.View.{View}
+use Rattle.ring_table.specs.Changes.{changed}
+use Rattle.ring_table.specs.Staged.{AreAbove, AreRising}
+use Rattle.ring_table.proofs.HistoryLemmas.{changed_at_place}
+use Rattle.ring_rings.specs.declared.ring.Producer.{Producer}
+use Rattle.ring_rings.specs.Bodies.{put_at, PutsBytes}
+use Rattle.ring_rings.specs.Claiming.{Claims, claim_behind}
+use Rattle.ring_rings.specs.Ring.{message, sent, SendsClaimed}
+use Rattle.ring_rings.specs.Seats.{claims_of, view_of}
+use Rattle.ring_uses.specs.Claims.{HasMessage}
+
+-- two claims at one place are one, if places rise
+above_at : (q : ℕ) (cs : List StagedClaim) (k : ℕ) (c : StagedClaim) → AreAbove q cs → get_elem? cs k ≡ some c
+    → q < c.place
+above_at q [] k c above e = absurd (some-ne-none c (sym e))
+above_at q (d ∷ ds) zero c above e = subst (λ (z : StagedClaim). q < z.place) (some-injective d c e) above.0
+above_at q (d ∷ ds) (suc k) c above e = above_at q ds k c above.1 e
+
+one_at : (cs : List StagedClaim) (k j : ℕ) (c d : StagedClaim) → AreRising cs → get_elem? cs k ≡ some c
+    → get_elem? cs j ≡ some d → c.place ≡ d.place → c ≡ d
+one_at [] k j c d rising at at' same = absurd (some-ne-none c (sym at))
+one_at (e ∷ es) zero zero c d rising at at' same = sym (some-injective e c at) ∙ some-injective e d at'
+one_at (e ∷ es) zero (suc j) c d rising at at' same =
+    let lt = above_at e.place es j d rising.0 at' in
+    let here : e.place ≡ c.place = ap (λ (z : StagedClaim). z.place) (some-injective e c at) in
+    absurd (omega arith)
+one_at (e ∷ es) (suc k) zero c d rising at at' same =
+    let lt = above_at e.place es k c rising.0 at in
+    let here : e.place ≡ d.place = ap (λ (z : StagedClaim). z.place) (some-injective e d at') in
+    absurd (omega arith)
+one_at (e ∷ es) (suc k) (suc j) c d rising at at' same = one_at es k j c d rising.1 at at' same
+
+-- what a claim that is committed sends is the message that it has
+pub commit_sends : (old new : Producer) (t : ClaimAt) (m : Message) → AreRising (claims_of old) → HasMessage old t m
+    → SendsClaimed t.place old new → sent old ≡ [] → sent new ≡ m ∷ []
+commit_sends old new t m rising has sends none = by sends.before sends.after (sym sends.was ∙ none) sends.is
+  where
+    same : sends.message ≡ m
+    same =
+        let one = one_at (claims_of old) sends.claimed.nth has.nth sends.claimed.claim has.claim rising
+        sends.claimed.there has.there (sends.claimed.at_place ∙ sym has.at_place) in
+        sym sends.claimed.holds ∙ ap (λ (c : StagedClaim). c.message) one ∙ has.holds
+
+    by : (before after : List Message) → before ++ after ≡ [] → sent new ≡ before ++ sends.message ∷ after
+        → sent new ≡ m ∷ []
+    by [] [] none is = is ∙ ap (λ x. x ∷ []) same
+    by [] (x ∷ after) none is = (let l = ap length none in absurd (omega (arith, l)))
+    by (x ∷ before) after none is = (let l = ap length none in absurd (omega (arith, l)))
+
+changed_there : (p : ℕ) (f : StagedClaim → StagedClaim) (cs : List StagedClaim) (k : ℕ) (c : StagedClaim)
+    → get_elem? cs k ≡ some c → c.place ≡ p → get_elem? (changed p f cs) k ≡ some (f c)
+changed_there p f [] k c at there = absurd (some-ne-none c (sym at))
+changed_there p f (d ∷ ds) zero c at there =
+    let is = some-injective d c at in
+    ap some (changed_at_place p f d (ap (λ (z : StagedClaim). z.place) is ∙ there) ∙ ap f is)
+changed_there p f (d ∷ ds) (suc k) c at there = changed_there p f ds k c at there
+
+at_last : (cs : List StagedClaim) (c : StagedClaim) → get_elem? (cs ++ c ∷ []) (length cs) ≡ some c
+at_last [] c = refl
+at_last (d ∷ ds) c = at_last ds c
+
+all_put : (bytes : List ℕ) → overwritten 0 bytes (replicate (length bytes) 0) ≡ bytes
+all_put bytes =
+    let n = length bytes in
+    ap (λ l. bytes ++ l) (drop_all (0 + n) (replicate n 0) (let l : length (replicate {A = ℕ} n 0) ≡ n = length-replicate n 0 in omega (arith, l))) ∙ append-nil bytes
+
+-- a claim of as many bytes as are put into it has them
+pub puts_message : (many : Bool) (C : ℕ) (type_id : ℤ) (bytes : List ℕ) (old between new : Producer) (t : ClaimAt)
+    → Claims many C type_id (length bytes) (view_of old) t (view_of between)
+    → PutsBytes t.place 0 bytes (view_of between) (view_of new) → HasMessage new t (message type_id bytes)
+puts_message many C type_id bytes old between new t claims puts =
+    let c = claim_behind C claims.tail type_id (length bytes) in
+    let cs = claims_of old in
+    let f = put_at 0 bytes in
+    let claimed = ap (λ (v : View). v.producer.claims) claims.view in
+    let now = ap (λ (v : View). v.producer.claims) puts.view in
+    let place = ap (λ (z : ClaimAt). z.place) claims.claim in
+    let was = subst (λ l. get_elem? l (length cs) ≡ some c) (sym claimed) (at_last cs c) in
+    record {
+      nth = length cs;
+      claim = f c;
+      there = subst (λ l. get_elem? l (length cs) ≡ some (f c)) (sym now)
+          (changed_there t.place f (claims_of between) (length cs) c was (sym place));
+      at_place = sym place;
+      holds = ap (message type_id) (all_put bytes);
+    }

@@ -1,0 +1,15 @@
+use Rattle.std.proofs.Common.{◌∙◌, ap, w32}
+use Rattle.std.proofs.lemmas.Int.{to_z-of_z}
+use Rattle.ring_uses.specs.Numbers.{numbers}
+use Rattle.ring_uses.proofs.producers.write_numbers.Goals as goal
+
+pub returns-in-Err : goal.returns-in-Err
+returns-in-Err g c = record {
+  producer = c.in-Err.ensures.producer;
+  sent = (
+    c.loop.written,
+    c.loop.invariant.1,
+    c.in-Err.ensures.sent.1 ∙ c.loop.invariant.2
+        ∙ ap (λ t. numbers t c.loop.written) (to_z-of_z w32 c.args.type_id c.ranges.type_id),
+  );
+}

@@ -1,0 +1,27 @@
+//! Five small uses of rings, each with a contract that says what became of the data.
+#![tactic(auto)]
+
+mod claims;
+mod closing;
+mod numbers;
+mod producers;
+mod sum;
+
+use claims::abort_first;
+use numbers::Summed;
+use producers::gather;
+use std::io;
+use sum::add_up;
+
+/// Prints a sum, and the bytes that are left in the ring.
+fn print_sum(rt: &impl Print, what: &str, summed: &Summed) -> io::Result<()> {
+    let left = summed.rest.positions().used();
+    println!(rt; "{what}: sum {} left {left}", summed.sum)
+}
+
+fn main(rt: HostRuntime) -> anyhow::Result<()> {
+    print_sum(&rt, "two threads", &add_up(&rt, rt.alloc(), 1_000)?)?;
+    print_sum(&rt, "four producers", &gather(&rt, rt.alloc(), 250)?)?;
+    print_sum(&rt, "one claim of two", &abort_first(rt.alloc(), 5, 7)?)?;
+    Ok(())
+}

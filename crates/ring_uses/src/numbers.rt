@@ -1,0 +1,69 @@
+//! A consumer that reads numbers and adds them up.
+ghost use Rattle.std.specs.Prelude.{◌≡◌, ◌≤◌, [], length};
+ghost use Rattle.ring_rings.specs.Ring.{received};
+ghost use Rattle.ring_rings.specs.Seats.{IsConsumerOf};
+ghost use Rattle.ring_uses.specs.Numbers.{sum_of, Adds};
+
+use crossbeam_utils::Backoff;
+use ring_rings::{Action, Consumer, Handler, PlainRing};
+use ring_words::SoloRing;
+use std::sync::Wait;
+
+/// Adds up the numbers that it is shown.
+#[derive(Drop)]
+pub struct Sum {
+    pub sum: u64,
+}
+
+/// A sum, and the ring as it was closed.
+#[derive(Drop)]
+pub struct Summed {
+    pub sum: u64,
+    pub rest: SoloRing,
+}
+
+impl Handler for Sum {
+    // Each handler says which step it takes from one state to the next.
+    ghost step = { Adds };
+
+    fn on_message(&mut self, _type_id: i32, body: &[u8]) -> Action {
+        let sum = self.sum;
+        if let Some(bytes) = body.first_chunk() {
+            self.sum = sum.wrapping_add(u64::from_le_bytes(*bytes));
+        }
+        Action::Continue
+    }
+}
+
+/// Reads until this many messages have come.
+pub fn read_numbers<K, R: Wait>(
+    rt: &R,
+    ring: &PlainRing<K>,
+    mut consumer: Consumer,
+    messages: u64,
+) -> (Consumer, Sum)
+    requires consumer { IsConsumerOf ring.now consumer }
+    requires new { received consumer ≡ [] }
+    ensures consumer { IsConsumerOf ring.now result.0 }
+    ensures all { messages ≤ length (received result.0) }
+    ensures sum { result.1.sum ≡ sum_of (received result.0) }
+{
+    let backoff = Backoff::new();
+    let mut sum = Sum { sum: 0 };
+    let mut count: u64 = 0;
+    for _ in rt.forever() {
+        if count >= messages {
+            return (consumer, sum);
+        }
+        let end = ring.read(&mut consumer, u32::MAX, &mut sum);
+        count = count.saturating_add(u64::from(end.messages));
+        // No bytes: nothing was settled at the head. A read that only comes to the end of the buffer moves the head
+        // too.
+        if end.bytes == 0 {
+            backoff.snooze();
+        } else {
+            backoff.reset();
+        }
+    }
+    unreachable!()
+}
