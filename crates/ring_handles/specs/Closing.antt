@@ -1,9 +1,9 @@
 -- How a conductor ends.
 use Rattle.std.specs.Prelude.{◌≡◌, ℕ, ℤ, pos, List, ◌++◌, length, MatchOption, None}
 use Rattle.ring_layout.specs.declared.message.Message.{Message}
-use Rattle.ring_table.specs.Passing.{placed_committed_of}
 use Rattle.ring_rings.specs.Closing.{AreOrdered}
 use Rattle.ring_rings.specs.Reading.{messages_of}
+use Rattle.ring_rings.specs.Ring.{sent}
 use Rattle.ring_rings.specs.Seats.{capacity_of, claims_of, start_of}
 use Rattle.ring_board.specs.Runs.{AreAllRuns}
 use Rattle.ring_conductor.specs.Conducting.{manager_in, received_of}
@@ -21,7 +21,7 @@ pub record TellsEnd (c : ConductorSide) (received left : ℕ) : Type 0 where
   pub received_is : received ≡ length (received_of c.conductor)
   pub rest : List Message
   pub left_is : left ≡ length rest
-  pub whole : messages_of (received_of c.conductor) ++ rest ≡ messages_of (placed_committed_of (claims_of c.producer))
+  pub whole : messages_of (received_of c.conductor) ++ rest ≡ sent c.producer
   pub folded : ∥ IsFoldOfReceived c.conductor (manager_in c.conductor) ∥₁
   pub runs : AreAllRuns (replies_of c.conductor) (joined_by c.conductor)
 
