@@ -5,7 +5,6 @@ use Rattle.ring_layout.specs.declared.message.Message.{Message}
 use Rattle.ring_layout.specs.Handles.{Handles}
 use Rattle.ring_layout.specs.History.{committed_of}
 use Rattle.ring_words.specs.declared.read.action.Action.{Action}
-use Rattle.ring_words.specs.declared.read.action.Action.TheVariants.{Abort}
 use Rattle.ring_words.specs.Ring.{Ring as ClosedRing, Has}
 use Rattle.ring_table.specs.declared.view.View.{View}
 use Rattle.ring_table.specs.Passing.{placed_committed_of}
@@ -26,8 +25,7 @@ sent_in v = messages_of (placed_committed_of v.producer.claims)
 abbrev pub received_in : View → List Message
 received_in v = messages_of v.consumer.taken
 
--- The messages that a producer sent: those that it committed, in the order of their claims, which is the order in which
--- the tail was moved
+-- the messages that a producer committed, in the order of their claims, which is that of the moves of the tail
 abbrev pub sent : Producer → List Message
 sent p = sent_in (view_of p)
 
@@ -45,10 +43,14 @@ pub record IsWhole (sent received : List Message) (rest : ClosedRing) : Type 0 w
   pub left : IsUnread rest unread
   pub all : received ++ unread ≡ sent
 
+-- the producer's claim at this place has this message
+abbrev pub HasMessage : Producer → ℕ → Message → Type 0
+HasMessage p place m = HasClaimAt (view_of p) place (λ c. c.message ≡ m)
+
 -- the message of the claim at this place was sent: after those of earlier claims, before those of later ones
 pub record SendsClaimed (place : ℕ) (old new : Producer) : Type 0 where
   pub message : Message
-  pub claimed : HasClaimAt (view_of old) place (λ c. c.message ≡ message)
+  pub claimed : HasMessage old place message
   pub before : List Message
   pub after : List Message
   pub was : sent old ≡ before ++ after
@@ -75,4 +77,4 @@ pub record Leaves {S : Type 0} (step : S → Message → S → Action → Type 0
   pub between : S
   pub message : Message
   pub receives : Receives step old new s between count
-  pub aborted : step between message t Abort
+  pub aborted : step between message t Action.Abort

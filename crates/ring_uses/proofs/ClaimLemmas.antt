@@ -14,9 +14,8 @@ use Rattle.ring_table.proofs.HistoryLemmas.{changed_at_place}
 use Rattle.ring_rings.specs.declared.ring.Producer.{Producer}
 use Rattle.ring_rings.specs.Bodies.{put_at, PutsBytes}
 use Rattle.ring_rings.specs.Claiming.{Claims, claim_behind}
-use Rattle.ring_rings.specs.Ring.{message, sent, SendsClaimed}
+use Rattle.ring_rings.specs.Ring.{message, sent, SendsClaimed, HasMessage}
 use Rattle.ring_rings.specs.Seats.{claims_of, view_of}
-use Rattle.ring_uses.specs.Claims.{HasMessage}
 
 -- two claims at one place are one, if places rise
 above_at : (q : ℕ) (cs : List StagedClaim) (k : ℕ) (c : StagedClaim) → AreAbove q cs → get_elem? cs k ≡ some c
@@ -40,7 +39,7 @@ one_at (e ∷ es) (suc k) zero c d rising at at' same =
 one_at (e ∷ es) (suc k) (suc j) c d rising at at' same = one_at es k j c d rising.1 at at' same
 
 -- what a claim that is committed sends is the message that it has
-pub commit_sends : (old new : Producer) (t : ClaimAt) (m : Message) → AreRising (claims_of old) → HasMessage old t m
+pub commit_sends : (old new : Producer) (t : ClaimAt) (m : Message) → AreRising (claims_of old) → HasMessage old t.place m
     → SendsClaimed t.place old new → sent old ≡ [] → sent new ≡ m ∷ []
 commit_sends old new t m rising has sends none = by sends.before sends.after (sym sends.was ∙ none) sends.is
   where
@@ -76,7 +75,7 @@ all_put bytes =
 -- a claim of as many bytes as are put into it has them
 pub puts_message : (many : Bool) (C : ℕ) (type_id : ℤ) (bytes : List ℕ) (old between new : Producer) (t : ClaimAt)
     → Claims many C type_id (length bytes) (view_of old) t (view_of between)
-    → PutsBytes t.place 0 bytes (view_of between) (view_of new) → HasMessage new t (message type_id bytes)
+    → PutsBytes t.place 0 bytes (view_of between) (view_of new) → HasMessage new t.place (message type_id bytes)
 puts_message many C type_id bytes old between new t claims puts =
     let c = claim_behind C claims.tail type_id (length bytes) in
     let cs = claims_of old in

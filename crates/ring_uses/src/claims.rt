@@ -1,9 +1,9 @@
 //! A claim that is aborted, and one that is committed.
 ghost use Rattle.std.specs.Prelude.{◌≡◌, pos, length, IfOk};
 ghost use Rattle.ring_layout.specs.Refusals.{all_shares};
-ghost use Rattle.ring_rings.specs.Ring.{message, sent};
+ghost use Rattle.ring_rings.specs.Ring.{message, sent, HasMessage};
 ghost use Rattle.ring_rings.specs.Seats.{shares_of, IsOpenClaimOf, IsProducerOf};
-ghost use Rattle.ring_uses.specs.Claims.{HasMessage, IsOnly};
+ghost use Rattle.ring_uses.specs.Claims.{IsOnly};
 
 use crate::closing::close;
 use crate::numbers::{Sum, Summed};
@@ -24,7 +24,7 @@ fn claim_filled(
     ensures producer { IsProducerOf ring.now producer.new × (shares_of producer.new ≡ all_shares) }
     ensures sent { sent producer.new ≡ sent producer.old }
     ensures claim { IfOk result (IsOpenClaimOf ring.now producer.new) }
-    ensures message { IfOk result (λ t. HasMessage producer.new t (message (pos 1) body.now)) }
+    ensures message { IfOk result (λ t. HasMessage producer.new t.place (message (pos 1) body.now)) }
 {
     let mut claim = ring.claim(producer, NUMBER, body.len())?;
     match ring.put(producer, &mut claim, 0, body) {
