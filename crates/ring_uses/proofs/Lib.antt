@@ -1,3 +1,4 @@
 pub mod SumLemmas
 pub mod ClaimLemmas
 pub mod MergeLemmas
+pub mod LapLemmas

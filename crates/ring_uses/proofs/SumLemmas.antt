@@ -11,7 +11,7 @@ use Rattle.ring_uses.specs.declared.numbers.Summed.{Summed}
 use Rattle.ring_uses.specs.Numbers.{number_in, numbered, numbers, sum_of, Adds}
 use Rattle.ring_uses.specs.Sum.{IsSummed}
 
-sum_more : (ms : List Message) (m : Message) → (sum_of ms + number_in m) % 2 ^ 64 ≡ sum_of (ms ++ m ∷ [])
+pub sum_more : (ms : List Message) (m : Message) → (sum_of ms + number_in m) % 2 ^ 64 ≡ sum_of (ms ++ m ∷ [])
 sum_more ms m = let all = sum_by-append number_in ms (m ∷ []) in omega (arith, all)
 
 -- a handler that adds up what it is shown has the sum of all that was received

@@ -16,9 +16,12 @@ abbrev pub numbers : ℤ → ℕ → List Message
 numbers type_id zero = []
 numbers type_id (suc n) = numbers type_id n ++ numbered type_id (suc n) ∷ []
 
--- the number in a message: its first eight bytes, the lowest first, or 0 if it has fewer
+-- the number in a body: its first eight bytes, the lowest first, or 0 if it has fewer
+abbrev pub number_of : List ℕ → ℕ
+number_of body = if nat_lt (length body) 8 then 0 else from_le_bytes w64 (take 8 body)
+
 abbrev pub number_in : Message → ℕ
-number_in m = if nat_lt (length m.body) 8 then 0 else from_le_bytes w64 (take 8 m.body)
+number_in m = number_of m.body
 
 -- the sum of the numbers in some messages, as 64 bits have it
 abbrev pub sum_of : List Message → ℕ

@@ -3,11 +3,13 @@
 
 mod claims;
 mod closing;
+mod laps;
 mod numbers;
 mod producers;
 mod sum;
 
 use claims::abort_first;
+use laps::overtake;
 use numbers::Summed;
 use producers::gather;
 use std::io;
@@ -23,5 +25,7 @@ fn main(rt: HostRuntime) -> anyhow::Result<()> {
     print_sum(&rt, "two threads", &add_up(&rt, rt.alloc(), 1_000)?)?;
     print_sum(&rt, "four producers", &gather(&rt, rt.alloc(), 250)?)?;
     print_sum(&rt, "one claim of two", &abort_first(rt.alloc(), 5, 7)?)?;
+    let heard = overtake(rt.alloc(), 1_000)?;
+    println!(rt; "a lapped receiver: sum {} laps {}", heard.sum, heard.laps)?;
     Ok(())
 }

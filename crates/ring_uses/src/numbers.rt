@@ -2,7 +2,7 @@
 ghost use Rattle.std.specs.Prelude.{◌≡◌, ◌≤◌, [], length};
 ghost use Rattle.ring_rings.specs.Ring.{received};
 ghost use Rattle.ring_rings.specs.Seats.{IsConsumerOf};
-ghost use Rattle.ring_uses.specs.Numbers.{sum_of, Adds};
+ghost use Rattle.ring_uses.specs.Numbers.{number_of, sum_of, Adds};
 
 use crossbeam_utils::Backoff;
 use ring_rings::{Action, Consumer, Handler, PlainRing};
@@ -22,15 +22,22 @@ pub struct Summed {
     pub rest: SoloRing,
 }
 
+/// The number in a body: its first eight bytes, or 0 if it has fewer.
+pub fn number_of(body: &[u8]) -> u64
+    ensures { result ≡ number_of body.now }
+{
+    match body.first_chunk() {
+        Some(bytes) => u64::from_le_bytes(*bytes),
+        None => 0,
+    }
+}
+
 impl Handler for Sum {
     // Each handler says which step it takes from one state to the next.
     ghost step = { Adds };
 
     fn on_message(&mut self, _type_id: i32, body: &[u8]) -> Action {
-        let sum = self.sum;
-        if let Some(bytes) = body.first_chunk() {
-            self.sum = sum.wrapping_add(u64::from_le_bytes(*bytes));
-        }
+        self.sum = self.sum.wrapping_add(number_of(body));
         Action::Continue
     }
 }

@@ -1,0 +1,73 @@
+//! A receiver that is lapped, since a transmitter waits for nobody.
+ghost use Rattle.std.specs.Prelude.{◌≡◌, ◌≤◌, pos, [], IfOk, OnOk};
+ghost use Rattle.ring_board.specs.Board.{copied, lapped_count_of, transmitted};
+ghost use Rattle.ring_board.specs.Seats.{IsReceiverOf, IsTransmitterOf};
+ghost use Rattle.ring_uses.specs.Laps.{messages_in, messages_of, AreWithin, IsOverheard};
+ghost use Rattle.ring_uses.specs.Numbers.{numbers, sum_of};
+
+use crate::numbers::number_of;
+use ring_board::{Board, CopyReceiver, TransmitFault, Transmitter};
+use std::alloc::Global;
+
+/// The type id of the messages.
+const NUMBER: i32 = 1;
+
+/// What a receiver heard.
+#[derive(Drop)]
+pub struct Heard {
+    /// The sum of the numbers that it copied.
+    pub sum: u64,
+    /// The number of times that it was lapped.
+    pub laps: u64,
+}
+
+/// Transmits the numbers from 1 to `last`.
+fn transmit_numbers(
+    board: &Board,
+    transmitter: &mut Transmitter,
+    last: u32,
+) -> Result<(), TransmitFault>
+    requires transmitter { IsTransmitterOf board.now transmitter.old }
+    requires new { transmitted transmitter.old ≡ [] }
+    ensures transmitter { IsTransmitterOf board.now transmitter.new }
+    ensures transmitted { OnOk result (messages_in (transmitted transmitter.new) ≡ numbers (pos 1) last) }
+{
+    for number in 0..last {
+        let body = u64::from(number + 1).to_le_bytes();
+        board.transmit(transmitter, NUMBER, &body)?;
+    }
+    Ok(())
+}
+
+/// Receives until there is no message, and adds up the numbers. It makes at most this many calls.
+fn receive_all(board: &Board, receiver: &mut CopyReceiver, calls: u32) -> u64
+    requires receiver { IsReceiverOf board.now receiver.old }
+    requires new { copied receiver.old ≡ [] }
+    ensures receiver { IsReceiverOf board.now receiver.new }
+    ensures laps { AreWithin (lapped_count_of receiver.new) (copied receiver.new) }
+    ensures sum { result ≡ sum_of (messages_of (copied receiver.new)) }
+{
+    let mut sum: u64 = 0;
+    for _ in 0..calls {
+        match receiver.receive(board) {
+            Ok(Some(copied)) => sum = sum.wrapping_add(number_of(copied.body)),
+            Ok(None) => return sum,
+            // The next call goes on with the latest message.
+            Err(_lapped) => {}
+        }
+    }
+    sum
+}
+
+/// Transmits the numbers from 1 to `last`, and then looks what a receiver that was there from the start gets of them.
+pub fn overtake(alloc: Global, last: u32) -> anyhow::Result<Heard>
+    ensures { IfOk result (λ h. IsOverheard last h) }
+{
+    let (board, mut transmitter) = Board::new(alloc, 256)?;
+    let mut receiver = board.subscribe(alloc, &mut transmitter)?;
+    transmit_numbers(&board, &mut transmitter, last)?;
+    let sum = receive_all(&board, &mut receiver, last);
+    let laps = receiver.lapped_count();
+    board.join(&mut transmitter, receiver);
+    Ok(Heard { sum, laps })
+}
