@@ -4,7 +4,7 @@ use Rattle.ring_layout.specs.declared.message.Message.{Message}
 use Rattle.ring_board.specs.declared.shared.view.Record.{Record}
 use Rattle.ring_board.specs.declared.shared.view.Taken.{Taken}
 use Rattle.ring_board.specs.Runs.{AreRuns}
-use Rattle.ring_uses.specs.declared.laps.Heard.{Heard}
+use Rattle.ring_uses.specs.declared.laps.Overtaken.{Overtaken}
 use Rattle.ring_uses.specs.Numbers.{numbers, sum_of}
 
 -- the messages of transmitted records
@@ -21,7 +21,7 @@ AreWithin laps copies = All (λ (c : Taken). c.count ≤ laps) copies
 
 -- The numbers from 1 to `last` were transmitted. What the receiver copied are runs of them, broken only where its lapped
 -- count rose, and the count rose by this many laps in all. The sum is that of the numbers copied
-pub record IsOverheard (last : ℕ) (h : Heard) : Type 0 where
+pub record HasCopied (last : ℕ) (h : Overtaken) : Type 0 where
   pub transmitted : List Record
   pub from : ℕ
   pub copied : List Taken

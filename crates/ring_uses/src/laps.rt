@@ -1,8 +1,8 @@
-//! A receiver that is lapped, since a transmitter waits for nobody.
+//! A receiver that is lapped, since a transmitter does not wait.
 ghost use Rattle.std.specs.Prelude.{◌≡◌, ◌≤◌, pos, [], IfOk, OnOk};
 ghost use Rattle.ring_board.specs.Board.{copied, lapped_count_of, transmitted};
 ghost use Rattle.ring_board.specs.Seats.{IsReceiverOf, IsTransmitterOf};
-ghost use Rattle.ring_uses.specs.Laps.{messages_in, messages_of, AreWithin, IsOverheard};
+ghost use Rattle.ring_uses.specs.Laps.{messages_in, messages_of, AreWithin, HasCopied};
 ghost use Rattle.ring_uses.specs.Numbers.{numbers, sum_of};
 
 use crate::numbers::number_of;
@@ -12,9 +12,9 @@ use std::alloc::Global;
 /// The type id of the messages.
 const NUMBER: i32 = 1;
 
-/// What a receiver heard.
+/// What a receiver copied.
 #[derive(Drop)]
-pub struct Heard {
+pub struct Overtaken {
     /// The sum of the numbers that it copied.
     pub sum: u64,
     /// The number of times that it was lapped.
@@ -60,8 +60,8 @@ fn receive_all(board: &Board, receiver: &mut CopyReceiver, calls: u32) -> u64
 }
 
 /// Transmits the numbers from 1 to `last`, and then looks what a receiver that was there from the start gets of them.
-pub fn overtake(alloc: Global, last: u32) -> anyhow::Result<Heard>
-    ensures { IfOk result (λ h. IsOverheard last h) }
+pub fn overtake(alloc: Global, last: u32) -> anyhow::Result<Overtaken>
+    ensures { IfOk result (λ h. HasCopied last h) }
 {
     let (board, mut transmitter) = Board::new(alloc, 256)?;
     let mut receiver = board.subscribe(alloc, &mut transmitter)?;
@@ -69,5 +69,5 @@ pub fn overtake(alloc: Global, last: u32) -> anyhow::Result<Heard>
     let sum = receive_all(&board, &mut receiver, last);
     let laps = receiver.lapped_count();
     board.join(&mut transmitter, receiver);
-    Ok(Heard { sum, laps })
+    Ok(Overtaken { sum, laps })
 }

@@ -25,7 +25,10 @@ fn main(rt: HostRuntime) -> anyhow::Result<()> {
     print_sum(&rt, "two threads", &add_up(&rt, rt.alloc(), 1_000)?)?;
     print_sum(&rt, "four producers", &gather(&rt, rt.alloc(), 250)?)?;
     print_sum(&rt, "one claim of two", &abort_first(rt.alloc(), 5, 7)?)?;
-    let heard = overtake(rt.alloc(), 1_000)?;
-    println!(rt; "a lapped receiver: sum {} laps {}", heard.sum, heard.laps)?;
+    let overtaken = overtake(rt.alloc(), 1_000)?;
+    println!(rt;
+        "a lapped receiver: sum {} laps {}",
+        overtaken.sum, overtaken.laps
+    )?;
     Ok(())
 }
