@@ -2,3 +2,4 @@ pub mod SumLemmas
 pub mod ClaimLemmas
 pub mod MergeLemmas
 pub mod LapLemmas
+pub mod ReplyLemmas

@@ -1,5 +1,5 @@
 -- Numbers as messages.
-use Rattle.std.specs.Prelude.{◌≡◌, ℕ, zero, suc, ◌+◌, ◌%◌, ◌^◌, ℤ, List, [], ◌∷◌, ◌++◌, length, take, if◌then◌else◌, nat_lt}
+use Rattle.std.specs.Prelude.{◌≡◌, ℕ, zero, suc, ◌+◌, ◌%◌, ◌^◌, ◌≤◌, ℤ, List, [], ◌∷◌, ◌++◌, length, take, if◌then◌else◌, nat_lt}
 use Rattle.std.specs.List.{sum_by}
 use Rattle.std.specs.Int.{from_le_bytes, to_le_bytes, w64}
 use Rattle.ring_layout.specs.declared.message.Message.{Message}
@@ -15,6 +15,10 @@ numbered type_id n = message type_id (to_le_bytes w64 n)
 abbrev pub numbers : ℤ → ℕ → List Message
 numbers type_id zero = []
 numbers type_id (suc n) = numbers type_id n ++ numbered type_id (suc n) ∷ []
+
+-- the numbers from 1 on with this type id, at most up to `last`
+abbrev pub AreUpTo : ℤ → ℕ → List Message → Type 0
+AreUpTo type_id last ms = (n : ℕ) × (n ≤ last) × (ms ≡ numbers type_id n)
 
 -- the number in a body: its first eight bytes, the lowest first, or 0 if it has fewer
 abbrev pub number_of : List ℕ → ℕ

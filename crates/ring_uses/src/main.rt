@@ -6,12 +6,14 @@ mod closing;
 mod laps;
 mod numbers;
 mod producers;
+mod reply;
 mod sum;
 
 use claims::abort_first;
 use laps::overtake;
 use numbers::Summed;
 use producers::gather;
+use reply::ask;
 use std::io;
 use sum::add_up;
 
@@ -30,5 +32,6 @@ fn main(rt: HostRuntime) -> anyhow::Result<()> {
         "a lapped receiver: sum {} laps {}",
         overtaken.sum, overtaken.laps
     )?;
+    println!(rt; "a request: {:?}", ask(rt.alloc())?.reply)?;
     Ok(())
 }

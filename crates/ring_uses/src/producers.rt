@@ -1,8 +1,8 @@
 //! Four producers send numbers into one ring, each on a thread of its own.
-ghost use Rattle.std.specs.Prelude.{◌≡◌, ℕ, ◌≤◌, ◌<◌, ◌^◌, ◌*◌, ℤ, pos, [], length, IfOk};
-ghost use Rattle.ring_rings.specs.Ring.{received, sent, AreMerged};
+ghost use Rattle.std.specs.Prelude.{◌≡◌, ◌≤◌, pos, [], length, IfOk};
+ghost use Rattle.ring_rings.specs.Ring.{received, sent};
 ghost use Rattle.ring_rings.specs.Seats.{IsConsumerOf, IsProducerOf};
-ghost use Rattle.ring_uses.specs.Numbers.{numbers, sum_of};
+ghost use Rattle.ring_uses.specs.Numbers.{sum_of, AreUpTo};
 ghost use Rattle.ring_uses.specs.Producers.{AreInOrder, AreOfFour, AreOfTwo};
 
 use crate::closing::close;
@@ -27,7 +27,7 @@ fn write_numbers<R: Wait>(
     requires producer { IsProducerOf ring.now producer }
     requires new { sent producer ≡ [] }
     ensures producer { IsProducerOf ring.now result }
-    ensures sent { (n : ℕ) × (n ≤ last) × (sent result ≡ numbers type_id n) }
+    ensures sent { AreUpTo type_id last (sent result) }
 {
     let backoff = Backoff::new();
     let mut written = 0;
@@ -68,13 +68,11 @@ fn write_both<R: Threads + Wait + Sync>(
         rt,
         move || -> Producer
             requires { IsProducerOf ring.now one × (sent one ≡ []) }
-            ensures { IsProducerOf ring.entry.now result
-                × ((n : ℕ) × (n ≤ last) × (sent result ≡ numbers first n)) }
+            ensures { IsProducerOf ring.entry.now result × AreUpTo first last (sent result) }
         { write_numbers(rt, ring, one, first, last) },
         move || -> Producer
             requires { IsProducerOf ring.now two × (sent two ≡ []) }
-            ensures { IsProducerOf ring.entry.now result
-                × ((n : ℕ) × (n ≤ last) × (sent result ≡ numbers second n)) }
+            ensures { IsProducerOf ring.entry.now result × AreUpTo second last (sent result) }
         { write_numbers(rt, ring, two, second, last) },
     );
     ring.join(&mut one, two);

@@ -1,8 +1,8 @@
 //! One thread writes the numbers from 1 on into a ring, another reads them and adds them up.
-ghost use Rattle.std.specs.Prelude.{◌≡◌, ℕ, ◌≤◌, pos, [], length, IfOk};
+ghost use Rattle.std.specs.Prelude.{◌≡◌, ◌≤◌, pos, [], length, IfOk};
 ghost use Rattle.ring_rings.specs.Ring.{received, sent};
 ghost use Rattle.ring_rings.specs.Seats.{all_shares, shares_of, IsConsumerOf, IsProducerOf};
-ghost use Rattle.ring_uses.specs.Numbers.{numbers, sum_of};
+ghost use Rattle.ring_uses.specs.Numbers.{sum_of, AreUpTo};
 ghost use Rattle.ring_uses.specs.Sum.{IsSummed};
 
 use crate::closing::close;
@@ -29,7 +29,7 @@ fn write_numbers<R: Wait>(
     requires sole { shares_of producer ≡ all_shares }
     requires new { sent producer ≡ [] }
     ensures producer { IsProducerOf ring.now result }
-    ensures sent { (n : ℕ) × (n ≤ last) × (sent result ≡ numbers (pos 1) n) }
+    ensures sent { AreUpTo (pos 1) last (sent result) }
 {
     let backoff = Backoff::new();
     let mut written = 0;
@@ -62,8 +62,7 @@ pub fn add_up<R: Threads + Wait + Sync>(rt: &R, alloc: Global, last: u64) -> any
         // A closure's clauses say what goes into its thread and what comes out of it.
         move || -> Producer
             requires { IsProducerOf shared.now producer × (shares_of producer ≡ all_shares) × (sent producer ≡ []) }
-            ensures { IsProducerOf shared.entry.now result
-                × ((n : ℕ) × (n ≤ last) × (sent result ≡ numbers (pos 1) n)) }
+            ensures { IsProducerOf shared.entry.now result × AreUpTo (pos 1) last (sent result) }
         { write_numbers(rt, shared, producer, last) },
         move || -> (Consumer, Sum)
             requires { IsConsumerOf shared.now consumer × (received consumer ≡ []) }

@@ -1,0 +1,56 @@
+//! A request, and its reply.
+ghost use Rattle.std.specs.Prelude.{IfOk};
+ghost use Rattle.ring_uses.specs.Reply.{IsAnswered};
+
+use ring_board::Board;
+use ring_conductor::{Client, Conductor, Polled, Reply, Request, finish};
+use ring_counters::CountersManager;
+use ring_rings::PlainManyToOneRing;
+use ring_words::SoloRing;
+use std::alloc::Global;
+use thiserror::Error;
+
+/// The client's poll returned no reply to its request.
+#[derive(Clone, Copy, Debug, Error)]
+#[error("no reply came")]
+pub struct NoReply;
+
+/// The reply to a request, and the ring as it was closed.
+#[derive(Drop)]
+pub struct Answer {
+    pub correlation: u64,
+    pub reply: Reply,
+    pub rest: SoloRing,
+}
+
+/// Asks a conductor for a counter, and polls for the reply.
+pub fn ask(alloc: Global) -> anyhow::Result<Answer>
+    ensures { IfOk result IsAnswered }
+{
+    let (ring, producer, consumer) = PlainManyToOneRing::new(alloc, 1_024)?;
+    let (board, transmitter) = Board::new(alloc, 256)?;
+    let (values, counters) = CountersManager::new(alloc, 4, 50)?;
+    let mut conductor = Conductor::new(consumer, transmitter, counters);
+    let receiver = conductor.subscribe(alloc, &board)?;
+    let mut client = Client::new(producer, receiver);
+    let request = Request::Allocate {
+        type_id: 1,
+        key: &[],
+        label: b"requests",
+    };
+    let correlation = client.send(&ring, request)?;
+    conductor.do_work(&ring, &board, &values, 0, u32::MAX);
+    let Polled::Answered(reply) = client.poll(&board, correlation) else {
+        return Err(NoReply.into());
+    };
+    let (producer, receiver) = client.into_parts();
+    conductor.join_receiver(&board, receiver);
+    match finish(ring, board, values, conductor, producer) {
+        Ok(finished) => Ok(Answer {
+            correlation,
+            reply,
+            rest: finished.rest,
+        }),
+        Err(refused) => Err(refused.reason.into()),
+    }
+}
