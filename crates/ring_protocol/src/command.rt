@@ -1,8 +1,11 @@
-//! What a client asks of the conductor.
+//! What a client asks of the conductor, and how it is spelled as bytes.
 ghost use Rattle.std.specs.Prelude.{◌≡◌, ◌+◌, ◌^◌, ◌<◌, ◌↔◌, length, IfSome, IsSome};
+ghost use Rattle.ring_protocol.specs.Command.{content_of, Allocate, Free, Set, AllocateOwned, Close};
+ghost use Rattle.ring_protocol.specs.Writing.{Encodes};
 
 pub mod decode;
-pub mod encode;
+
+use crate::fields::{len_field, write_fields};
 
 /// The type ids of commands.
 pub mod type_ids {
@@ -119,4 +122,107 @@ fn sized_len(bytes: &[u8]) -> Option<usize>
 {
     u32::try_from(bytes.len()).ok()?;
     Some(4 + bytes.len())
+}
+
+fn encode_allocate(
+    out: &mut [u8],
+    correlation: u64,
+    type_id: i32,
+    key: &[u8],
+    label: &[u8],
+) -> Option<usize>
+    ensures { Encodes (Allocate correlation type_id key.now label.now) out.old out.new result }
+{
+    write_fields(
+        out,
+        &[
+            &correlation.to_le_bytes(),
+            &type_id.to_le_bytes(),
+            &len_field(key)?,
+            key,
+            &len_field(label)?,
+            label,
+        ],
+    )
+}
+
+fn encode_free(out: &mut [u8], correlation: u64, id: u32) -> Option<usize>
+    ensures { Encodes (Free correlation id) out.old out.new result }
+{
+    write_fields(out, &[&correlation.to_le_bytes(), &id.to_le_bytes()])
+}
+
+fn encode_set(out: &mut [u8], correlation: u64, id: u32, value: i64) -> Option<usize>
+    ensures { Encodes (Set correlation id value) out.old out.new result }
+{
+    write_fields(
+        out,
+        &[
+            &correlation.to_le_bytes(),
+            &id.to_le_bytes(),
+            &value.to_le_bytes(),
+        ],
+    )
+}
+
+fn encode_allocate_owned(
+    out: &mut [u8],
+    correlation: u64,
+    type_id: i32,
+    owner: u64,
+    key: &[u8],
+    label: &[u8],
+) -> Option<usize>
+    ensures { Encodes (AllocateOwned correlation type_id owner key.now label.now) out.old out.new result }
+{
+    write_fields(
+        out,
+        &[
+            &correlation.to_le_bytes(),
+            &type_id.to_le_bytes(),
+            &owner.to_le_bytes(),
+            &len_field(key)?,
+            key,
+            &len_field(label)?,
+            label,
+        ],
+    )
+}
+
+fn encode_close(out: &mut [u8], correlation: u64, owner: u64) -> Option<usize>
+    ensures { Encodes (Close correlation owner) out.old out.new result }
+{
+    write_fields(out, &[&correlation.to_le_bytes(), &owner.to_le_bytes()])
+}
+
+/// Encodes the command at the start of the output, and returns the number of bytes. The rest of the output is
+/// unchanged.
+///
+/// Returns `None`, and writes nothing, if the encoding does not fit, or if the key or the label is longer than 2^32 - 1
+/// bytes.
+pub fn encode_command(command: &Command, out: &mut [u8]) -> Option<usize>
+    ensures { Encodes (content_of command.now) out.old out.new result }
+{
+    match *command {
+        Command::Allocate {
+            correlation,
+            type_id,
+            key,
+            label,
+        } => { encode_allocate(out, correlation, type_id, key, label) }
+        Command::Free { correlation, id } => encode_free(out, correlation, id),
+        Command::Set {
+            correlation,
+            id,
+            value,
+        } => encode_set(out, correlation, id, value),
+        Command::AllocateOwned {
+            correlation,
+            type_id,
+            owner,
+            key,
+            label,
+        } => { encode_allocate_owned(out, correlation, type_id, owner, key, label) }
+        Command::Close { correlation, owner } => encode_close(out, correlation, owner),
+    }
 }

@@ -1,10 +1,6 @@
 //! Why bytes are no message of the protocol.
 
-ghost use Rattle.std.specs.Prelude.{◌≡◌};
-ghost use Rattle.ring_protocol.specs.Bad.{correlation_of};
-
 use crate::codes::RefusalCode;
-use crate::fields::read::take_u64;
 use std::error::Error;
 use std::fmt;
 
@@ -26,11 +22,3 @@ impl fmt::Display for Bad {
 }
 
 impl Error for Bad {}
-
-/// The correlation of the reply to a body that spells nothing.
-#[tactic(auto, unfolding(crate::specs::Bad::correlation_of, crate::specs::Field::u64_at))]
-pub fn correlation_in(body: &[u8]) -> u64
-    ensures { result ≡ correlation_of body.now }
-{
-    take_u64(body).map_or(u64::MAX, |(correlation, _)| correlation)
-}

@@ -8,8 +8,8 @@ ghost use Rattle.ring_protocol.specs.Bad.{IsFaultOf};
 ghost use Rattle.ring_protocol.specs.Reading.{command_of, allocate_of, free_of, set_of, allocate_owned_of, close_of};
 
 use super::{Command, type_ids};
-use crate::fault::{Bad, correlation_in};
-use crate::fields::read::{take_i32, take_i64, take_sized, take_u32, take_u64};
+use crate::fault::Bad;
+use crate::fields::{correlation_in, take_i32, take_i64, take_sized, take_u32, take_u64};
 
 #[tactic(auto, unfolding(crate::specs::Reading::allocate_of))]
 fn allocate(body: &[u8]) -> Option<Command<'_>>

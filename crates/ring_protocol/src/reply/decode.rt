@@ -6,8 +6,8 @@ ghost use Rattle.ring_protocol.specs.Reply.{Spells, IsReplyType};
 ghost use Rattle.ring_protocol.specs.Reading.{reply_of, allocated_of, done_of, refused_of, closed_of};
 
 use super::{Reply, type_ids};
-use crate::fault::{Bad, correlation_in};
-use crate::fields::read::{take_i32, take_u32, take_u64};
+use crate::fault::Bad;
+use crate::fields::{correlation_in, take_i32, take_u32, take_u64};
 
 #[tactic(auto, unfolding(crate::specs::Reading::allocated_of))]
 fn allocated(body: &[u8]) -> Option<Reply>

@@ -1,6 +1,6 @@
 use Rattle.std.proofs.Common.{◌+◌, [], arith}
 use Rattle.ring_protocol.proofs.Joined.{joined_front, length-joined_more}
-use Rattle.ring_protocol.proofs.fields.write.joined_len.Goals as goal
+use Rattle.ring_protocol.proofs.fields.joined_len.Goals as goal
 
 pub returns-in_err-room-clause-fits : goal.returns-in_err-room-clause-fits
 returns-in_err-room-clause-fits c =

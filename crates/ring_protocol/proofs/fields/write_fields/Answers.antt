@@ -1,7 +1,7 @@
 use Rattle.std.proofs.Common.{◌+◌, ◌≤◌, [], length, arith, refl}
 use Rattle.std.specs.List.{flat_map}
 use Rattle.ring_protocol.proofs.Joined.{joined_front, length-joined_more}
-use Rattle.ring_protocol.proofs.fields.write.write_fields.Goals as goal
+use Rattle.ring_protocol.proofs.fields.write_fields.Goals as goal
 
 pub slice_bounds-copy_from_slice-end : goal.slice_bounds-copy_from_slice-end
 slice_bounds-copy_from_slice-end c =

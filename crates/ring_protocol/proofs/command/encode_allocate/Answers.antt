@@ -2,7 +2,7 @@ use Rattle.std.proofs.Common.{arith, refl}
 use Rattle.ring_protocol.specs.Command.{Allocate}
 use Rattle.ring_protocol.specs.Field.{IsSized}
 use Rattle.ring_protocol.proofs.Written.{encodes, are_bytes, is_u64, is_i32, allocate_text}
-use Rattle.ring_protocol.proofs.command.encode.allocate.Goals as goal
+use Rattle.ring_protocol.proofs.command.encode_allocate.Goals as goal
 
 pub returns : goal.returns
 returns c =

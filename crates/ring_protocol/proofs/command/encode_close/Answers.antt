@@ -1,6 +1,6 @@
 use Rattle.ring_protocol.specs.Command.{Close}
 use Rattle.ring_protocol.proofs.Written.{encodes, is_u64, close_text}
-use Rattle.ring_protocol.proofs.command.encode.close.Goals as goal
+use Rattle.ring_protocol.proofs.command.encode_close.Goals as goal
 
 pub returns : goal.returns
 returns c =

@@ -1,6 +1,6 @@
 use Rattle.ring_protocol.specs.Command.{Set}
 use Rattle.ring_protocol.proofs.Written.{encodes, is_u32, is_u64, is_i64, set_text}
-use Rattle.ring_protocol.proofs.command.encode.set.Goals as goal
+use Rattle.ring_protocol.proofs.command.encode_set.Goals as goal
 
 pub returns : goal.returns
 returns c =

@@ -1,7 +1,7 @@
 use Rattle.std.proofs.Common.{rules, FitsSigned, w32}
 use Rattle.ring_protocol.specs.declared.reply.Reply.TheVariants.{Allocated, Done, Refused, Closed}
 use Rattle.ring_protocol.proofs.Written.{encodes_reply, is_u32, is_u64, is_i32, one_field, two_fields}
-use Rattle.ring_protocol.proofs.reply.encode.encode_reply.Goals as goal
+use Rattle.ring_protocol.proofs.reply.encode_reply.Goals as goal
 
 pub returns-in-Allocated : goal.returns-in-Allocated
 returns-in-Allocated c =

@@ -1,6 +1,6 @@
 use Rattle.ring_protocol.specs.Command.{Free}
 use Rattle.ring_protocol.proofs.Written.{encodes, is_u32, is_u64, free_text}
-use Rattle.ring_protocol.proofs.command.encode.free.Goals as goal
+use Rattle.ring_protocol.proofs.command.encode_free.Goals as goal
 
 pub returns : goal.returns
 returns c =
