@@ -2,4 +2,3 @@
 pub(crate) mod allocate;
 pub(crate) mod list;
 pub(crate) mod query;
-pub(crate) mod update;

@@ -1,10 +1,10 @@
 //! Labelled counters that a conductor keeps and monitors read while it works, in records of words.
 //!
 //! - `manager`: the counters of one owner, with their values. `calls`: what it is asked, by kind.
-//! - `records`: the counters' words: `metadata` and `value` records, what a counter is allocated with (`wanted`), and
-//!   the queue of ids that were `freed`.
+//! - `records`: the counters' words: values and `metadata`, what a counter is allocated with (`wanted`), and how `ids`
+//!   are given and freed.
 //! - `values`: what threads share: what each seat knows (`view`), the `rule` between any two steps, what each step
-//!   says (`plays`), a function for each (`steps`), and the `seats` of writer and readers.
+//!   says (`plays`), the `seats` of writer and readers, and the `calls` that set and load values.
 //! - `fault`, `info`: why calls refuse, and what a listing says of a counter.
 #![tactic(auto)]
 

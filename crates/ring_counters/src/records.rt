@@ -1,31 +1,102 @@
-//! The counters over vectors of records, and the queue of freed ids.
+//! The counters over vectors of records: their values, their metadata, and which ids are in use.
 pub(crate) mod bytes;
-mod freed;
+mod ids;
 pub(crate) mod metadata;
-pub(crate) mod value;
 pub(crate) mod wanted;
 
-ghost use Rattle.std.specs.Prelude.{◌≡◌, ℕ, ◌-◌, ◌^◌, ◌<◌, ◌≤◌, true, IfNone, IfOk, IfSome};
-ghost use Rattle.std.specs.Prelude.{length, position, remove, replicate, slice_index, slice_index_or, slice_set};
+ghost use Rattle.std.specs.Prelude.{◌≡◌, ℕ, ◌<◌, ◌≤◌, pos, true, IfOk, length, replicate};
 ghost use Rattle.std.specs.VecDeque.{deque_capacity};
-ghost use Rattle.ring_counters.specs.Counter.{deadline_of, unused_metadata, unused_values, unused_counter};
-ghost use Rattle.ring_counters.specs.Allocating.{HasShortTexts, counter_wanted};
-ghost use Rattle.ring_counters.specs.Registry.{allocated_in, answer, closed_in, count_of, counter_at, fresh_registry};
-ghost use Rattle.ring_counters.specs.Registry.{id_refusal_of, is_allocated, is_due, is_owned, is_registered, live_of};
-ghost use Rattle.ring_counters.specs.Registry.{next_id, owned_ids, range_refusal_of, reclaimed_in, registered_id};
-ghost use Rattle.ring_counters.specs.Registry.{status_at, unused_id, with_value};
+ghost use Rattle.ring_counters.specs.Counter.{Values, unused_metadata, unused_values, unused_counter, value_word};
+ghost use Rattle.ring_counters.specs.Registry.{answer, count_of, counter_at, fresh_registry, id_refusal_of};
+ghost use Rattle.ring_counters.specs.Registry.{is_allocated, is_registered, live_of, range_refusal_of, registered_id};
+ghost use Rattle.ring_counters.specs.Registry.{status_at, with_value};
 ghost use Rattle.ring_counters.specs.Infos.{IsInfoOf, AreInfos};
 
 use crate::fault::IdFault;
 use crate::info::CounterInfo;
-use crate::records::freed::{stays_in_order, take_freed};
 use crate::records::metadata::MetadataRecord;
-use crate::records::value::ValueRecord;
-use crate::records::wanted::Wanted;
-use ring_layout::counter_descriptor::{MAX_KEY_LENGTH, MAX_LABEL_LENGTH};
+use ring_layout::counter_descriptor::{
+    MAX_KEY_LENGTH, MAX_LABEL_LENGTH, OWNER_ID_WORD, REGISTRATION_ID_WORD, VALUE_WORD,
+};
 use std::alloc::{AllocError, Global};
 use std::collections::VecDeque;
 use std::marker::Model;
+
+/// A value record without the 13 words that are always 0, so that the records of many counters are close together: a
+/// set touches only this and a flag of the manager's.
+#[derive(Drop)]
+pub(crate) struct ValueRecord {
+    value: i64,
+    registration: u64,
+    owner: u64,
+}
+
+impl Model for ValueRecord {
+    ghost use Rattle.ring_counters.specs.Counter.{Values};
+
+    ghost Value = { Values };
+
+    ghost view = { λ r. record { value = r.value; registration = r.registration; owner = r.owner } };
+}
+
+impl ValueRecord {
+    pub(crate) fn unused() -> Self
+        ensures { result ≡ unused_values }
+    {
+        ValueRecord {
+            value: 0,
+            registration: 0,
+            owner: 0,
+        }
+    }
+
+    /// Makes the record that of a counter in use. The value is 0.
+    pub(crate) fn allocate(&mut self, registration: u64, owner: u64)
+        ensures { self.new ≡ record { value = pos 0; registration = registration; owner = owner } }
+    {
+        self.value = 0;
+        self.registration = registration;
+        self.owner = owner;
+    }
+
+    pub(crate) fn set(&mut self, value: i64)
+        ensures { self.new ≡ record self.old { value = value } }
+    {
+        self.value = value;
+    }
+
+    pub(crate) fn value(&self) -> i64
+        ensures { result ≡ self.now.value }
+    {
+        self.value
+    }
+
+    pub(crate) fn registration(&self) -> u64
+        ensures { result ≡ self.now.registration }
+    {
+        self.registration
+    }
+
+    pub(crate) fn owner(&self) -> u64
+        ensures { result ≡ self.now.owner }
+    {
+        self.owner
+    }
+
+    /// The word with this number of the 16 that the record has.
+    #[tactic(auto, unfolding(crate::specs::Counter::value_word))]
+    pub(crate) fn word(&self, k: usize) -> u64
+        requires { k < 16 }
+        ensures { result ≡ value_word self.now k }
+    {
+        match k {
+            VALUE_WORD => self.value.cast_unsigned(),
+            REGISTRATION_ID_WORD => self.registration,
+            OWNER_ID_WORD => self.owner,
+            _ => 0,
+        }
+    }
+}
 
 #[derive(Drop)]
 pub(crate) struct Records {
@@ -81,23 +152,6 @@ fn unused_value_records(alloc: Global, count: u32) -> Result<Vec<ValueRecord>, A
     Ok(records)
 }
 
-/// Makes the records of an id those of a counter in use.
-fn fill(metadata: &mut MetadataRecord, values: &mut ValueRecord, wanted: Wanted<'_>)
-    requires { HasShortTexts wanted }
-    ensures metadata { metadata.new ≡ (counter_wanted wanted.entry).metadata }
-    ensures values { values.new ≡ (counter_wanted wanted.entry).values }
-{
-    let Wanted {
-        type_id,
-        key,
-        label,
-        registration,
-        owner,
-    } = wanted;
-    metadata.allocate(type_id, key, label);
-    values.allocate(registration, owner);
-}
-
 impl Records {
     pub(crate) fn new(alloc: Global, count: u32, reuse_ms: u32) -> Result<Self, AllocError>
         requires { count ≤ 4096 }
@@ -119,111 +173,6 @@ impl Records {
         ensures most { result ≤ 4096 }
     {
         self.metadata.len() as u32
-    }
-
-    /// How far the queue must be searched for an id that is due: if the deadlines never fall, no further than its
-    /// first.
-    fn reach(&self) -> usize
-        ensures most { result ≤ length self.now.freed }
-        ensures some { 0 < length self.now.freed → 0 < result }
-        ensures later { (k : ℕ) → result ≤ k → k < length self.now.freed
-            → deadline_of (status_at self.now (slice_index self.now.freed 0))
-            ≤ deadline_of (status_at self.now (slice_index self.now.freed k)) }
-    {
-        if self.in_order {
-            self.freed.len().min(1)
-        } else {
-            self.freed.len()
-        }
-    }
-
-    /// The index in the queue of the first freed id that is due.
-    fn first_due(&self, now: u64) -> Option<usize>
-        ensures { result ≡ position (λ id. is_due now (status_at self.now id)) self.now.freed }
-    {
-        for at in 0..self.reach() {
-            if self.metadata[self.freed[at] as usize].deadline() <= now {
-                return Some(at);
-            }
-        }
-        None
-    }
-
-    /// The lowest id that was never used.
-    fn first_unused(&self) -> Option<u32>
-        ensures id { result ≡ unused_id self.now }
-        ensures inside { IfSome result (λ id. id < count_of self.now) }
-    {
-        if (self.used as usize) < self.metadata.len() {
-            Some(self.used)
-        } else {
-            None
-        }
-    }
-
-    /// Gives the freed id at this place of the queue again.
-    fn reuse(&mut self, at: usize, wanted: Wanted<'_>) -> u32
-        requires at { at < length self.old.freed }
-        requires short { HasShortTexts wanted }
-        ensures id { result ≡ slice_index self.old.freed at }
-        ensures inside { result < count_of self.old }
-        ensures changes { self.new.counters ≡ slice_set self.old.counters result (counter_wanted wanted.entry) }
-        ensures queue { self.new.freed ≡ remove self.old.freed at }
-        ensures timeout { self.new.reuse_ms ≡ self.old.reuse_ms }
-    {
-        let id = take_freed(&mut self.freed, at);
-        let metadata = &mut self.metadata[id as usize];
-        let values = &mut self.values[id as usize];
-        fill(metadata, values, wanted);
-        self.live[id as usize] = true;
-        id
-    }
-
-    /// Gives an id for the first time.
-    fn begin(&mut self, id: u32, wanted: Wanted<'_>)
-        requires id { unused_id self.old ≡ Some id }
-        requires short { HasShortTexts wanted }
-        ensures { self.new ≡ allocated_in self.old id (counter_wanted wanted.entry) }
-    {
-        let metadata = &mut self.metadata[id as usize];
-        let values = &mut self.values[id as usize];
-        fill(metadata, values, wanted);
-        self.live[id as usize] = true;
-        self.used = id + 1;
-    }
-
-    /// Gives an id to a counter, if there is one.
-    pub(crate) fn allocate(&mut self, now: u64, wanted: Wanted<'_>) -> Option<u32>
-        requires { HasShortTexts wanted }
-        ensures id { result ≡ next_id self.old now }
-        ensures some { IfSome result (λ id. (id < count_of self.old)
-            × (self.new ≡ allocated_in self.old id (counter_wanted wanted.entry))) }
-        ensures none { IfNone result (self.new ≡ self.old) }
-    {
-        match self.first_due(now) {
-            Some(at) => Some(self.reuse(at, wanted)),
-            None => match self.first_unused() {
-                Some(id) => {
-                    self.begin(id, wanted);
-                    Some(id)
-                }
-                None => None,
-            },
-        }
-    }
-
-    /// Frees an allocated counter.
-    pub(crate) fn reclaim(&mut self, now: u64, id: u32)
-        requires now { now ≤ 2 ^ 62 }
-        requires allocated { is_allocated (status_at self.old id) ≡ true }
-        ensures { self.new ≡ reclaimed_in self.old now id }
-    {
-        let deadline = now + u64::from(self.reuse_ms);
-        self.in_order = stays_in_order(self.in_order, &self.freed, &self.metadata, deadline);
-        let record = &mut self.metadata[id as usize];
-        record.reclaim(deadline);
-        self.live[id as usize] = false;
-        self.freed.push_back_reserved(id);
     }
 
     pub(crate) fn set(&mut self, id: u32, value: i64)
@@ -287,14 +236,6 @@ impl Records {
         self.live[id as usize]
     }
 
-    /// Whether the counter is in use and has this owner.
-    fn is_owned(&self, id: u32, owner: u64) -> bool
-        requires { id < count_of self.now }
-        ensures { result ≡ is_owned owner (counter_at self.now id) }
-    {
-        self.is_live(id) && self.values(id).owner() == owner
-    }
-
     /// Whether the counter is in use, with this type and registration.
     fn is_registered(&self, id: u32, type_id: i32, registration: u64) -> bool
         requires { id < count_of self.now }
@@ -315,22 +256,6 @@ impl Records {
             }
         }
         None
-    }
-
-    /// Frees the counters of an owner, by rising id, and returns their number.
-    pub(crate) fn close(&mut self, now: u64, owner: u64) -> u32
-        requires { now ≤ 2 ^ 62 }
-        ensures freed { result ≡ length (owned_ids self.old owner) }
-        ensures changes { self.new ≡ closed_in self.old now owner }
-    {
-        let mut freed = 0;
-        for id in 0..self.used() {
-            if self.is_owned(id, owner) {
-                self.reclaim(now, id);
-                freed += 1;
-            }
-        }
-        freed
     }
 
     /// What a listing says of one counter.

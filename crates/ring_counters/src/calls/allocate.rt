@@ -1,4 +1,4 @@
-//! Making, allocating, setting and freeing counters.
+//! Making, allocating and freeing counters.
 ghost use Rattle.std.specs.Prelude.{◌≡◌, ◌^◌, ◌≤◌, ◌↔◌, pos, [], ◌∷◌, ◌++◌, length, nat_lt};
 ghost use Rattle.std.specs.Prelude.{Err, IfOk, IsErr, IsOkUnless, MatchOption, OnErr, OnOk};
 ghost use Rattle.std.specs.List.{list_all};
@@ -9,7 +9,6 @@ ghost use Rattle.ring_counters.specs.Registry.{text_refusal_of};
 ghost use Rattle.ring_counters.specs.Views.{value_write};
 ghost use Rattle.ring_counters.specs.Seats.{values_count};
 ghost use Rattle.ring_counters.specs.Manager.{refusal_at, registry_of, writes_of, shares_of, IsManagerOf, KeepsValues};
-ghost use Rattle.ring_counters.specs.Manager.{SetsValue};
 
 use crate::fault::{AllocateRefused, BadOwner, IdFault, MakeFault};
 use crate::manager::CountersManager;
@@ -142,24 +141,6 @@ impl CountersManager {
             }
             None => Err(AllocateRefused::NoFreeCounter),
         }
-    }
-
-    /// Sets the value of a counter in use.
-    ///
-    /// Returns `BadId` if the id is not below the number of counters, `NotAllocated` if no counter in use has it. After
-    /// an error nothing has changed.
-    pub fn set(&mut self, values: &CounterValues, id: u32, value: i64) -> Result<(), IdFault>
-        requires { IsManagerOf values.now self.old }
-        ensures result { result ≡ answer (refusal_at self.old id) tt }
-        ensures sets { OnOk result (SetsValue id value self.old self.new) }
-        ensures shares { shares_of self.new ≡ shares_of self.old }
-        ensures values { IsManagerOf values.now self.new }
-        ensures err { OnErr result (self.new ≡ self.old) }
-    {
-        self.records.check_allocated(id)?;
-        self.records.set(id, value);
-        values.store(&mut self.writer, id, value);
-        Ok(())
     }
 
     /// Frees a counter at the moment `now`, at most 2^62 milliseconds: its id may be allocated again `reuse_ms` later.

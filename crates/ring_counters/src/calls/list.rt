@@ -6,9 +6,8 @@ ghost use Rattle.ring_counters.specs.Registry.{live_of};
 ghost use Rattle.ring_counters.specs.Manager.{registry_of};
 
 use crate::manager::CountersManager;
-use crate::records::Records;
 use crate::records::metadata::MetadataRecord;
-use crate::records::value::ValueRecord;
+use crate::records::{Records, ValueRecord};
 use ring_layout::counter_descriptor::{MAX_KEY_LENGTH, MAX_LABEL_LENGTH};
 use std::iter::FusedIterator;
 use std::marker::Model;

@@ -1,13 +1,18 @@
-//! The steps on the values, and the two that cut a seat in two or put two together.
-ghost use Rattle.std.specs.Prelude.{◌≡◌, ℕ, ◌+◌, ◌<◌, ◌≤◌, ◌↔◌, List, [], ◌∷◌, ◌++◌, IfOk, IfErr, IsOk};
+//! The calls on values, and the steps that they are made of: the writer stores, readers load, and two steps cut a seat in
+//! two or put two together.
+ghost use Rattle.std.specs.Prelude.{◌≡◌, ℕ, ◌+◌, ◌<◌, ◌≤◌, ◌↔◌, List, [], ◌∷◌, ◌++◌, true, false, IfOk, IfErr, IsOk};
+ghost use Rattle.std.specs.Prelude.{OnOk, OnErr};
 ghost use Rattle.ring_layout.specs.Refusals.{all_shares};
 ghost use Rattle.ring_counters.specs.declared.values.view.ValueWrite.{ValueWrite};
+ghost use Rattle.ring_counters.specs.Registry.{answer, value_at, value_plus, is_raised_by};
 ghost use Rattle.ring_counters.specs.Views.{value_write};
 ghost use Rattle.ring_counters.specs.ValueWrites.{AreLoads};
 ghost use Rattle.ring_counters.specs.Seats.{IsNewReaderOf, IsReaderOf, IsWriterOf, LoadsValue, loads_of, made_of};
 ghost use Rattle.ring_counters.specs.Seats.{values_count, writer_writes};
+ghost use Rattle.ring_counters.specs.Manager.{refusal_at, registry_of, shares_of, IsManagerOf, SetsValue};
 
-use crate::fault::BadId;
+use crate::fault::{BadId, IdFault};
+use crate::manager::CountersManager;
 use crate::values::plays::{CutReader, JoinReader, LearnLoads, LoadValue, StoreValue};
 use crate::values::seats::{CounterValues, ValueReader, ValueWriter};
 use atomic_table::Table;
@@ -108,5 +113,67 @@ impl CounterValues {
         // Only the next step says what the joined reader loaded.
         self.table.shared.load::<LearnLoads>(&mut writer.seat, 0);
         writer.shares = shares;
+    }
+}
+
+impl CountersManager {
+    /// Sets the value of a counter in use.
+    ///
+    /// Returns `BadId` if the id is not below the number of counters, `NotAllocated` if no counter in use has it. After
+    /// an error nothing has changed.
+    pub fn set(&mut self, values: &CounterValues, id: u32, value: i64) -> Result<(), IdFault>
+        requires { IsManagerOf values.now self.old }
+        ensures result { result ≡ answer (refusal_at self.old id) tt }
+        ensures sets { OnOk result (SetsValue id value self.old self.new) }
+        ensures shares { shares_of self.new ≡ shares_of self.old }
+        ensures values { IsManagerOf values.now self.new }
+        ensures err { OnErr result (self.new ≡ self.old) }
+    {
+        self.records.check_allocated(id)?;
+        self.records.set(id, value);
+        values.store(&mut self.writer, id, value);
+        Ok(())
+    }
+
+    /// Adds to the value of a counter in use, and returns the value before. It is one `set`.
+    ///
+    /// The sum is taken modulo 2^64: above 2^63 - 1 it wraps to -2^63, below -2^63 to 2^63 - 1. Errors as for `set`;
+    /// nothing has changed then.
+    pub fn add(&mut self, values: &CounterValues, id: u32, delta: i64) -> Result<i64, IdFault>
+        requires { IsManagerOf values.now self.old }
+        ensures before { result ≡ answer (refusal_at self.old id) (value_at (registry_of self.old) id) }
+        ensures sets { OnOk result (SetsValue id (value_plus (registry_of self.old) id delta) self.old self.new) }
+        ensures shares { shares_of self.new ≡ shares_of self.old }
+        ensures values { IsManagerOf values.now self.new }
+        ensures err { OnErr result (self.new ≡ self.old) }
+    {
+        let before = self.value(id)?;
+        self.set(values, id, before.wrapping_add(delta))?;
+        Ok(before)
+    }
+
+    /// Sets the value of a counter in use if it is below this one, and returns whether it was. It is one `set`, or
+    /// nothing.
+    ///
+    /// Errors as for `set`; nothing has changed then.
+    pub fn propose_max(
+        &mut self,
+        values: &CounterValues,
+        id: u32,
+        value: i64,
+    ) -> Result<bool, IdFault>
+        requires { IsManagerOf values.now self.old }
+        ensures raised { result ≡ answer (refusal_at self.old id) (is_raised_by (registry_of self.old) id value) }
+        ensures sets { IfOk result (λ raised. raised ≡ true → SetsValue id value self.old self.new) }
+        ensures kept { IfOk result (λ raised. raised ≡ false → self.new ≡ self.old) }
+        ensures shares { shares_of self.new ≡ shares_of self.old }
+        ensures values { IsManagerOf values.now self.new }
+        ensures err { OnErr result (self.new ≡ self.old) }
+    {
+        let is_below = self.value(id)? < value;
+        if is_below {
+            self.set(values, id, value)?;
+        }
+        Ok(is_below)
     }
 }
