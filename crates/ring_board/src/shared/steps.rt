@@ -1,7 +1,6 @@
-//! One small function for each kind of step. Each is one load or store of one word.
+//! One small function for each kind of step of receivers and seats. Each is one load or store of one word.
 pub(crate) mod receiver;
 pub(crate) mod seats;
-pub(crate) mod transmitter;
 
 ghost use Rattle.std.specs.Prelude.{◌≡◌, ◌+◌, ◌/◌, ◌<◌};
 ghost use Rattle.ring_layout.specs.Places.{index};
