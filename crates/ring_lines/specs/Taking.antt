@@ -1,7 +1,7 @@
 -- The part of a line or a text that has not been taken yet.
 use Rattle.std.specs.Prelude.{◌≡◌, ℕ, List, ◌∷◌}
 use Rattle.ring_lines.specs.declared.lines.Lines.{Lines}
-use Rattle.ring_lines.specs.declared.words.Words.{Words}
+use Rattle.ring_lines.specs.declared.lines.Words.{Words}
 use Rattle.ring_lines.specs.Text.{lines_of, words_of}
 
 -- the lines that were not taken

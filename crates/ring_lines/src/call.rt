@@ -1,12 +1,45 @@
-//! What a line asks of the runner.
-ghost use Rattle.std.specs.Prelude.{◌∷◌, IfOk, codes};
-ghost use Rattle.ring_lines.specs.Text.{words_of};
+//! What a line asks for.
+ghost use Rattle.std.specs.Prelude.{◌≡◌, ◌∷◌, IfOk, codes};
+ghost use Rattle.ring_lines.specs.Text.{words_of, IsBlank, IsEnd};
 
 use crate::fault::LineFault;
+use crate::lines::Words;
 use crate::service_call::ServiceCall;
-use crate::words::Words;
 use ring_words::Action;
 use std::alloc::Global;
+
+/// What a line of a scenario asks for.
+#[derive(Drop)]
+pub enum Line {
+    /// No words, or a comment.
+    Nothing,
+    Call(Call),
+    End,
+}
+
+impl Line {
+    ghost use Rattle.ring_lines.specs.Lines.{IsLine};
+
+    /// Parses a line, given without its line feed. A line without words, a comment and `end` alone are no fault.
+    pub fn parse(alloc: Global, text: &[u8]) -> Result<Line, LineFault>
+        ensures line { IfOk result (λ line. IsLine line (words_of text.now)) }
+        ensures blank { IsBlank (words_of text.now) → result ≡ Ok Line.Nothing }
+        ensures end { IsEnd (words_of text.now) → result ≡ Ok Line.End }
+    {
+        let mut words = Words::of(text);
+        let Some(name) = words.next_word() else {
+            return Ok(Line::Nothing);
+        };
+        if name.starts_with(b"#") {
+            return Ok(Line::Nothing);
+        }
+        if name == b"end".as_slice() {
+            words.finish()?;
+            return Ok(Line::End);
+        }
+        Ok(Line::Call(Call::parse(alloc, name, &mut words)?))
+    }
+}
 
 /// A call of the ring, of the broadcast buffer or of the conductor's side, as a line asks for it.
 #[derive(Drop)]

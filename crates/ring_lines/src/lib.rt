@@ -1,6 +1,6 @@
 //! The lines of a scenario, and what they ask for.
 //!
-//! - `lines`, `words`: an input as lines, and a line as words.
+//! - `lines`: an input as lines, and a line as words.
 //! - `call`, `service_call`, `moment`: what a line asks for.
 //! - `fault`: why a line is not executed.
 #![tactic(auto)]
@@ -10,10 +10,9 @@ mod fault;
 mod lines;
 mod moment;
 mod service_call;
-mod words;
 
-pub use call::Call;
+pub use call::{Call, Line};
 pub use fault::LineFault;
-pub use lines::{Line, Lines, MAX_INPUT};
+pub use lines::{Lines, MAX_INPUT};
 pub use moment::Moment;
 pub use service_call::{Request, ServiceCall};

@@ -3,8 +3,8 @@ ghost use Rattle.ring_lines.specs.Text.{words_of};
 ghost use Rattle.std.specs.Prelude.{◌∷◌, IfOk, codes};
 
 use crate::fault::LineFault;
+use crate::lines::Words;
 use crate::moment::Moment;
-use crate::words::Words;
 use std::alloc::Global;
 
 /// A call of the command ring, of the conductor or of what it serves, as a line asks for it.
