@@ -4,7 +4,7 @@ use Rattle.ring_counters.specs.declared.manager.CountersManager.{CountersManager
 use Rattle.ring_counters.specs.Manager.{registry_of, writes_of, shares_of, table_of}
 use Rattle.ring_protocol.specs.declared.reply.Reply.{Reply}
 use Rattle.ring_counters.specs.Registry.{Registry, allocation_of, new_counter}
-use Rattle.ring_conductor.specs.declared.conductor.apply.Wanted.{Wanted}
+use Rattle.ring_conductor.specs.declared.conductor.working.Wanted.{Wanted}
 use Rattle.ring_conductor.specs.Applied.{Outcome, allocated}
 
 -- what a command does that asks for a counter

@@ -1,5 +1,4 @@
 //! The conductor, and what it says of its work.
-pub(crate) mod apply;
 pub(crate) mod heartbeat;
 pub(crate) mod run;
 pub(crate) mod subscriptions;

@@ -1,7 +1,8 @@
 //! The conductor at work: it takes the commands of a read, applies each, and replies to it.
 ghost use Rattle.ring_board.specs.Board.{heard_by, transmitted};
 ghost use Rattle.ring_board.specs.Seats.{IsTransmitterOf, view_of, capacity_of, tail_of};
-ghost use Rattle.ring_conductor.specs.Conducting.{AreUnused, IsConductorOf, Works, work_stop, consumer_of, manager_in, ledger_of, ring_view, transmitter_of, value_shares_of};
+ghost use Rattle.ring_conductor.specs.Conducting.{AreUnused, IsConductorOf, Works, work_stop, consumer_of, manager_in};
+ghost use Rattle.ring_conductor.specs.Conducting.{ledger_of, ring_view, transmitter_of, value_shares_of};
 ghost use Rattle.ring_conductor.specs.Fold.{replied};
 ghost use Rattle.ring_conductor.specs.Serving.{IsReady, IsSameHandler, ledger_of as served_of, ActsOn};
 ghost use Rattle.ring_layout.specs.History.{span};
@@ -9,12 +10,18 @@ ghost use Rattle.ring_layout.specs.Lists.{Begins};
 ghost use Rattle.ring_layout.specs.Places.{max_position, end_after};
 ghost use Rattle.ring_rings.specs.Seats.{consumer_view, taken_of};
 ghost use Rattle.std.specs.Prelude.{◌≡◌, ◌^◌, ◌≤◌, [], length};
+ghost use Rattle.ring_counters.specs.Manager.{registry_of, IsManagerOf};
+ghost use Rattle.ring_protocol.specs.Command.{content_of, Free as FreeOf, Set as SetOf, Close as CloseOf};
+ghost use Rattle.ring_protocol.specs.declared.reply.Reply.TheVariants.{Refused};
+ghost use Rattle.ring_conductor.specs.Applied.{applied, obeyed};
+ghost use Rattle.ring_conductor.specs.Applying.{Applies, allocates};
 
-use crate::conductor::apply::apply;
 use crate::conductor::{Conductor, Work, WorkStop};
 use ring_board::{Board, Transmitter};
 use ring_counters::{CounterValues, CountersManager};
-use ring_protocol::{LONGEST_REPLY, Reply, encode_reply, reply_type_ids as type_ids};
+use ring_protocol::{
+    Command, LONGEST_REPLY, Reply, decode_command, encode_reply, reply_type_ids as type_ids,
+};
 use ring_rings::{CommandSource, Consumer};
 use ring_words::{Action, Handler, Stop};
 
@@ -168,5 +175,155 @@ impl Handler for Serving<'_> {
 
     fn on_message(&mut self, type_id: i32, body: &[u8]) -> Action {
         serve(self, type_id, body)
+    }
+}
+
+/// A counter that a command asks for.
+#[derive(Clone, Copy)]
+struct Wanted<'a> {
+    type_id: i32,
+    owner: u64,
+    key: &'a [u8],
+    label: &'a [u8],
+}
+
+/// The reply to a command that was refused.
+fn refused(correlation: u64, code: i32) -> Reply
+    ensures { result ≡ Refused correlation code }
+{
+    Reply::Refused { correlation, code }
+}
+
+fn allocate(
+    counters: &mut CountersManager,
+    values: &CounterValues,
+    now: u64,
+    correlation: u64,
+    wanted: Wanted<'_>,
+) -> Reply
+    requires { IsManagerOf values.now counters.old }
+    ensures { Applies (allocates (registry_of counters.old) now correlation wanted.entry)
+        counters.old counters.new result }
+{
+    let Wanted {
+        type_id,
+        owner,
+        key,
+        label,
+    } = wanted;
+    match counters.allocate_owned(values, now, type_id, key, label, correlation, owner) {
+        Ok(id) => Reply::Allocated { correlation, id },
+        Err(fault) => refused(correlation, fault.code()),
+    }
+}
+
+fn free(counters: &mut CountersManager, now: u64, correlation: u64, id: u32) -> Reply
+    requires { now ≤ 2 ^ 62 }
+    ensures { Applies (obeyed now (registry_of counters.old) (FreeOf correlation id))
+        counters.old counters.new result }
+{
+    match counters.free(now, id) {
+        Ok(()) => Reply::Done { correlation },
+        Err(fault) => refused(correlation, fault.code()),
+    }
+}
+
+fn set(
+    counters: &mut CountersManager,
+    values: &CounterValues,
+    correlation: u64,
+    id: u32,
+    value: i64,
+) -> Reply
+    requires { IsManagerOf values.now counters.old }
+    ensures { Applies (obeyed 0 (registry_of counters.old) (SetOf correlation id value))
+        counters.old counters.new result }
+{
+    match counters.set(values, id, value) {
+        Ok(()) => Reply::Done { correlation },
+        Err(fault) => refused(correlation, fault.code()),
+    }
+}
+
+fn close(counters: &mut CountersManager, now: u64, correlation: u64, owner: u64) -> Reply
+    requires { now ≤ 2 ^ 62 }
+    ensures { Applies (obeyed now (registry_of counters.old) (CloseOf correlation owner))
+        counters.old counters.new result }
+{
+    match counters.close_owner(now, owner) {
+        Ok(freed) => Reply::Closed { correlation, freed },
+        Err(fault) => refused(correlation, fault.code()),
+    }
+}
+
+/// Applies a command at a moment, and returns its reply.
+fn obey(
+    counters: &mut CountersManager,
+    values: &CounterValues,
+    now: u64,
+    command: Command<'_>,
+) -> Reply
+    requires values { IsManagerOf values.now counters.old }
+    requires now { now ≤ 2 ^ 62 }
+    ensures { Applies (obeyed now (registry_of counters.old) (content_of command.entry))
+        counters.old counters.new result }
+{
+    match command {
+        Command::Allocate {
+            correlation,
+            type_id,
+            key,
+            label,
+        } => {
+            let wanted = Wanted {
+                type_id,
+                owner: 0,
+                key,
+                label,
+            };
+            allocate(counters, values, now, correlation, wanted)
+        }
+        Command::AllocateOwned {
+            correlation,
+            type_id,
+            owner,
+            key,
+            label,
+        } => {
+            let wanted = Wanted {
+                type_id,
+                owner,
+                key,
+                label,
+            };
+            allocate(counters, values, now, correlation, wanted)
+        }
+        Command::Free { correlation, id } => free(counters, now, correlation, id),
+        Command::Set {
+            correlation,
+            id,
+            value,
+        } => set(counters, values, correlation, id, value),
+        Command::Close { correlation, owner } => close(counters, now, correlation, owner),
+    }
+}
+
+/// Applies a message at a moment, and returns its one reply. If the message cannot be read, or the counters refuse it,
+/// nothing changes, and the reply is `Refused`.
+pub(crate) fn apply(
+    counters: &mut CountersManager,
+    values: &CounterValues,
+    now: u64,
+    type_id: i32,
+    body: &[u8],
+) -> Reply
+    requires values { IsManagerOf values.now counters.old }
+    requires now { now ≤ 2 ^ 62 }
+    ensures { Applies (applied now (registry_of counters.old) (record { type_id = type_id; body = body.now }))
+        counters.old counters.new result }
+{
+    match decode_command(type_id, body) {
+        Ok(command) => obey(counters, values, now, command),
+        Err(bad) => refused(bad.correlation(), bad.code()),
     }
 }
