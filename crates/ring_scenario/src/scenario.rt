@@ -1,7 +1,8 @@
-//! Runs a scenario.
-ghost use Rattle.std.specs.Prelude.{◌≡◌, ◌≤◌, length, Some, IfSome, OnOk, IfErr};
+//! Runs a scenario, whose text is read whole.
+ghost use Rattle.std.specs.Prelude.{◌≡◌, ◌≤◌, length, Some, IfSome, OnOk, IfErr, ◌≢◌, ◌<◌, ℕ, IfOk, vec_len};
 ghost use Rattle.ring_scenario.specs.Faults.{IsEarly, IsOfWriting, OfLine};
-ghost use Rattle.ring_scenario.specs.Running.{FailsAt, FailsScenario, IsNotBlankAt, RunsScenario, RunsText, RunsToEnd, StopsAt, ended_text, finished_text};
+ghost use Rattle.ring_scenario.specs.Running.{FailsAt, FailsScenario, IsNotBlankAt, RunsScenario, RunsText, RunsToEnd};
+ghost use Rattle.ring_scenario.specs.Running.{StopsAt, ended_text, finished_text};
 ghost use Rattle.ring_scenario.specs.Sizes.{size_fault_of};
 ghost use Rattle.std.specs.Io.KnownBytes.{Appends};
 ghost use Rattle.ring_lines.specs.Text.{lines_of, AllBlank};
@@ -9,16 +10,18 @@ ghost use Rattle.ring_counters.specs.Manager.{registry_of};
 ghost use Rattle.ring_counters.specs.Registry.{live_of};
 
 use crate::fault::RunFault;
-use crate::input::read_input;
 use crate::options::Options;
 use crate::runner::{Ended, Runner};
 use crate::service::Served;
 use ring_counters::CountersManager;
 use ring_lines::{Line, Lines, MAX_INPUT};
 use std::alloc::Global;
-use std::io::{Read, Write};
+use std::io::{ErrorKind, Read, Write};
 use std::sync::Wait;
 use std::thread::Threads;
+
+/// The most calls of the reader.
+pub const MAX_READS: u32 = 2_097_152;
 
 /// Reads a scenario whole, executes its lines in order, and writes what each of them gives.
 pub fn run_scenario<R: AllocGlobal + Threads + Wait, I: Read, O: Write>(
@@ -49,6 +52,36 @@ pub fn run_scenario<R: AllocGlobal + Threads + Wait, I: Read, O: Write>(
     let runner = Runner::new(alloc, options)?;
     let input = read_input(alloc, reader)?;
     run_text(rt, alloc, runner, input.as_slice(), writer)
+}
+
+/// Reads to the end. An interrupted read is tried again, and counts as a call.
+fn read_input<R: Read>(alloc: Global, reader: &mut R) -> Result<Vec<u8>, RunFault>
+    ensures whole { IfOk result (λ input. IfSome (R.remaining reader.old) (λ bytes. input.items ≡ bytes)) }
+    ensures short { IfOk result (λ input. vec_len input ≤ MAX_INPUT) }
+    ensures lawful { result ≢ Err RunFault.BadCapacity × result ≢ Err RunFault.BadCount
+        × result ≢ Err RunFault.OutputUnwritten × ((line : ℕ) → result ≢ Err (RunFault.BadLine line)) }
+    ensures long { result ≡ Err RunFault.InputTooLong
+        → IfSome (R.remaining reader.old) (λ bytes. MAX_INPUT < length bytes) }
+{
+    let mut input = Vec::new(alloc);
+    let mut chunk = [0; 4096];
+    for _ in 0..MAX_READS {
+        match reader.read(&mut chunk) {
+            Ok(0) => return Ok(input),
+            Ok(n) => {
+                if n > MAX_INPUT - input.len() {
+                    return Err(RunFault::InputTooLong);
+                }
+                input.extend_from_slice(&chunk[..n])?;
+            }
+            Err(error) => {
+                if error.kind() != ErrorKind::Interrupted {
+                    return Err(RunFault::InputUnread);
+                }
+            }
+        }
+    }
+    Err(RunFault::InputUnread)
 }
 
 /// Executes the lines of a text in order, closes what the runner holds, and writes how it ended.

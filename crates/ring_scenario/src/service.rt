@@ -10,7 +10,6 @@ ghost use Rattle.ring_scenario.specs.Watchers.{AreWatchedBy};
 mod closing;
 mod listening;
 mod making;
-mod sending;
 mod watching;
 mod working;
 
@@ -25,8 +24,8 @@ use ring_standalone::Numbered;
 /// the counters' values. Listeners and watchers are numbered from 1, each kind for itself. No number is given twice.
 #[derive(Drop)]
 pub struct CommandService {
-    ring: ManyToOneRing,
-    producer: Producer,
+    pub(crate) ring: ManyToOneRing,
+    pub(crate) producer: Producer,
     board: Board,
     values: CounterValues,
     conductor: Conductor,
