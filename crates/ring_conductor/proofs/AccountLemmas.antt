@@ -23,12 +23,9 @@ use Rattle.ring_conductor.specs.Account.{Account, IsFoldOf, account_of, entered,
 use Rattle.ring_layout.specs.Lists.{Begins}
 use Rattle.ring_conductor.specs.Conducting.{Works}
 use Rattle.ring_conductor.specs.Running.{Runs}
+use Rattle.ring_conductor.specs.Service.{account_in}
 use Rattle.ring_rings.proofs.SentLemmas.{messages_of-append}
 use Rattle.ring_conductor.proofs.SizeLemmas.{folds_size, fresh_again}
-
--- what a ledger says over plain lists
-abbrev pub account_in : Ledger → Account
-account_in l = record { registry = l.registry; writes = l.writes; replies = messages_in l.board.sent }
 
 messages_in-append : (a b : List Record) → messages_in (a ++ b) ≡ messages_in a ++ messages_in b
 messages_in-append [] b = refl

@@ -8,3 +8,4 @@ pub mod GatheringLemmas
 pub mod AskingLemmas
 pub mod DrawLemmas
 pub mod WholeLemmas
+pub mod ServiceLemmas

@@ -17,7 +17,8 @@ use Rattle.ring_conductor.specs.Account.{Account, account_of}
 use Rattle.ring_conductor.specs.Asking.{asked, drawn_in, Sends}
 use Rattle.ring_conductor.specs.Fold.{Ledger, at_moment, fold_of}
 use Rattle.ring_conductor.specs.Whole.{committed, settled_message}
-use Rattle.ring_conductor.proofs.AccountLemmas.{account_in, account_of-append, same_fold}
+use Rattle.ring_conductor.specs.Service.{account_in}
+use Rattle.ring_conductor.proofs.AccountLemmas.{account_of-append, same_fold}
 use Rattle.ring_conductor.proofs.DrawLemmas.{all_drawn, drawn_below, same_one}
 use Rattle.ring_rings.proofs.SentLemmas.{messages_of-append}
 

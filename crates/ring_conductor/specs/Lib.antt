@@ -7,4 +7,5 @@ pub mod Conducting
 pub mod Finishing
 pub mod Running
 pub mod Asking
+pub mod Service
 pub mod Whole

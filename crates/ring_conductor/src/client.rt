@@ -4,7 +4,7 @@ ghost use Rattle.ring_protocol.specs.Command.{content_of};
 ghost use Rattle.ring_rings.specs.Claiming.{RefusesTry, Writes};
 ghost use Rattle.ring_rings.specs.Seats.{capacity_of, IsProducerOf, MayClaim, OpensNone};
 ghost use Rattle.ring_table.specs.ServiceSteps.{DrawsId, LoadsHeartbeat};
-ghost use Rattle.std.specs.Prelude.{◌≡◌, length, IfErr, IfOk, OnOk};
+ghost use Rattle.std.specs.Prelude.{◌≡◌, length, IfErr, IfOk, OnErr, OnOk};
 
 use ring_board::{Board, CopyReceiver, Lapped};
 use ring_protocol::{Command, LONGEST_COMMAND, Reply, decode_reply, encode_command};
@@ -123,6 +123,7 @@ impl<'a> Request<'a> {
 impl Client {
     ghost use Rattle.ring_conductor.specs.Asking.{IsHeard, IsSendable, RefusesAs, RefusesSend, Sends, SendsAs};
     ghost use Rattle.ring_conductor.specs.Asking.{client_seat, client_view, producer_of, receiver_of};
+    ghost use Rattle.ring_conductor.specs.Service.{sent_by, Polls, SendsRequest};
 
     /// Makes a client of a producer of the command ring and a receiver of the broadcast buffer with the replies.
     pub fn new(producer: Producer, receiver: CopyReceiver) -> Client
@@ -153,6 +154,7 @@ impl Client {
     pub fn next_correlation_id<K, B: Steps>(&mut self, ring: &Ring<K, B>) -> u64
         requires { IsProducerOf ring.now (producer_of self.old) }
         ensures producer { IsProducerOf ring.now (producer_of self.new) }
+        ensures same { sent_by self.new ≡ sent_by self.old }
         ensures draws { DrawsId (client_view self.old) result (client_view self.new) }
         ensures keeps { OpensNone ring.now (producer_of self.old) (producer_of self.new) }
         ensures receiver { receiver_of self.new ≡ receiver_of self.old }
@@ -165,6 +167,7 @@ impl Client {
     pub fn heartbeat<K, B: Steps>(&mut self, ring: &Ring<K, B>) -> u64
         requires { IsProducerOf ring.now (producer_of self.old) }
         ensures producer { IsProducerOf ring.now (producer_of self.new) }
+        ensures same { sent_by self.new ≡ sent_by self.old }
         ensures loads { LoadsHeartbeat (capacity_of ring.now) (client_view self.old) result (client_view self.new) }
         ensures keeps { OpensNone ring.now (producer_of self.old) (producer_of self.new) }
         ensures receiver { receiver_of self.new ≡ receiver_of self.old }
@@ -186,6 +189,8 @@ impl Client {
         requires producer { IsProducerOf ring.now (producer_of self.old) }
         requires sole { MayClaim K.many (producer_of self.old) }
         ensures producer { IsProducerOf ring.now (producer_of self.new) }
+        ensures sends { OnOk result (SendsRequest request.entry correlation self.old self.new)
+            × OnErr result (sent_by self.new ≡ sent_by self.old) }
         ensures sent { OnOk result (IsSendable request.entry × SendsAs (Writes K.many) (capacity_of ring.now)
             correlation request.entry (client_view self.old) (client_view self.new)) }
         ensures refused { IfErr result (λ fault. RefusesAs (RefusesTry K.many) (capacity_of ring.now) correlation
@@ -225,6 +230,8 @@ impl Client {
         requires producer { IsProducerOf ring.now (producer_of self.old) }
         requires sole { MayClaim K.many (producer_of self.old) }
         ensures producer { IsProducerOf ring.now (producer_of self.new) }
+        ensures sends { IfOk result (λ correlation. SendsRequest request.entry correlation self.old self.new)
+            × OnErr result (sent_by self.new ≡ sent_by self.old) }
         ensures sent { IfOk result (λ correlation. IsSendable request.entry × Sends (Writes K.many)
             (capacity_of ring.now) request.entry (client_view self.old) correlation (client_view self.new)) }
         ensures refused { IfErr result (λ fault. RefusesSend (RefusesTry K.many) (capacity_of ring.now) request.entry
@@ -248,6 +255,7 @@ impl Client {
     pub fn poll(&mut self, board: &Board, correlation: u64) -> Polled
         requires { IsReceiverOf board.now (receiver_of self.old) }
         ensures receiver { IsReceiverOf board.now (receiver_of self.new) }
+        ensures polls { Polls correlation self.old self.new result }
         ensures heard { IsHeard correlation (client_seat self.old) (client_seat self.new) result }
         ensures producer { producer_of self.new ≡ producer_of self.old }
     {

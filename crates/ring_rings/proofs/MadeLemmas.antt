@@ -5,14 +5,14 @@ use lib.ListN.{get_elem?}
 use Rattle.atomic_table.proofs.Lists.{at_longer}
 use Rattle.ring_table.specs.declared.claim.StagedClaim.{StagedClaim}
 use Rattle.ring_layout.specs.declared.message.ClaimState.TheVariants.{Committed, Open}
-use Rattle.ring_table.specs.declared.claim.Stage.TheVariants.{Stored}
+use Rattle.ring_table.specs.declared.claim.Stage.TheVariants.{Padded, Stored}
 use Rattle.ring_table.specs.declared.view.View.{View}
 use Rattle.ring_layout.specs.History.{span}
 use Rattle.ring_layout.specs.Places.{end_after, next_place}
 use Rattle.ring_layout.proofs.PlaceLemmas.{next_le}
 use Rattle.ring_table.specs.OpenClaims.{one_if_open, open_count}
 use Rattle.ring_table.specs.Views.{with_claim, with_claims}
-use Rattle.ring_table.specs.Changes.{blank, fresh_stage, recorded, with_header}
+use Rattle.ring_table.specs.Changes.{blank, fresh_stage, recorded, staged, with_header}
 use Rattle.ring_table.specs.Staged.{AreRising, AreStored, IsStored, stage_state, staged_span}
 use Rattle.ring_table.specs.ProducerSteps.{EndBelow, HasClaimAt, IsStagedOpen}
 use Rattle.ring_words.specs.Open.{ClaimAt}
@@ -20,13 +20,14 @@ use Rattle.ring_layout.specs.declared.admission.Admission.{Admission}
 use Rattle.ring_rings.specs.declared.ring.Producer.{Producer}
 use Rattle.ring_rings.specs.declared.ring.Ring.{Ring}
 use Rattle.ring_rings.specs.declared.steps.Steps.{Ghosts}
+use Rattle.ring_rings.specs.Bodies.{HasPaddedLast, IsPaddedLast}
 use Rattle.ring_rings.specs.Claiming.{claim_behind, looked, record_behind, tail_refusal_of, SeesRoom}
 use Rattle.ring_rings.specs.Making.{GoesBehind, IsNewest, Moves}
 use Rattle.ring_rings.specs.Matching.{Matches}
 use Rattle.ring_rings.specs.Seats.{IsNewClaimOf, IsOpenClaimOf, KeepsClaims}
 use Rattle.ring_rings.proofs.CountLemmas.{open_count-more, open_few, stored_more}
 use Rattle.ring_rings.proofs.LeavingLemmas.{AsManyOpen, as_many_open}
-use Rattle.ring_rings.proofs.NewestLemmas.{has_last, rising_few}
+use Rattle.ring_rings.proofs.NewestLemmas.{has_last, is_padded, is_recorded, rising_few}
 use Rattle.ring_rings.proofs.RisingLemmas.{rising_more}
 
 -- a claim stays if others come after it
@@ -188,7 +189,7 @@ module _ {C tail : ℕ} {type_id : ℤ} {len : ℕ} {front : List (ℕ × ℕ)} 
       })
 
   -- once its header and its body are stored, it is the record after the tail
-  pub moved_recorded : (body : List ℕ) → length body ≡ len → (u : View)
+  moved_recorded : (body : List ℕ) → length body ≡ len → (u : View)
       → u ≡ with_claims (v.producer.claims ++ recorded type_id body m.claim ∷ []) w
       → u ≡ with_claims (v.producer.claims ++ record_behind C tail type_id body ∷ []) w
   moved_recorded body long u stored =
@@ -202,6 +203,26 @@ module _ {C tail : ℕ} {type_id : ℤ} {len : ℕ} {front : List (ℕ × ℕ)} 
         stage = Stored Committed;
       }) (is.same ∙ ap span (sym long)) in
       stored ∙ ap (λ (c : StagedClaim). with_claims (v.producer.claims ++ c ∷ []) w) same
+
+  after_tail : a.tail ≤ a.place
+  after_tail = let on = next_le C tail (span len) in let at = m.admitted in omega (arith, on, at.place, at.tail_is)
+
+  -- its padding is stored
+  module _ (x : View) (padded : x ≡ with_claims (v.producer.claims ++ staged Padded m.claim ∷ []) w) where
+    pub moved_padded : HasPaddedLast a.place len x
+    moved_padded = record {
+      others = v.producer.claims;
+      claim = staged Padded m.claim;
+      is = is_padded moved_newest after_tail padded;
+    }
+
+    -- and its record
+    pub moved_written : (body : List ℕ) → length body ≡ len → (u : View)
+        → ((ds : List StagedClaim) (d : StagedClaim) → IsPaddedLast a.place len ds d x
+        → u ≡ with_claims (ds ++ recorded type_id body d ∷ []) x)
+        → u ≡ with_claims (v.producer.claims ++ record_behind C tail type_id body ∷ []) w
+    moved_written body long u stored =
+        moved_recorded body long u (is_recorded moved_newest after_tail padded stored)
 
   -- what is known once its header is
   pub moved_made : AreRising v.producer.claims

@@ -11,7 +11,7 @@ ghost use Rattle.ring_rings.specs.Seats.{MayClaim, OpensNone};
 
 use crate::claim::Claim;
 use crate::fault::TryFault;
-use crate::producer::record::{store_headers, store_whole};
+use crate::producer::record::{store_headers, store_padding};
 use crate::producer::room::{admit, find_room, test_request};
 use crate::ring::{ManyToOne, OneToOne, Producer, Ring};
 use crate::steps::Steps;
@@ -126,7 +126,8 @@ impl Kind for OneToOne {
         let (words, own_tail) = (&ring.table, producer.own_tail);
         let seat = &mut producer.seat;
         let admission = Self::try_move(words, seat, ring.capacity, own_tail, wanted)?;
-        store_whole(words, seat, ring.capacity, admission, wanted, body);
+        store_padding(words, seat, ring.capacity, admission);
+        words.store_record(seat, ring.capacity, admission.place, wanted, body);
         producer.own_tail = admission.end;
         Ok(())
     }
@@ -168,7 +169,8 @@ impl Kind for ManyToOne {
         let (words, own_tail) = (&ring.table, producer.own_tail);
         let seat = &mut producer.seat;
         let admission = Self::try_move(words, seat, ring.capacity, own_tail, wanted)?;
-        store_whole(words, seat, ring.capacity, admission, wanted, body);
+        store_padding(words, seat, ring.capacity, admission);
+        words.store_record(seat, ring.capacity, admission.place, wanted, body);
         producer.own_tail = admission.end;
         Ok(())
     }

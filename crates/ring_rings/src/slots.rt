@@ -25,27 +25,6 @@ use ring_table::{
 };
 use std::alloc::{AllocError, Global};
 
-/// Writes the body of the newest claim into its slots, and then commits it. The claim gets no header before that.
-#[inline(always)]
-fn store_record(
-    slots: &SharedRing<InSlots>,
-    seat: &mut RingSeat,
-    capacity: u32,
-    place: u64,
-    wanted: Wanted,
-    body: &[u8],
-)
-    requires seat { IsSeatOf slots.now.table_id slots.now.key capacity seat.old }
-    requires message { IsMessage capacity (blank wanted.type_id wanted.len) }
-    requires len { length body.now ≡ wanted.len }
-    requires last { HasPaddedLast place wanted.len seat.old.me.0 }
-    ensures seat { IsSameSeat seat.old seat.new }
-    ensures stored { (cs : List StagedClaim) (c : StagedClaim) → IsPaddedLast place wanted.len cs c seat.old.me.0
-        → seat.new.me.0 ≡ with_claims (cs ++ recorded wanted.type_id body.now c ∷ []) seat.old.me.0 }
-{
-    write_slots(slots, seat, capacity, place, wanted, body);
-}
-
 /// Puts bytes into an open claim of `len` bytes, from the byte `offset` of its body on.
 fn put_bytes(
     slots: &SharedRing<InSlots>,
@@ -251,7 +230,7 @@ impl Steps for SlotTable {
         wanted: Wanted,
         body: &[u8],
     ) {
-        store_record(&self.shared, seat, capacity, place, wanted, body);
+        write_slots(&self.shared, seat, capacity, place, wanted, body);
     }
 
     #[inline(always)]

@@ -1,7 +1,7 @@
 //! The steps of a ring whose bodies lie in words, one atomic word for eight bytes, as the ring's format has it.
 use crate::consumer::load::load_body;
 use crate::consumer::pass::clear_up;
-use crate::producer::record::{put_bytes, store_record};
+use crate::producer::record::{put_bytes, store_body};
 use crate::steps::{Closes, Steps};
 use ring_table::{
     Key, RingSeat, RingTable, Wanted, close, copy_words, draw_correlation_id, join_consumer,
@@ -118,7 +118,10 @@ impl Steps for RingTable {
         wanted: Wanted,
         body: &[u8],
     ) {
-        store_record(&self.shared, seat, capacity, place, wanted, body);
+        let words = &self.shared;
+        store_claimed_header(words, seat, capacity, place, wanted);
+        store_body(words, seat, capacity, place, body);
+        store_committed_header(words, seat, capacity, place, wanted);
     }
 
     #[inline(always)]

@@ -4,6 +4,7 @@ ghost use Rattle.ring_board.specs.Seats.{IsTransmitterOf, view_of, capacity_of, 
 ghost use Rattle.ring_conductor.specs.Conducting.{AreUnused, IsConductorOf, Works, work_stop, consumer_of, manager_in};
 ghost use Rattle.ring_conductor.specs.Conducting.{ledger_of, ring_view, transmitter_of, value_shares_of};
 ghost use Rattle.ring_conductor.specs.Fold.{replied};
+ghost use Rattle.ring_conductor.specs.Service.{Serves};
 ghost use Rattle.ring_conductor.specs.Serving.{IsReady, IsSameHandler, ledger_of as served_of, ActsOn};
 ghost use Rattle.ring_layout.specs.History.{span};
 ghost use Rattle.ring_layout.specs.Lists.{Begins};
@@ -102,6 +103,7 @@ impl Conductor {
         requires conductor { IsConductorOf R.is_consumer ring.now board.now values.now self.old }
         requires now { now ≤ 2 ^ 62 }
         ensures conductor { IsConductorOf R.is_consumer ring.now board.now values.now self.new }
+        ensures serves { Serves now self.old self.new result.messages }
         ensures works { Works now limit (ring_view self.old) (ring_view self.new)
             (ledger_of self.old) (ledger_of self.new) result }
         ensures grows { Begins (transmitted (transmitter_of self.old)) (transmitted (transmitter_of self.new)) }

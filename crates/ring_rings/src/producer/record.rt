@@ -1,7 +1,7 @@
 //! The record of a claim: its headers, and its body if the ring has bodies in words.
 ghost use Rattle.ring_layout.specs.History.{IsMessage};
 ghost use Rattle.ring_layout.specs.Places.{index, max_position};
-ghost use Rattle.ring_rings.specs.Bodies.{loaded, put_at, HasPaddedLast, HasRoom, IsFreshClaim, IsPaddedLast, MergesWord, PutsBytes, TakesFresh};
+ghost use Rattle.ring_rings.specs.Bodies.{loaded, put_at, HasPaddedLast, HasRoom, IsFreshClaim, IsPaddedLast, MergesWord, PutsBytes};
 ghost use Rattle.ring_rings.specs.Making.{HasNewest, IsNewest};
 ghost use Rattle.ring_table.specs.Changes.{blank, recorded, with_body_word, staged, with_header};
 ghost use Rattle.ring_table.specs.ProducerSteps.{HasClaimAt};
@@ -18,34 +18,9 @@ use ring_table::{
     store_committed_header,
 };
 
-/// Stores a word of the newest claim's body, which is 0 so far from the byte offset `at` on. Its index in the buffer is
-/// `target`.
-#[inline(always)]
-fn store_fresh_word(
-    words: &SharedRing<InWords>,
-    seat: &mut RingSeat,
-    capacity: u32,
-    place: u64,
-    at: u64,
-    target: usize,
-    word: u64,
-)
-    requires seat { IsSeatOf words.now.table_id words.now.key capacity seat.old }
-    requires target { target ≡ index capacity (place + 8 + at) }
-    requires fresh { (cs : List StagedClaim) × (c : StagedClaim) × TakesFresh place at word cs c seat.old.me.0 }
-    ensures seat { IsSameSeat seat.old seat.new }
-    ensures stored { (cs : List StagedClaim) (c : StagedClaim) → TakesFresh place at word cs c seat.old.me.0
-        → seat.new.me.0 ≡ with_claims (cs ++ with_body_word at word c ∷ []) seat.old.me.0 }
-{
-    // What is 0 already needs no store.
-    if word != 0 {
-        store_body_word(words, seat, capacity, place, at, target, word);
-    }
-}
-
 /// Stores a whole body into the newest claim, which has its length and zeros for its bytes.
 #[inline(always)]
-fn store_body(
+pub(crate) fn store_body(
     words: &SharedRing<InWords>,
     seat: &mut RingSeat,
     capacity: u32,
@@ -66,37 +41,18 @@ fn store_body(
     let whole = body.len() / 8;
     for k in 0..whole {
         let word = first_word(&body[8 * k..8 * k + 8]);
-        store_fresh_word(words, seat, capacity, place, 8 * k as u64, first + k, word);
+        // What is 0 already needs no store.
+        if word != 0 {
+            store_body_word(words, seat, capacity, place, 8 * k as u64, first + k, word);
+        }
     }
     if 8 * whole < body.len() {
         let word = first_word(&body[8 * whole..]);
         let at = 8 * whole as u64;
-        store_fresh_word(words, seat, capacity, place, at, first + whole, word);
+        if word != 0 {
+            store_body_word(words, seat, capacity, place, at, first + whole, word);
+        }
     }
-}
-
-/// Stores the claimed header and the whole body of the newest claim, and then commits it.
-#[inline(always)]
-pub(crate) fn store_record(
-    words: &SharedRing<InWords>,
-    seat: &mut RingSeat,
-    capacity: u32,
-    place: u64,
-    wanted: Wanted,
-    body: &[u8],
-)
-    requires seat { IsSeatOf words.now.table_id words.now.key capacity seat.old }
-    requires message { IsMessage capacity (blank wanted.type_id wanted.len) }
-    requires len { length body.now ≡ wanted.len }
-    requires inside { (place ≤ max_position) × (place % capacity + 8 + length body.now ≤ capacity) }
-    requires last { HasPaddedLast place wanted.len seat.old.me.0 }
-    ensures seat { IsSameSeat seat.old seat.new }
-    ensures stored { (cs : List StagedClaim) (c : StagedClaim) → IsPaddedLast place wanted.len cs c seat.old.me.0
-        → seat.new.me.0 ≡ with_claims (cs ++ recorded wanted.type_id body.now c ∷ []) seat.old.me.0 }
-{
-    store_claimed_header(words, seat, capacity, place, wanted);
-    store_body(words, seat, capacity, place, body);
-    store_committed_header(words, seat, capacity, place, wanted);
 }
 
 /// The word of an open claim's body with these bytes in place of its own from byte `at` on. The word is loaded if the
@@ -153,14 +109,22 @@ pub(crate) fn put_bytes(
 }
 
 /// Stores the header of the padding before the newest claim, if there is any.
-fn store_padding<B: Steps>(words: &B, seat: &mut RingSeat, capacity: u32, tail: u64, place: u64)
+#[inline(always)]
+pub(crate) fn store_padding<B: Steps>(
+    words: &B,
+    seat: &mut RingSeat,
+    capacity: u32,
+    admission: Admission,
+)
     requires seat { IsSeatOf (B.table_of words.now) (B.key_of words.now) capacity seat.old }
-    requires near { (tail ≤ place) × (place ≤ tail + capacity) }
-    requires newest { (len : ℕ) × HasNewest tail place len seat.old.me.0 }
+    requires near { (admission.tail ≤ admission.place) × (admission.place ≤ admission.tail + capacity) }
+    requires newest { (len : ℕ) × HasNewest admission.tail admission.place len seat.old.me.0 }
     ensures seat { IsSameSeat seat.old seat.new }
-    ensures padded { (len : ℕ) (cs : List StagedClaim) (c : StagedClaim) → IsNewest tail place len cs c seat.old.me.0
+    ensures padded { (len : ℕ) (cs : List StagedClaim) (c : StagedClaim)
+        → IsNewest admission.tail admission.place len cs c seat.old.me.0
         → seat.new.me.0 ≡ with_claims (cs ++ staged Padded c ∷ []) seat.old.me.0 }
 {
+    let Admission { tail, place, .. } = admission;
     if place > tail {
         words.store_padding_header(seat, capacity, tail, place);
     }
@@ -183,34 +147,6 @@ pub(crate) fn store_headers<B: Steps>(
         → IsNewest admission.tail admission.place wanted.len cs c seat.old.me.0
         → seat.new.me.0 ≡ with_claims (cs ++ with_header wanted.type_id wanted.len c ∷ []) seat.old.me.0 }
 {
-    let Admission { tail, place, .. } = admission;
-    store_padding(words, seat, capacity, tail, place);
-    words.store_claimed_header(seat, capacity, place, wanted);
-}
-
-/// Stores the headers and the body of the newest claim, and commits it.
-#[inline(always)]
-pub(crate) fn store_whole<B: Steps>(
-    words: &B,
-    seat: &mut RingSeat,
-    capacity: u32,
-    admission: Admission,
-    wanted: Wanted,
-    body: &[u8],
-)
-    requires seat { IsSeatOf (B.table_of words.now) (B.key_of words.now) capacity seat.old }
-    requires message { IsMessage capacity (blank wanted.type_id wanted.len) }
-    requires near { (admission.tail ≤ admission.place) × (admission.place ≤ admission.tail + capacity) }
-    requires place { admission.place ≤ max_position }
-    requires len { length body.now ≡ wanted.len }
-    requires inside { admission.place % capacity + 8 + length body.now ≤ capacity }
-    requires newest { HasNewest admission.tail admission.place wanted.len seat.old.me.0 }
-    ensures seat { IsSameSeat seat.old seat.new }
-    ensures stored { (cs : List StagedClaim) (c : StagedClaim)
-        → IsNewest admission.tail admission.place wanted.len cs c seat.old.me.0
-        → seat.new.me.0 ≡ with_claims (cs ++ recorded wanted.type_id body.now c ∷ []) seat.old.me.0 }
-{
-    let Admission { tail, place, .. } = admission;
-    store_padding(words, seat, capacity, tail, place);
-    words.store_record(seat, capacity, place, wanted, body);
+    store_padding(words, seat, capacity, admission);
+    words.store_claimed_header(seat, capacity, admission.place, wanted);
 }

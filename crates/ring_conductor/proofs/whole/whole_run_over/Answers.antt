@@ -26,7 +26,8 @@ use Rattle.ring_conductor.specs.Conducting.{KeepsTheRest, consumer_of, ledger_of
 use Rattle.ring_rings.specs.Ring.{sent as sent_by, IsWhole}
 use Rattle.ring_conductor.specs.Finishing.{joined_by, replies_of}
 use Rattle.ring_conductor.specs.Whole.{Concludes, opening_ledger, settled_message}
-use Rattle.ring_conductor.proofs.AccountLemmas.{account_as, account_in, work_shares}
+use Rattle.ring_conductor.specs.Service.{account_in}
+use Rattle.ring_conductor.proofs.AccountLemmas.{account_as, work_shares}
 use Rattle.ring_conductor.proofs.WholeLemmas.{never_refused, two_folds, two_joined, two_reads, two_sent}
 use Rattle.ring_conductor.proofs.whole.whole_run_over.Goals as goal
 

@@ -1,6 +1,7 @@
 use Rattle.std.proofs.Common.{◌∙◌, refl, ap, length}
 use Rattle.ring_rings.specs.Claiming.{RefusesTry, Writes}
 use Rattle.ring_conductor.proofs.AskingLemmas.{too_long, encoded, spelled, of_type, written_as, refused_as}
+use Rattle.ring_conductor.proofs.ServiceLemmas.{sends_command}
 use Rattle.ring_conductor.proofs.client.Client.send_as.Goals as goal
 
 pub returns-in_default-clause-refused : goal.returns-in_default-clause-refused
@@ -26,4 +27,12 @@ returns-in-Err-clause-refused g c =
       refl,
       refused_as (RefusesTry g.K.Kind.many) _ _ _ _ _ _ _ _ (of_type _ _ _ is c.type_id.ensures)
           (ap length (spelled _ _ _ _ _ is c.in-Some.ensures)) c.in-Err.ensures.refused,
+    )
+
+pub returns-in-Ok-clause-sends : goal.returns-in-Ok-clause-sends
+returns-in-Ok-clause-sends g c =
+    let is = c.with_correlation-command.ensures in (
+      sends_command _ _ _ _ _ (of_type _ _ _ is c.type_id.ensures) (spelled _ _ _ _ _ is c.in-Some.ensures)
+          c.in-Ok.ensures.sent,
+      tt,
     )

@@ -3,7 +3,7 @@ use Rattle.ring_table.specs.declared.claim.StagedClaim.{StagedClaim}
 use Rattle.ring_table.specs.Changes.{recorded}
 use Rattle.ring_table.specs.Views.{with_claims}
 use Rattle.ring_rings.proofs.NewestLemmas.{changes_last}
-use Rattle.ring_rings.proofs.slots.store_record.Goals as goal
+use Rattle.ring_rings.proofs.slots.SlotTableSteps.store_record.Goals as goal
 
 pub write_slots-requires-clause-newest : goal.write_slots-requires-clause-newest
 write_slots-requires-clause-newest c = let h = c.requires.last in record {

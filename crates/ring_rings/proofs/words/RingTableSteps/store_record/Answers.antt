@@ -10,7 +10,7 @@ use Rattle.ring_table.specs.ProducerSteps.{IsStagedOpen, NeedsHeader, with_chang
 use Rattle.ring_rings.specs.Bodies.{put_at, IsFreshClaim, IsPaddedLast}
 use Rattle.ring_rings.proofs.BodyLemmas.{overwritten_all}
 use Rattle.ring_rings.proofs.NewestLemmas.{changes_last, has_last}
-use Rattle.ring_rings.proofs.producer.record.store_record.Goals as goal
+use Rattle.ring_rings.proofs.words.RingTableSteps.store_record.Goals as goal
 
 module _ (place : ℕ) (type_id : ℤ) (len : ℕ) (body : List ℕ) (same : length body ≡ len) (cs : List StagedClaim)
     (c : StagedClaim) (v w : View) (is : IsPaddedLast place len cs c v)
