@@ -7,7 +7,7 @@ use Rattle.ring_board.specs.declared.board.CopyReceiver.{CopyReceiver}
 use Rattle.ring_board.specs.Board.{copied, lapped_count_of, new_copy, LapsOnce}
 use Rattle.ring_protocol.specs.declared.reply.Reply.{Reply}
 use Rattle.ring_protocol.specs.Command.{Instruction, spelling_of, type_id_of}
-use Rattle.ring_protocol.specs.Reply.{correlation_id_of}
+use Rattle.ring_protocol.specs.Reply.{correlation_id_of, Spells}
 use Rattle.ring_conductor.specs.declared.client.Client.{Client}
 use Rattle.ring_conductor.specs.declared.client.Polled.{Polled}
 use Rattle.ring_conductor.specs.declared.client.Polled.TheVariants.{Answered, Another, NoReply, Nothing, Lapped}
@@ -62,7 +62,7 @@ Polls correlation old new (Answered r) =
 Polls correlation old new (Another r) =
     CopiesMessage (receiver_of old) (receiver_of new) (reply_message r) × (correlation_id_of r ≢ correlation)
 Polls correlation old new NoReply = (m : Message) × CopiesMessage (receiver_of old) (receiver_of new) m
-    × ((r : Reply) → m ≢ reply_message r)
+    × ((r : Reply) → Spells m.type_id m.body r → ⊥)
 Polls correlation old new Nothing = (lapped_count_of (receiver_of new) ≡ lapped_count_of (receiver_of old))
     × (copied (receiver_of new) ≡ copied (receiver_of old))
 Polls correlation old new (Lapped l) = LapsOnce l (receiver_of old).receiver (receiver_of new).receiver

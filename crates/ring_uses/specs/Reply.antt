@@ -1,16 +1,13 @@
 -- A request, and its reply.
 use Rattle.std.specs.Prelude.{◌≡◌, ℕ, pos, List, [], ◌∷◌, codes}
 use Rattle.ring_layout.specs.declared.message.Message.{Message}
-use Rattle.ring_rings.specs.Ring.{message, IsWhole}
-use Rattle.ring_protocol.specs.Command.{Instruction, Allocate, spelling_of, type_id_of}
+use Rattle.ring_rings.specs.Ring.{IsWhole}
+use Rattle.ring_protocol.specs.Command.{Allocate}
 use Rattle.ring_protocol.specs.Reply.{correlation_id_of}
 use Rattle.ring_conductor.specs.Account.{account_of, fresh_account, reply_message}
 use Rattle.ring_conductor.specs.Fold.{at_moment}
+use Rattle.ring_conductor.specs.Service.{command_message}
 use Rattle.ring_uses.specs.declared.reply.Answer.{Answer}
-
--- the message that spells a command
-abbrev pub command_message : Instruction → Message
-command_message c = message (type_id_of c) (spelling_of c)
 
 -- the command that asks for a counter of type 1, with an empty key and the label `requests`
 abbrev pub request_with : ℕ → Message

@@ -16,9 +16,9 @@ use Rattle.ring_conductor.specs.Account.{Account, account_of, messages_in, reply
 use Rattle.ring_conductor.specs.Asking.{client_seat, producer_of, receiver_of}
 use Rattle.ring_conductor.specs.Conducting.{ledger_of, received_of, transmitter_of}
 use Rattle.ring_conductor.specs.Fold.{at_moment}
-use Rattle.ring_conductor.proofs.AccountLemmas.{account_as, account_in, same_fold}
+use Rattle.ring_conductor.proofs.AccountLemmas.{account_as}
 use Rattle.ring_uses.specs.Reply.{replies_to, request_with, IsAnswered}
-use Rattle.ring_uses.proofs.ReplyLemmas.{heard_is_transmitted, one_reply, request_sent}
+use Rattle.ring_uses.proofs.ReplyLemmas.{copied_is_transmitted, one_reply}
 use Rattle.ring_uses.proofs.reply.ask.Goals as goal
 
 pub returns-in-Ok : goal.returns-in-Ok
@@ -32,17 +32,16 @@ returns-in-Ok c =
     let last = c.into_parts-producer.ensures.producer ∙ c.in-Answered.ensures.producer in
     let first = ap sent c.new-client.ensures.producer ∙ begins.0 in
     let sends = ap sent last
-    ∙ request_sent (capacity_of c.in_ok-ring.ring) _ (producer_of c.new-client.result) (producer_of c.send.new.self)
-    id c.in_ok-correlation.ensures.sent.1
+    ∙ c.in_ok-correlation.ensures.sends.0
     ∙ ap (λ l. l ++ request_with id ∷ []) first in
     -- what was received
-    let works = c.do_work.ensures.works in
-    let ms = messages_of works.messages in
+    let serves = c.do_work.ensures.serves in
+    let ms = serves.messages in
     let end = c.join_receiver.new.self in
     let start = ap (λ (x : Consumer). received x) (seated.others.consumer ∙ c.new-conductor.ensures.consumer)
     ∙ begins.1 in
     let taken = ap (λ (x : Consumer). messages_of (taken_of x)) c.join_receiver.ensures.others.consumer
-    ∙ ap messages_of works.received ∙ messages_of-append _ works.messages ∙ ap (λ l. l ++ ms) start in
+    ∙ serves.more ∙ ap (λ l. l ++ ms) start in
     let whole = c.in-Ok.ensures.headline.whole in
     -- what was transmitted
     let records = transmitted (transmitter_of c.do_work.new.self) in
@@ -53,19 +52,18 @@ returns-in-Ok c =
     let fresh = account_as (ledger_of c.subscribe.new.self)
     (ap (λ (m : CountersManager). registry_of m) made ∙ c.in_ok-values.ensures.registry)
     (ap (λ (m : CountersManager). writes_of m) made ∙ c.in_ok-values.ensures.writes) none in
-    let folded = ap account_in works.folded ∙ same_fold (ledger_of c.subscribe.new.self) (at_moment 0 ms)
-    ∙ ap (λ (a : Account). account_of a (at_moment 0 ms)) fresh in
-    let replies = ap (λ (a : Account). a.replies) folded in
+    let replies = ap (λ (a : Account). a.replies)
+    (serves.folded ∙ ap (λ (a : Account). account_of a (at_moment 0 ms)) fresh) in
     -- what was polled
-    let heard = c.in-Answered.ensures.heard in
+    let polled = c.in-Answered.ensures.polls in
     let new = receiver_of c.poll.new.self in
     let runs = subst (λ (r : CopyReceiver). AreRuns records (subscribed_at r) (copied r))
     c.into_parts-producer.ensures.receiver c.join_receiver.ensures.runs in
     let no_copies = ap (λ (r : CopyReceiver). copied r)
     (c.in_ok-correlation.ensures.receiver ∙ c.new-client.ensures.receiver)
     ∙ ap (λ (v : BoardView). v.copies) seated.receiver.1 in
-    let there = heard_is_transmitted records (subscribed_at new) reply (client_seat c.send.new.self)
-    (client_seat c.poll.new.self) no_copies heard.0 runs in
+    let there = copied_is_transmitted records (subscribed_at new) reply (receiver_of c.send.new.self) new no_copies
+    polled.0 runs in
     let one = one_reply (request_with id) ms whole.unread records (reply_message reply)
     (ap (λ l. l ++ whole.unread) (sym taken) ∙ whole.all ∙ sends) replies there in
     record {
@@ -75,5 +73,5 @@ returns-in-Ok c =
       all = taken ∙ one.0;
       replies = replies ∙ ap replies_to (sym taken);
       polled = one.1;
-      correlated = heard.1;
+      correlated = polled.1;
     }

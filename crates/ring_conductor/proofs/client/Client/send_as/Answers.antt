@@ -33,6 +33,6 @@ pub returns-in-Ok-clause-sends : goal.returns-in-Ok-clause-sends
 returns-in-Ok-clause-sends g c =
     let is = c.with_correlation-command.ensures in (
       sends_command _ _ _ _ _ (of_type _ _ _ is c.type_id.ensures) (spelled _ _ _ _ _ is c.in-Some.ensures)
-          c.in-Ok.ensures.sent,
+          c.in-Ok.ensures.sent.0,
       tt,
     )

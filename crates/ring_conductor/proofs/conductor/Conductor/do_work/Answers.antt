@@ -4,6 +4,7 @@ use Rattle.ring_board.specs.Seats.{IsTransmitterOf}
 use Rattle.ring_counters.specs.Manager.{IsManagerOf}
 use Rattle.ring_conductor.proofs.WorkLemmas.{took, took_room}
 use Rattle.ring_conductor.proofs.AccountLemmas.{works_on, works_grow, works_heard}
+use Rattle.ring_conductor.proofs.ServiceLemmas.{works_serve}
 use Rattle.ring_conductor.proofs.conductor.Conductor.do_work.Goals as goal
 
 pub shape_of-self : goal.shape_of-self
@@ -43,3 +44,6 @@ returns-clause-grows g c = works_grow _ _ _ _ _ _ _ c.take-work.ensures.works
 
 pub returns-clause-heard : goal.returns-clause-heard
 returns-clause-heard g c = works_heard _ _ _ _ _ _ _ c.take-work.ensures.works
+
+pub returns-clause-serves : goal.returns-clause-serves
+returns-clause-serves g c = works_serve _ _ _ _ _ c.take-work.ensures.works
