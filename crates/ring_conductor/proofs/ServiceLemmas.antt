@@ -1,5 +1,5 @@
 -- The service in a caller's words.
-use Rattle.std.proofs.Common.{◌≡◌, ◌∙◌, ℕ, ℤ, List, [], ◌∷◌, ◌++◌, length, refl, sym, ap}
+use Rattle.std.proofs.Common.{◌≡◌, ◌∙◌, ℕ, ℤ, List, [], ◌∷◌, ◌++◌, sym, ap}
 use Rattle.ring_layout.specs.declared.message.Message.{Message}
 use Rattle.ring_rings.specs.Reading.{messages_of}
 use Rattle.ring_rings.specs.Ring.{message}
@@ -8,7 +8,6 @@ use Rattle.ring_rings.proofs.SentLemmas.{messages_of-append}
 use Rattle.ring_protocol.specs.Command.{Instruction, spelling_of, type_id_of}
 use Rattle.ring_conductor.specs.declared.conductor.Conductor.{Conductor}
 use Rattle.ring_conductor.specs.declared.conductor.Work.{Work}
-use Rattle.ring_conductor.specs.Account.{account_of}
 use Rattle.ring_conductor.specs.Conducting.{ledger_of, ring_view, Works}
 use Rattle.ring_conductor.specs.Fold.{at_moment}
 use Rattle.ring_conductor.specs.Service.{account_in, command_message, Serves}

@@ -1,6 +1,6 @@
 -- The service in a caller's words: the commands that a client sent, what the conductor made of them, and the replies that
 -- the client received.
-use Rattle.std.specs.Prelude.{◌≡◌, ◌≢◌, ℕ, ℤ, List, [], ◌∷◌, ◌++◌, length}
+use Rattle.std.specs.Prelude.{◌≡◌, ◌≢◌, ℕ, List, [], ◌∷◌, ◌++◌, length}
 use Rattle.ring_layout.specs.declared.message.Message.{Message}
 use Rattle.ring_rings.specs.Ring.{message, received, sent}
 use Rattle.ring_board.specs.declared.board.CopyReceiver.{CopyReceiver}

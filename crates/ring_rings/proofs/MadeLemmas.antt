@@ -1,5 +1,5 @@
 -- What follows from a claim that was made.
-use Rattle.std.proofs.Common.{◌≡◌, ◌≢◌, ℕ, ◌+◌, ◌%◌, ◌^◌, ◌<◌, ◌≤◌, ℤ, List, [], ◌∷◌, ◌++◌, false, length, None, refl, sym, ap, ◌∙◌, ◌==◌, subst, arith}
+use Rattle.std.proofs.Common.{◌≡◌, ◌≢◌, ℕ, ◌+◌, ◌%◌, ◌^◌, ◌<◌, ◌≤◌, ℤ, List, [], ◌∷◌, ◌++◌, false, length, replicate, None, refl, sym, ap, ◌∙◌, ◌==◌, subst, arith}
 use Rattle.std.proofs.lemmas.List.{length-replicate}
 use lib.ListN.{get_elem?}
 use Rattle.atomic_table.proofs.Lists.{at_longer}
@@ -24,6 +24,7 @@ use Rattle.ring_rings.specs.Bodies.{HasPaddedLast, IsPaddedLast}
 use Rattle.ring_rings.specs.Claiming.{claim_behind, looked, record_behind, tail_refusal_of, SeesRoom}
 use Rattle.ring_rings.specs.Making.{GoesBehind, IsNewest, Moves}
 use Rattle.ring_rings.specs.Matching.{Matches}
+use Rattle.ring_rings.specs.Ring.{message}
 use Rattle.ring_rings.specs.Seats.{IsNewClaimOf, IsOpenClaimOf, KeepsClaims}
 use Rattle.ring_rings.proofs.CountLemmas.{open_count-more, open_few, stored_more}
 use Rattle.ring_rings.proofs.LeavingLemmas.{AsManyOpen, as_many_open}
@@ -120,6 +121,11 @@ module _ {C tail : ℕ} {type_id : ℤ} {len : ℕ} {front : List (ℕ × ℕ)} 
         (ap (λ (u : View). u.producer.shares) made.view) made_claims
         (ap (λ (u : View). u.producer.seen_tail) made.view ∙ sym made.admitted.end) (next_le C tail (span len)) tt refl
         known
+
+  -- with zeros for its bytes
+  pub made_message : HasClaimAt w a.place (λ c. c.message ≡ message type_id (replicate len 0))
+  made_message = has_last w v.producer.claims (claim_behind C tail type_id len) made_claims a.place
+      (sym made.admitted.place) (λ c. c.message ≡ message type_id (replicate len 0)) refl
 
   -- after all claims that the producer had
   pub made_apart : (place : ℕ) (P : StagedClaim → Type 0) → HasClaimAt v place P → place ≢ a.place

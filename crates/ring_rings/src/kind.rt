@@ -1,11 +1,11 @@
 //! The kinds of rings: how a producer of each moves the tail and writes. A claim is the same for both.
-ghost use Rattle.std.specs.Prelude.{◌≡◌, ◌%◌, ◌<◌, ◌≤◌, length, [], ◌∷◌, ◌++◌, Bool, false, true, IfErr, IfOk, MatchResult, OnErr, OnOk};
+ghost use Rattle.std.specs.Prelude.{◌≡◌, ◌%◌, ◌<◌, ◌≤◌, length, replicate, [], ◌∷◌, ◌++◌, Bool, false, true, IfErr, IfOk, MatchResult, OnErr, OnOk};
 ghost use Rattle.ring_layout.specs.Places.{max_position};
 ghost use Rattle.ring_layout.specs.Refusals.{all_shares};
 ghost use Rattle.ring_table.specs.Seats.{IsSameSeat, IsSeatOf};
 ghost use Rattle.ring_rings.specs.Claiming.{Claims, RefusesTry, Writes};
 ghost use Rattle.ring_rings.specs.Making.{MovesBehind};
-ghost use Rattle.ring_rings.specs.Ring.{message, sent};
+ghost use Rattle.ring_rings.specs.Ring.{message, sent, HasMessage};
 ghost use Rattle.ring_rings.specs.Seats.{capacity_of, view_of, IsNewClaimOf, IsProducerOf, KeepsHoldings};
 ghost use Rattle.ring_rings.specs.Seats.{MayClaim, OpensNone};
 
@@ -56,6 +56,7 @@ pub trait Kind: Sized {
         requires sole { MayClaim many producer.old }
         ensures producer { IsProducerOf ring.now producer.new }
         ensures sent { sent producer.new ≡ sent producer.old }
+        ensures message { IfOk result (λ t. HasMessage producer.new t.place (message type_id (replicate len 0))) }
         ensures claimed { IfOk result (λ t.
             Claims many (capacity_of ring.now) type_id len (view_of producer.old) t (view_of producer.new)) }
         ensures refused { IfErr result (λ fault.

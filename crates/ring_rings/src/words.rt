@@ -1,5 +1,5 @@
 //! The steps of a ring whose bodies lie in words, one atomic word for eight bytes, as the ring's format has it.
-use crate::consumer::load::load_body;
+use crate::consumer::turn::load_body;
 use crate::consumer::pass::clear_up;
 use crate::producer::record::{put_bytes, store_body};
 use crate::steps::{Closes, Steps};

@@ -1,5 +1,5 @@
 -- The message of a claim.
-use Rattle.std.proofs.Common.{◌≡◌, ◌∙◌, ◌+◌, ◌<◌, ℕ, ℤ, zero, suc, Bool, List, [], ◌∷◌, ◌++◌, length, replicate, refl, sym, ap, subst, arith}
+use Rattle.std.proofs.Common.{◌≡◌, ◌∙◌, ◌+◌, ◌<◌, ℕ, zero, suc, List, [], ◌∷◌, ◌++◌, length, replicate, sym, ap, subst, arith}
 use mathlib.Core.Option.{some, some-injective, some-ne-none}
 use lib.ListN.{get_elem?}
 use Rattle.std.proofs.lemmas.List.{append-nil, drop_all, length-replicate}
@@ -7,15 +7,10 @@ use Rattle.ring_layout.specs.declared.message.Message.{Message}
 use Rattle.ring_layout.specs.History.{overwritten}
 use Rattle.ring_words.specs.Open.{ClaimAt}
 use Rattle.ring_table.specs.declared.claim.StagedClaim.{StagedClaim}
-use Rattle.ring_table.specs.declared.view.View.{View}
-use Rattle.ring_table.specs.Changes.{changed}
 use Rattle.ring_table.specs.Staged.{AreAbove, AreRising}
-use Rattle.ring_table.proofs.HistoryLemmas.{changed_at_place}
 use Rattle.ring_rings.specs.declared.ring.Producer.{Producer}
-use Rattle.ring_rings.specs.Bodies.{put_at, PutsBytes}
-use Rattle.ring_rings.specs.Claiming.{Claims, claim_behind}
-use Rattle.ring_rings.specs.Ring.{message, sent, SendsClaimed, HasMessage}
-use Rattle.ring_rings.specs.Seats.{claims_of, view_of}
+use Rattle.ring_rings.specs.Ring.{sent, SendsClaimed, HasMessage}
+use Rattle.ring_rings.specs.Seats.{claims_of}
 
 -- two claims at one place are one, if places rise
 above_at : (q : ℕ) (cs : List StagedClaim) (k : ℕ) (c : StagedClaim) → AreAbove q cs → get_elem? cs k ≡ some c
@@ -55,40 +50,8 @@ commit_sends old new t m rising has sends none = by sends.before sends.after (sy
     by [] (x ∷ after) none is = (let l = ap length none in absurd (omega (arith, l)))
     by (x ∷ before) after none is = (let l = ap length none in absurd (omega (arith, l)))
 
-changed_there : (p : ℕ) (f : StagedClaim → StagedClaim) (cs : List StagedClaim) (k : ℕ) (c : StagedClaim)
-    → get_elem? cs k ≡ some c → c.place ≡ p → get_elem? (changed p f cs) k ≡ some (f c)
-changed_there p f [] k c at there = absurd (some-ne-none c (sym at))
-changed_there p f (d ∷ ds) zero c at there =
-    let is = some-injective d c at in
-    ap some (changed_at_place p f d (ap (λ (z : StagedClaim). z.place) is ∙ there) ∙ ap f is)
-changed_there p f (d ∷ ds) (suc k) c at there = changed_there p f ds k c at there
-
-at_last : (cs : List StagedClaim) (c : StagedClaim) → get_elem? (cs ++ c ∷ []) (length cs) ≡ some c
-at_last [] c = refl
-at_last (d ∷ ds) c = at_last ds c
-
-all_put : (bytes : List ℕ) → overwritten 0 bytes (replicate (length bytes) 0) ≡ bytes
+-- bytes put over as many zeros are all
+pub all_put : (bytes : List ℕ) → overwritten 0 bytes (replicate (length bytes) 0) ≡ bytes
 all_put bytes =
     let n = length bytes in
     ap (λ l. bytes ++ l) (drop_all (0 + n) (replicate n 0) (let l : length (replicate {A = ℕ} n 0) ≡ n = length-replicate n 0 in omega (arith, l))) ∙ append-nil bytes
-
--- a claim of as many bytes as are put into it has them
-pub puts_message : (many : Bool) (C : ℕ) (type_id : ℤ) (bytes : List ℕ) (old between new : Producer) (t : ClaimAt)
-    → Claims many C type_id (length bytes) (view_of old) t (view_of between)
-    → PutsBytes t.place 0 bytes (view_of between) (view_of new) → HasMessage new t.place (message type_id bytes)
-puts_message many C type_id bytes old between new t claims puts =
-    let c = claim_behind C claims.tail type_id (length bytes) in
-    let cs = claims_of old in
-    let f = put_at 0 bytes in
-    let claimed = ap (λ (v : View). v.producer.claims) claims.view in
-    let now = ap (λ (v : View). v.producer.claims) puts.view in
-    let place = ap (λ (z : ClaimAt). z.place) claims.claim in
-    let was = subst (λ l. get_elem? l (length cs) ≡ some c) (sym claimed) (at_last cs c) in
-    record {
-      nth = length cs;
-      claim = f c;
-      there = subst (λ l. get_elem? l (length cs) ≡ some (f c)) (sym now)
-          (changed_there t.place f (claims_of between) (length cs) c was (sym place));
-      at_place = sym place;
-      holds = ap (message type_id) (all_put bytes);
-    }

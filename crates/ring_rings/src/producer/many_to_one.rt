@@ -1,10 +1,10 @@
 //! The calls of a ring with any number of producers.
-ghost use Rattle.std.specs.Prelude.{◌≡◌, ◌↔◌, length, [], ◌∷◌, ◌++◌, true, IfErr, IfOk, IsTrue, OnErr, OnOk, is_err};
+ghost use Rattle.std.specs.Prelude.{◌≡◌, ◌↔◌, length, replicate, [], ◌∷◌, ◌++◌, true, IfErr, IfOk, IsTrue, OnErr, OnOk, is_err};
 ghost use Rattle.ring_table.specs.Staged.{AreRising};
 ghost use Rattle.ring_table.specs.Views.{producer_alone, without_share};
 ghost use Rattle.ring_rings.specs.Claiming.{Claims, RefusesTry, Writes};
 ghost use Rattle.ring_rings.specs.Joining.{Joins};
-ghost use Rattle.ring_rings.specs.Ring.{message, sent, AreMerged};
+ghost use Rattle.ring_rings.specs.Ring.{message, sent, AreMerged, HasMessage};
 ghost use Rattle.ring_rings.specs.Seats.{capacity_of, claims_of, shares_of, view_of};
 ghost use Rattle.ring_rings.specs.Seats.{IsNewClaimOf, IsProducerOf, KeepsBoth, KeepsClaims};
 
@@ -33,6 +33,7 @@ impl<B: Steps> Ring<ManyToOne, B> {
         requires producer { IsProducerOf self.now producer.old }
         ensures producer { IsProducerOf self.now producer.new }
         ensures sent { sent producer.new ≡ sent producer.old }
+        ensures message { IfOk result (λ t. HasMessage producer.new t.place (message type_id (replicate len 0))) }
         ensures claimed { IfOk result (λ t.
             Claims true (capacity_of self.now) type_id len (view_of producer.old) t (view_of producer.new)) }
         ensures refused { IfErr result (λ fault.

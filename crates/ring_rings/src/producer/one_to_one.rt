@@ -1,8 +1,8 @@
 //! The calls of a ring with one producer.
-ghost use Rattle.std.specs.Prelude.{◌≡◌, false, length, [], ◌∷◌, ◌++◌, IfErr, IfOk, OnErr, OnOk};
+ghost use Rattle.std.specs.Prelude.{◌≡◌, false, length, replicate, [], ◌∷◌, ◌++◌, IfErr, IfOk, OnErr, OnOk};
 ghost use Rattle.ring_layout.specs.Refusals.{all_shares};
 ghost use Rattle.ring_rings.specs.Claiming.{Claims, Refuses, Writes};
-ghost use Rattle.ring_rings.specs.Ring.{message, sent};
+ghost use Rattle.ring_rings.specs.Ring.{message, sent, HasMessage};
 ghost use Rattle.ring_rings.specs.Seats.{capacity_of, shares_of, view_of};
 ghost use Rattle.ring_rings.specs.Seats.{IsNewClaimOf, IsProducerOf, KeepsClaims};
 
@@ -29,6 +29,7 @@ impl<B: Steps> Ring<OneToOne, B> {
         requires sole { shares_of producer.old ≡ all_shares }
         ensures producer { IsProducerOf self.now producer.new }
         ensures sent { sent producer.new ≡ sent producer.old }
+        ensures message { IfOk result (λ t. HasMessage producer.new t.place (message type_id (replicate len 0))) }
         ensures claimed { IfOk result (λ t.
             Claims false (capacity_of self.now) type_id len (view_of producer.old) t (view_of producer.new)) }
         ensures refused { IfErr result (λ fault.

@@ -1,14 +1,15 @@
 //! How producers settle their claims.
 ghost use Rattle.std.specs.Prelude.{◌≡◌, ◌≢◌, ◌+◌, ◌<◌, ◌↔◌, length, IsTrue, OnErr, OnOk, is_err};
 ghost use Rattle.ring_layout.specs.declared.message.ClaimState.TheVariants.{Aborted, Committed, Open};
-ghost use Rattle.ring_layout.specs.History.{IsMessage};
+ghost use Rattle.ring_layout.specs.declared.message.Message.{Message};
+ghost use Rattle.ring_layout.specs.History.{overwritten, IsMessage};
 ghost use Rattle.ring_table.specs.declared.claim.Stage.TheVariants.{Stored};
 ghost use Rattle.ring_table.specs.Changes.{blank, staged};
 ghost use Rattle.ring_table.specs.ProducerSteps.{with_changed, HasClaimAt, IsStagedOpen};
 ghost use Rattle.ring_table.specs.Seats.{IsSameSeat, IsSeatOf};
 ghost use Rattle.ring_table.specs.Staged.{AreRising};
 ghost use Rattle.ring_rings.specs.Bodies.{PutsBytes};
-ghost use Rattle.ring_rings.specs.Ring.{sent, SendsClaimed};
+ghost use Rattle.ring_rings.specs.Ring.{message, sent, HasMessage, SendsClaimed};
 ghost use Rattle.ring_rings.specs.Seats.{view_of, IsOpenClaimOf, IsProducerOf, KeepsOthers};
 
 use crate::claim::Claim;
@@ -60,6 +61,8 @@ impl<K, B: Steps> Ring<K, B> {
         ensures sent { sent producer.new ≡ sent producer.old }
         ensures refused { (IsTrue (is_err result) ↔ (claim.old.len < offset + length bytes.now))
             × OnErr result (producer.new ≡ producer.old) }
+        ensures message { OnOk result ((m : Message) → HasMessage producer.old claim.old.place m
+            → HasMessage producer.new claim.old.place (message m.type_id (overwritten offset bytes.now m.body))) }
         ensures put { OnOk result
             (PutsBytes claim.old.place offset bytes.now (view_of producer.old) (view_of producer.new)) }
         ensures claim { (claim.new ≡ claim.old) × IsOpenClaimOf self.now producer.new claim.new }

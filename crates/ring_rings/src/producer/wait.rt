@@ -1,7 +1,7 @@
 //! Claims and writes that try again while another producer is faster.
-ghost use Rattle.std.specs.Prelude.{◌≡◌, length, [], ◌∷◌, ◌++◌, true, IfErr, IfOk, OnErr, OnOk};
+ghost use Rattle.std.specs.Prelude.{◌≡◌, length, replicate, [], ◌∷◌, ◌++◌, true, IfErr, IfOk, OnErr, OnOk};
 ghost use Rattle.ring_rings.specs.Claiming.{AfterTries, Claims, Refuses, Writes};
-ghost use Rattle.ring_rings.specs.Ring.{message, sent};
+ghost use Rattle.ring_rings.specs.Ring.{message, sent, HasMessage};
 ghost use Rattle.ring_rings.specs.Seats.{capacity_of, view_of, IsNewClaimOf, IsProducerOf, KeepsClaims};
 
 use crate::claim::Claim;
@@ -24,6 +24,7 @@ impl<B: Steps> Ring<ManyToOne, B> {
         requires producer { IsProducerOf self.now producer.old }
         ensures producer { IsProducerOf self.now producer.new }
         ensures sent { sent producer.new ≡ sent producer.old }
+        ensures message { IfOk result (λ t. HasMessage producer.new t.place (message type_id (replicate len 0))) }
         ensures claimed { IfOk result (λ t. AfterTries (capacity_of self.now) type_id len (view_of producer.old)
             (λ v. Claims true (capacity_of self.now) type_id len v t (view_of producer.new))) }
         ensures refused { IfErr result (λ fault. AfterTries (capacity_of self.now) type_id len (view_of producer.old)

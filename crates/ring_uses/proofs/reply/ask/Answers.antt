@@ -1,10 +1,8 @@
-use Rattle.std.proofs.Common.{◌≡◌, ◌∙◌, [], ◌∷◌, ◌++◌, ap, subst, sym}
+use Rattle.std.proofs.Common.{◌∙◌, [], ◌∷◌, ◌++◌, ap, subst, sym}
 use Rattle.ring_rings.specs.declared.ring.Consumer.{Consumer}
-use Rattle.ring_rings.specs.declared.ring.Producer.{Producer}
 use Rattle.ring_rings.specs.Reading.{messages_of}
 use Rattle.ring_rings.specs.Ring.{received, sent, IsWhole}
-use Rattle.ring_rings.specs.Seats.{capacity_of, taken_of}
-use Rattle.ring_rings.proofs.SentLemmas.{messages_of-append}
+use Rattle.ring_rings.specs.Seats.{taken_of}
 use Rattle.ring_board.specs.declared.board.CopyReceiver.{CopyReceiver}
 use Rattle.ring_board.specs.declared.board.Transmitter.{Transmitter}
 use Rattle.ring_board.specs.declared.shared.view.View.{View as BoardView}
@@ -13,11 +11,11 @@ use Rattle.ring_board.specs.Runs.{AreRuns}
 use Rattle.ring_counters.specs.declared.manager.CountersManager.{CountersManager}
 use Rattle.ring_counters.specs.Manager.{registry_of, writes_of}
 use Rattle.ring_conductor.specs.Account.{Account, account_of, messages_in, reply_message}
-use Rattle.ring_conductor.specs.Asking.{client_seat, producer_of, receiver_of}
+use Rattle.ring_conductor.specs.Asking.{receiver_of}
 use Rattle.ring_conductor.specs.Conducting.{ledger_of, received_of, transmitter_of}
 use Rattle.ring_conductor.specs.Fold.{at_moment}
 use Rattle.ring_conductor.proofs.AccountLemmas.{account_as}
-use Rattle.ring_uses.specs.Reply.{replies_to, request_with, IsAnswered}
+use Rattle.ring_uses.specs.Reply.{replies_to, request_with}
 use Rattle.ring_uses.proofs.ReplyLemmas.{copied_is_transmitted, one_reply}
 use Rattle.ring_uses.proofs.reply.ask.Goals as goal
 

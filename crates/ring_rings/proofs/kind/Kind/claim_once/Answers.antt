@@ -1,6 +1,7 @@
-use Rattle.std.proofs.Common.{ap, rules, ◌∙◌, arith}
+use Rattle.std.proofs.Common.{ap, sym, rules, ◌∙◌, arith}
+use Rattle.ring_words.specs.Open.{ClaimAt}
 use Rattle.ring_table.specs.declared.view.View.{View}
-use Rattle.ring_rings.proofs.MadeLemmas.{keeps_claims, made_claims, made_consumes, made_few, made_matches, made_new, moved_newest, moved_opened}
+use Rattle.ring_rings.proofs.MadeLemmas.{keeps_claims, made_claims, made_consumes, made_few, made_matches, made_message, made_new, moved_newest, moved_opened}
 use Rattle.ring_rings.proofs.SentLemmas.{claim_sends_none}
 use Rattle.ring_rings.proofs.kind.Kind.claim_once.Goals as goal
 
@@ -40,6 +41,20 @@ returns-clause-opened g c =
     let moved = c.in_ok-admission.ensures.told.0 in
     rw c.new.ensures (made_new (moved_opened moved c.args.producer.now.known.rising c.store_headers.new.seat.me.0
     (c.store_headers.ensures.opened _ _ (moved_newest moved))))
+
+pub returns-clause-message : goal.returns-clause-message
+returns-clause-message g c =
+    let moved = c.in_ok-admission.ensures.told.0 in
+    let h = made_message (moved_opened moved c.args.producer.now.known.rising c.store_headers.new.seat.me.0
+    (c.store_headers.ensures.opened _ _ (moved_newest moved))) in
+    let place = c.new.ensures in
+    record {
+      nth = h.nth;
+      claim = h.claim;
+      there = h.there;
+      at_place = h.at_place ∙ ap (λ (t : ClaimAt). t.place) (sym place);
+      holds = (let is = h.holds in search rules);
+    }
 
 pub returns-clause-keeps : goal.returns-clause-keeps
 returns-clause-keeps g c =

@@ -1,4 +1,6 @@
-use Rattle.std.proofs.Common.{refl, sym, ap, ◌∙◌, subst, arith}
+use Rattle.std.proofs.Common.{◌≡◌, refl, sym, ap, ◌∙◌, subst, arith}
+use Rattle.ring_layout.specs.declared.message.Message.{Message}
+use Rattle.ring_layout.specs.History.{overwritten}
 use Rattle.ring_layout.proofs.WordBytes.{length-overwritten}
 use Rattle.ring_table.specs.declared.claim.StagedClaim.{StagedClaim}
 use Rattle.ring_table.specs.declared.view.View.{View}
@@ -13,6 +15,7 @@ use Rattle.ring_rings.proofs.PutLemmas.{has_changed, has_other}
 use Rattle.ring_table.specs.Changes.{changed}
 use Rattle.ring_table.specs.Passing.{placed_message, shown_at}
 use Rattle.ring_rings.specs.Reading.{messages_of}
+use Rattle.ring_rings.specs.Ring.{message}
 use Rattle.ring_rings.proofs.SentLemmas.{change_sends_none}
 use Rattle.ring_rings.proofs.ring.Ring.put.Goals as goal
 
@@ -97,3 +100,14 @@ returns-clause-sent g c =
     (ap (λ (v : View). v.producer.claims) c.put_bytes.ensures.put.view
     ∙ ap (λ n. changed n f p.seat.me.0.producer.claims) c.place.ensures) h
     (ap (λ s. messages_of (shown_at s (placed_message (f h.claim)))) h.holds.stage)
+
+pub returns-clause-message : goal.returns-clause-message
+returns-clause-message g c m h =
+    let t = c.args.claim.now in
+    let put = c.put_bytes.ensures.put in
+    let now : Message → Message = λ x. message x.type_id (overwritten c.args.offset c.args.bytes.now x.body) in
+    subst (λ (u : View). HasClaimAt u t.place (λ d. d.message ≡ now m)) (sym put.view)
+    (rw c.place.ensures (has_changed t.place (put_at c.args.offset c.args.bytes.now) (λ d. refl)
+    (loaded put.loads c.args.producer.now.seat.me.0) (λ d. d.message ≡ m) (λ d. d.message ≡ now m)
+    (record { nth = h.nth; claim = h.claim; there = h.there; at_place = h.at_place; holds = h.holds })
+    (λ d is. ap now is)))

@@ -2,7 +2,7 @@ use Rattle.std.proofs.Common.{◌≡◌, ◌*◌, length}
 use Rattle.ring_table.specs.declared.claim.PlacedMessage.{PlacedMessage}
 use Rattle.ring_table.specs.Seats.{IsSameSeat}
 use Rattle.ring_rings.specs.ReadingSteps.{CopiesWords, HasGotLast, OnlyLoads}
-use Rattle.ring_rings.proofs.consumer.load.load_body.Given as goal
+use Rattle.ring_rings.proofs.consumer.turn.load_body.Given as goal
 
 abbrev pub invariant-loop-k : goal.invariant-loop-k
 invariant-loop-k l = record {

@@ -4,7 +4,7 @@ use Rattle.ring_table.specs.declared.view.View.{View}
 use Rattle.ring_rings.specs.ReadingSteps.{CopiesWords}
 use Rattle.ring_rings.proofs.ReadingCopies.{copies_all}
 use Rattle.ring_rings.proofs.ReadingSeats.{loads_more, same_more}
-use Rattle.ring_rings.proofs.consumer.load.load_body.Goals as goal
+use Rattle.ring_rings.proofs.consumer.turn.load_body.Goals as goal
 
 pub load_word-requires-in-loop-k-3-clause-room : goal.load_word-requires-in-loop-k-3-clause-room
 load_word-requires-in-loop-k-3-clause-room c =
