@@ -1,5 +1,5 @@
 -- What lines do, with what they print.
-use Rattle.std.specs.Prelude.{◌≡◌, ◌↔◌, ℕ, true, List, codes, IfOk, Result, Err}
+use Rattle.std.specs.Prelude.{◌≡◌, ◌↔◌, ℕ, List, codes, IfOk, Result, Err}
 use Rattle.ring_layout.specs.declared.message.ClaimState.{ClaimState}
 use Rattle.ring_layout.specs.declared.message.ClaimState.TheVariants.{Aborted, Committed}
 use Rattle.ring_table.specs.ServiceSteps.{DrawsId, LoadsHeartbeat}

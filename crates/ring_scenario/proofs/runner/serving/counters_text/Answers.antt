@@ -1,4 +1,4 @@
-use Rattle.std.proofs.Common.{◌≡◌, ◌∙◌, ◌<◌, ◌≤◌, ◌+◌, ℕ, List, [], ◌∷◌, ◌++◌, ap, arith, flat_map, get_or, length, take, take_all}
+use Rattle.std.proofs.Common.{◌≡◌, ◌∙◌, ◌<◌, ◌≤◌, ◌+◌, ℕ, List, [], ◌++◌, ap, arith, flat_map, get_or, length, take, take_all}
 use Rattle.std.proofs.lemmas.List.{flat_map_more, take_more}
 use Rattle.ring_counters.specs.declared.info.CounterInfo.{CounterInfo}
 use Rattle.ring_scenario.specs.ServiceTexts.{counter_text}
