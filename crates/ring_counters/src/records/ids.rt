@@ -1,5 +1,5 @@
 //! Ids: how they are given to counters and freed, and the queue of freed ids.
-ghost use Rattle.std.specs.Prelude.{◌≡◌, ℕ, ◌^◌, ◌<◌, ◌≤◌, true, IfNone, IfSome};
+ghost use Rattle.std.specs.Prelude.{◌≡◌, ℕ, ◌^◌, ◌<◌, ◌≤◌, ◌↔◌, true, IfNone, IfSome};
 ghost use Rattle.std.specs.Prelude.{length, position, remove, slice_index, slice_set};
 ghost use Rattle.std.specs.VecDeque.{deque_capacity};
 ghost use Rattle.ring_counters.specs.Allocating.{HasShortTexts, counter_wanted};
@@ -41,8 +41,8 @@ fn stays_in_order(
     deadline: u64,
 ) -> bool
     requires { (k : ℕ) → k < length freed.now.items → slice_index freed.now.items k < length metadata.now }
-    ensures { result ≡ true → 0 < length freed.now.items → (in_order ≡ true)
-        × (last_deadline metadata.now freed.now.items ≤ deadline) }
+    ensures { result ≡ true ↔ (0 < length freed.now.items → (in_order ≡ true)
+        × (last_deadline metadata.now freed.now.items ≤ deadline)) }
 {
     match freed.back() {
         Some(last) => in_order && metadata[*last as usize].deadline() <= deadline,

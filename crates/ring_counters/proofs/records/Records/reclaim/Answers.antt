@@ -52,7 +52,7 @@ invariant_of-self c =
     → (c.self.inside.in_order ≡ true)
     × (deadline_of (get_or c.self.inside.metadata.items last unused_metadata).status
     ≤ c.args.now + c.self.inside.reuse_ms) =
-    λ o some. (let h = c.stays_in_order-self-inside.ensures o
+    λ o some. (let h = c.stays_in_order-self-inside.ensures.0 o
     some in (h.0, omega (arith, h.1, same, c.from.ensures))) in
     let kept = reclaimed_kept s _ c.requires.allocated _ _ c.args.now
     c.stays_in_order-self-inside.result still is c.push_back_reserved.ensures.items in (
