@@ -1,6 +1,6 @@
 //! The steps of a ring whose bodies lie in words, one atomic word for eight bytes, as the ring's format has it.
-use crate::consumer::turn::load_body;
 use crate::consumer::pass::clear_up;
+use crate::consumer::turn::load_body;
 use crate::producer::record::{put_bytes, store_body};
 use crate::steps::{Closes, Steps};
 use ring_table::{
