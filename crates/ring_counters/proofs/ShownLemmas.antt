@@ -302,9 +302,6 @@ position_misses p ids e =
     ]
 
 module _ (r : Registry) (now : ℕ) where
-  pub due_inside : (at : ℕ) → position (λ id. is_due now (status_at r id)) r.freed ≡ Some at → at < length r.freed
-  due_inside at e = (position_tells (λ id. is_due now (status_at r id)) r.freed at e).0
-
   pub next_due : (at : ℕ) → position (λ id. is_due now (status_at r id)) r.freed ≡ Some at
       → next_id r now ≡ Some (get_or r.freed at 0)
   next_due at e =

@@ -17,7 +17,7 @@ use Rattle.ring_handles.specs.declared.batch.Laying.{Laying}
 use Rattle.ring_handles.specs.Batch.{LaysIn, Batch, IsShort, LaidNone, Lays, LeavesOut, ReadBatch, ReadsBatch, TookBatch, TookSome, batch, laid, laid_end, span_in}
 use Rattle.ring_handles.specs.Consuming.{RanOut, TookNone}
 use Rattle.ring_handles.specs.Side.{Reading, having_read}
-use Rattle.ring_handles.proofs.EndLemmas.{both, had_none, in_words, next_on, none_once, none_twice, ran_out}
+use Rattle.ring_handles.proofs.EndLemmas.{both, had_none, in_words, next_on, none_twice, ran_out}
 
 -- these messages were laid after what was used
 record WereLaid (s : Laying) (ms : List PlacedMessage) (t : Laying) : Type 0 where
@@ -209,17 +209,6 @@ laid_none limit v w s t end fresh ends controls none =
     }
 
 -- Two reads as one -----------------------------------------------------------------
-
--- one read that took something, or did not come to the end of the buffer
-pub batch_once : (limit : ℕ) (stopped : Stop) (o o' : Batch) (r s : Reading) (code : ℤ)
-    → (code ≡ pos 105 → stopped ≡ Block → ⊥) → ReadsBatch (RanOut limit stopped) limit o o' r s code
-    → ReadBatch limit o o' r s code
-batch_once limit stopped o o' r s code inside (same, on, took) = (
-  same,
-  on,
-  in_words code (λ some. some) (λ is none. none_once limit stopped r.view s.view o o' (inside is) none) (λ short. short)
-      took,
-)
 
 -- one read that came to the end of the buffer and took none, and another
 pub batch_twice : (limit : ℕ) (one two : Stop) (o o' o'' : Batch) (r s t : Reading) (first code : ℤ) → first ≡ pos 105

@@ -108,13 +108,6 @@ module _ (v u w : View) (first : ReadsOn v u) where
 
 -- Why nothing was taken -----------------------------------------------------------
 
--- one read that did not come to the end of the buffer
-pub once : (limit : ℕ) (stopped : Stop) (v w : View) → (stopped ≡ Block → ⊥) → RanOut limit stopped v w
-    → HadNone limit v w
-once limit stopped v w inside (inl zero) = inl zero
-once limit stopped v w inside (inr (inl found)) = inr (inl found.1)
-once limit stopped v w inside (inr (inr ended)) = absurd (inside ended.0)
-
 -- one read that did, and another
 pub twice : (limit : ℕ) (one two : Stop) (v u w : View) → ReadsOn v u → ReadsOn u w → one ≡ Block
     → RanOut limit one v u → RanOut limit two u w → HadNone limit v w
@@ -160,12 +153,6 @@ had_none code is (inr (inr (short, c))) = absurd (other (ap digits (sym is ∙ s
   where
     other : ◌≡◌ {A = ℕ} 105 106 → ⊥
     other e = omega arith
-
--- by one read, and by two
-pub none_once : {O : Type 0} (limit : ℕ) (stopped : Stop) (v w : View) (o o' : O) → (stopped ≡ Block → ⊥)
-    → TookNone (RanOut limit stopped) v w o o' → TookNone (HadNone limit) v w o o'
-none_once limit stopped v w o o' inside none =
-    record { taken = none.taken; why = once limit stopped v w inside none.why; outs = none.outs }
 
 pub none_twice : {O : Type 0} (limit : ℕ) (one two : Stop) (v u w : View) (o o' o'' : O) → ReadsOn v u → ReadsOn u w
     → one ≡ Block → TookNone (RanOut limit one) v u o o' → TookNone (RanOut limit two) u w o o''

@@ -15,7 +15,7 @@ use Rattle.ring_handles.specs.declared.peeking.Taking.{Taking}
 use Rattle.ring_handles.specs.Consuming.{out, LeavesAtHead, Out, RanOut, TookNone}
 use Rattle.ring_handles.specs.Peeking.{PeekedOne, PeekOne, Peeks, PeeksIn, PeeksLonger, PeeksOne, Shows, TakeOne, TakenOne, Takes, TakesOne}
 use Rattle.ring_handles.specs.Side.{Reading, having_read}
-use Rattle.ring_handles.proofs.EndLemmas.{both, had_none, in_words, next_on, none_once, none_twice, once, ran_out, twice}
+use Rattle.ring_handles.proofs.EndLemmas.{both, had_none, in_words, next_on, none_twice, ran_out, twice}
 use Rattle.ring_handles.proofs.ShownLemmas.{none_more, shown_none, shown_one, uncounted}
 
 no_break : Break ≡ Abort → ⊥
@@ -112,16 +112,6 @@ peeked_as Why v w o t type_id len buffer code e₁ e₂ e₃ e₄ peeked =
     subst (λ (x : Out × ℤ). PeekedOne Why v w o x.0 x.1) (λ i. (out (sym e₁ i) (sym e₂ i) (sym e₃ i), sym e₄ i))
     peeked
 
--- one read that did not come to the end of the buffer without a message
-pub peeked_once : (stopped : Stop) (o o' : Out) (r s : Reading) (code : ℤ)
-    → (code ≡ pos 105 → stopped ≡ Block → ⊥) → PeeksOne (RanOut 1 stopped) o o' r s code → PeekOne o o' r s code
-peeked_once stopped o o' r s code inside (same, on, peeked) = (
-  same,
-  on,
-  in_words code (λ one. one) (λ is none. none_once 1 stopped r.view s.view o o' (inside is) none) (λ stays. stays)
-      peeked,
-)
-
 -- one that did, and another
 pub peeked_twice : (one two : Stop) (o o' o'' : Out) (r s t : Reading) (first code : ℤ) → first ≡ pos 105
     → one ≡ Block → PeeksOne (RanOut 1 one) o o' r s first → PeeksOne (RanOut 1 two) o' o'' s t code
@@ -177,12 +167,6 @@ took_next v w s t end waits bytes blocked (inr (inl broke)) =
       },
     )
 took_next v w s t end waits bytes blocked (inr (inr aborts)) = absurd (no_break (sym aborts.aborted.action))
-
-pub taken_once : (stopped : Stop) (r s : Reading) (code : ℤ) → (code ≡ pos 105 → stopped ≡ Block → ⊥)
-    → TakesOne (RanOut 1 stopped) r s code → TakeOne r s code
-taken_once stopped r s code inside (same, on, inl one) = (same, on, inl one)
-taken_once stopped r s code inside (same, on, inr (is, taken, why)) =
-    (same, on, inr (is, taken, once 1 stopped r.view s.view (inside is) why))
 
 digit : ℤ → ℕ
 digit (pos n) = n

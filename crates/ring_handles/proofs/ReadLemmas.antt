@@ -14,7 +14,7 @@ use Rattle.ring_handles.specs.declared.copying.Copying.{Copying}
 use Rattle.ring_handles.specs.Consuming.{Out, RanOut, ReadOne, ReadsOne, LeavesAtHead, Took, TookNone, TookOne, out}
 use Rattle.ring_handles.specs.Copying.{Copies, Exceeds, CopiesIn}
 use Rattle.ring_handles.specs.Side.{Reading, having_read}
-use Rattle.ring_handles.proofs.EndLemmas.{both, had_none, in_words, next_on, none_once, none_twice, ran_out}
+use Rattle.ring_handles.proofs.EndLemmas.{both, had_none, in_words, next_on, none_twice, ran_out}
 use Rattle.ring_handles.proofs.ShownLemmas.{none_more, shown_none, shown_one, uncounted}
 
 -- it never goes on after a message
@@ -106,16 +106,6 @@ same_borrow limit v w s t end (inr (inr aborts)) =
     (sym none.1) aborts.aborted)).borrow
 
 -- Two reads as one -----------------------------------------------------------------
-
--- one read that took something, or did not come to the end of the buffer
-pub read_once : (stopped : Stop) (o o' : Out) (r s : Reading) (code : ℤ)
-    → (code ≡ pos 105 → stopped ≡ Block → ⊥) → ReadsOne (RanOut 1 stopped) o o' r s code → ReadOne o o' r s code
-read_once stopped o o' r s code inside (same, on, took) = (
-  same,
-  on,
-  in_words code (λ one. one) (λ is none. none_once 1 stopped r.view s.view o o' (inside is) none) (λ stays. stays)
-      took,
-)
 
 -- one read that came to the end of the buffer and took none, and another
 pub read_twice : (one two : Stop) (o o' o'' : Out) (r s t : Reading) (first code : ℤ) → first ≡ pos 105 → one ≡ Block

@@ -28,24 +28,6 @@ length_below n (c ∷ cs) rising ends = let few = few_below n c cs rising ends i
 
 -- v and w are put together to u, and a load of the tail n makes that u2
 module _ (C n : ℕ) (v w u u2 : View) (both : u ≡ with_producer_of v w) (loaded : LoadsTail C u n u2) where
-  pub joins : Joins C v w u2
-  joins =
-      let tails : u.producer.seen_tail ≡ max v.producer.seen_tail w.producer.seen_tail =
-      ap (λ (z : View). z.producer.seen_tail) both in
-      let later = loaded.later in
-      record {
-        tail = n;
-        head = max v.producer.seen_head w.producer.seen_head;
-        view = loaded.view
-            ∙ ap (λ (z : View). record z {
-              log = z.log ++ (tail_index C, n) ∷ [];
-              producer =
-                  record z.producer { seen_tail = n };
-            }) both;
-        later = omega arith;
-        later_too = omega arith;
-      }
-
   claims_are : u.producer.claims ≡ interleaved v.producer.claims w.producer.claims
   claims_are = ap (λ (z : View). z.producer.claims) both
 

@@ -45,12 +45,6 @@ keeps_refused many C type_id len v fault w (inl at_once) = keeps_as v v w at_onc
 keeps_refused many C type_id len v fault w (inr (inl limit)) = keeps_looked _ _ _ v w limit.view
 keeps_refused many C type_id len v fault w (inr (inr full)) = keeps_looked _ _ _ v w full.view
 
-keeps_try : (many : Bool) (C : ℕ) (type_id : ℤ) (len : ℕ) (v : View) (fault : TryFault) (w : View)
-    → RefusesTry many C type_id len v fault w → Keeps v w
-keeps_try many C type_id len v (Refused fault) w h = keeps_refused many C type_id len v fault w h
-keeps_try true C type_id len v (Contended tail seen) w h = keeps_looked _ _ _ v w h.view
-keeps_try false C type_id len v (Contended tail seen) w h = absurd h
-
 -- Written ------------------------------------------------------------------------
 
 -- the shares stay, and the number of open claims
@@ -68,13 +62,3 @@ as_many_open v w c settled gained =
     let old : ℕ = open_count v.producer.claims in
     let new : ℕ = open_count w.producer.claims in
     record { shares = gained.shares; open_claims = omega (arith, counted, settled) }
-
--- after one try to write
-pub open_tried : {T : Type 0} (r : Result T TryFault) (many : Bool) (C : ℕ) (type_id : ℤ) (body : List ℕ) (v w : View)
-    → OnOk r (Writes many C type_id body v w) → IfErr r (λ fault. RefusesTry many C type_id (length body) v fault w)
-    → AsManyOpen v w
-open_tried (Ok done) many C type_id body v w written refused =
-    as_many_open v w (record_behind C written.tail type_id body) refl
-    (gains_looked _ _ _ written.tail written.head v w written.view)
-open_tried (Err fault) many C type_id body v w written refused =
-    as_many v w (keeps_try many C type_id (length body) v fault w refused)

@@ -40,9 +40,6 @@ carries_same {v} {w} claims kind head = record {
   stays = λ consumes. kind ∙ consumes;
 }
 
-pub carries_as : {v w x : View} → w ≡ x → CarriesOn v x → CarriesOn v w
-carries_as {v} {w} {x} is c = subst (CarriesOn v) (sym is) c
-
 -- and the head rises
 pub carries_on : {v w : View} → w.producer.claims ≡ v.producer.claims → w.consumes ≡ v.consumes
     → v.consumer.head ≤ w.consumer.head → CarriesOn v w

@@ -16,18 +16,6 @@ use Rattle.ring_layout.specs.History.{overwritten}
 use Rattle.std.proofs.Common.{append_assoc}
 use Rattle.ring_table.specs.Filling.{Begins, Copying, Filling}
 
-pub fill_start : (first n : ℕ) (body : List ℕ) (held : List (ℕ × ℕ)) → HasSlots first n held → Filling first 0 n body held
-fill_start first n body held h =
-    let e : first ≡ first + 0 = omega arith in
-    let c = h.count in record {
-      left = h.values;
-      done = [];
-      held_is = h.held_is ∙ ap (λ k. numbered k h.values) e ∙ sym (append-nil (numbered (first + 0) h.values));
-      gone = refl;
-      count = omega arith;
-      words = λ i y e'. absurd (some-ne-none y (sym e'));
-    }
-
 pub none_of : (l : List ℕ) → length l ≡ 0 → l ≡ []
 none_of [] e = refl
 none_of (x ∷ xs) e = absurd (omega arith)
@@ -128,19 +116,6 @@ unfolding body_word
 word_of_rest body at = ap (from_le_bytes w64) (take_rest body at)
 
 -- ---- the loop that copies them
-
-pub copy_start : (first n : ℕ) (scratch : List ℕ) (held : List (ℕ × ℕ)) → HasSlots first n held → Copying first 0 n scratch held held
-copy_start first n scratch held h =
-    let e : first ≡ first + 0 = omega arith in
-    let c = h.count in record {
-      left = h.values;
-      done = [];
-      held_is = h.held_is ∙ ap (λ k. numbered k h.values) e ∙ sym (append-nil (numbered (first + 0) h.values));
-      before_is = h.held_is;
-      gone = refl;
-      count = omega arith;
-      copies = λ body _ _ j _ lt. absurd (omega arith);
-    }
 
 pub copy_front : (first k n : ℕ) (scratch : List ℕ) (before held : List (ℕ × ℕ)) → k < n → Copying first k n scratch before held
     → (old : ℕ) × (rest : List (ℕ × ℕ)) × (held ≡ (first + k, old) ∷ rest)

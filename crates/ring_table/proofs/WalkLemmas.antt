@@ -143,9 +143,6 @@ pub record Goes (C : ℕ) {words slots : List ℕ} (t : Parts C words slots) (s 
       → Walked C t (s + n) made'
 
 module _ (C : ℕ) (words slots : List ℕ) (t : Parts C words slots) where
-  claims : List StagedClaim
-  claims = all_of t.hist
-
   -- the walk goes n bytes on, over words that now show headers and bodies
   advance : (s n : ℕ) (made made' : List ℕ) → Walked C t s made → LieInLap C t.consumer.head s n
       → length made' ≡ length made → ((j : ℕ) → Outside (index C s) (n / 8) j → slice_index made' j ≡ slice_index made j)

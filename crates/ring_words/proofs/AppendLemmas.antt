@@ -21,12 +21,6 @@ use Rattle.ring_words.specs.Storing.{IsAdmitted, padded}
 use Rattle.ring_words.proofs.ClaimLemmas.{appended, tail_aligned, free_of}
 use Rattle.ring_words.proofs.StoreLemmas.{stores}
 
-pub length-padded : (C tail place : ℕ) (ws : List ℕ) → length (padded C tail place ws) ≡ length ws
-length-padded C tail place ws =
-    elim (nat_lt tail place) as (λ b. length
-    (if b then slice_set ws (index C tail) (padding_header (place - tail)) else ws) ≡ length ws)
-    [ true ↦ length-set ws _ _ | false ↦ refl ]
-
 -- an admitted claim is not before the tail
 pub tail_first : (r : Ring) (tail len place end : ℕ) → tail ≡ tail_of r → IsAdmitted r len place end → tail ≤ place
 tail_first r tail len place end at admitted =
@@ -102,10 +96,6 @@ module _ (r : Ring) (c : Claim) (place end : ℕ) (ok : IsRing r) (lawful : IsMe
       → slice_set (padded r.capacity tail place r.words) (index r.capacity place) word ≡ headed
   unfolding headed
   headed_is tail word p q = λ i. slice_set (padded r.capacity (p i) place r.words) (index r.capacity place) (q i)
-
-  pub length-headed : length headed ≡ length r.words
-  unfolding headed
-  length-headed = length-set _ _ _ ∙ length-padded r.capacity (tail_of r) place r.words
 
   -- the record is inside the buffer
   pub inside : index r.capacity place + span_of c / 8 ≤ r.capacity / 8

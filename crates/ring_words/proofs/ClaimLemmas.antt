@@ -28,9 +28,6 @@ module _ (r : Ring) (c : Claim) (w : List ℕ) (ok : IsRing r) (m : IsMessage r.
     (fits : end_after r.capacity (tail_of r) (span_of c) ≤ head_of r + r.capacity)
     (limit : end_after r.capacity (tail_of r) (span_of c) ≤ max_position)
     (s : Stores r.capacity (tail_of r) c r.words w) where
-  C : ℕ
-  C = r.capacity
-
   end : ℕ
   end = end_after r.capacity (tail_of r) (span_of c)
 

@@ -15,12 +15,6 @@ use Rattle.ring_layout.proofs.CapacityLemmas.{capacity_blocks}
 use Rattle.ring_layout.proofs.PictureLemmas.{word_at_none}
 
 module _ (C start : ℕ) (lawful : IsCapacity C) (lap : start % C ≡ 0) (limit : start ≤ max_position) where
-  blank : List ℕ
-  blank = replicate (C / 8 + 96) 0
-
-  with_tail : List ℕ
-  with_tail = slice_set (replicate (C / 8 + 96) 0) (tail_index C) start
-
   len0 : length {A = ℕ} (replicate (C / 8 + 96) 0) ≡ C / 8 + 96
   len0 = length-replicate (C / 8 + 96) 0
 

@@ -8,13 +8,6 @@ use Rattle.ring_layout.specs.Headers.{padding_type}
 use Rattle.ring_words.specs.Controlled.{GoesOn}
 use Rattle.ring_words.specs.declared.read.action.Action.TheVariants.{Abort, Break, Commit, Continue}
 
--- an action that is neither Abort nor Break
-pub goes_on : (a : Action) → a ≢ Abort → a ≢ Break → GoesOn a
-goes_on Abort na nb = absurd (na refl)
-goes_on Break na nb = absurd (nb refl)
-goes_on Commit na nb = tt
-goes_on Continue na nb = tt
-
 -- what the test for the end of the buffer says
 pub inside_from : (C start head : ℕ) → (nat_lt start head && (head % C == 0)) ≡ false → start < head → head % C ≢ 0
 inside_from C start head test lt e =
