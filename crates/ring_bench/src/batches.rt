@@ -7,7 +7,7 @@ use crate::message::{Body, Sum, TYPE_ID};
 use crate::request::{Request, Workload};
 use crate::sample::Sample;
 use crate::task::{Task, time};
-use ring_rings::{Consumer, Kind, Producer, Ring, Steps};
+use ring_rings::{Bodies, Consumer, Kind, Producer, Ring};
 use ring_words::SoloRing;
 use std::alloc::Global;
 use std::rt::Clock;
@@ -48,13 +48,13 @@ impl Lane for SoloRing {
 
 /// A shared ring with all its seats.
 #[derive(Drop)]
-struct Seated<K, B: Steps> {
+struct Seated<K, B: Bodies> {
     ring: Ring<K, B>,
     producer: Producer,
     consumer: Consumer,
 }
 
-impl<K: Kind, B: Steps> Seated<K, B> {
+impl<K: Kind, B: Bodies> Seated<K, B> {
     fn open(alloc: Global, capacity: u32) -> Result<Seated<K, B>, Fault>
         ensures { IfOk result (λ s. IsProducerOf s.ring s.producer × MayClaim K.many s.producer
             × IsConsumerOf s.ring s.consumer) }
@@ -68,12 +68,14 @@ impl<K: Kind, B: Steps> Seated<K, B> {
     }
 }
 
-impl<K: Kind, B: Steps> Lane for Seated<K, B> {
+impl<K: Kind, B: Bodies> Lane for Seated<K, B> {
     ghost whole = { λ s. IsProducerOf s.ring s.producer × MayClaim K.many s.producer
         × IsConsumerOf s.ring s.consumer };
 
     fn put(&mut self, body: &[u8]) -> bool {
-        K::write_once(&self.ring, &mut self.producer, TYPE_ID, body).is_ok()
+        self.ring
+            .try_write(&mut self.producer, TYPE_ID, body)
+            .is_ok()
     }
 
     fn take(&mut self, sum: &mut Sum) {
@@ -156,7 +158,7 @@ fn body_of(alloc: Global, request: &Request) -> Result<Body, Fault> {
 
 /// Writes and reads at least this many messages with a shared ring. `NO_CONTENDER` if the size is no multiple of 8;
 /// `NO_BUFFER` if there is no ring of that capacity; `REFUSED`, `STUCK` and `WRONG_MESSAGE` if messages are lost.
-pub fn run_batches<K: Kind, B: Steps + Drop, R: Clock>(
+pub fn run_batches<K: Kind, B: Bodies, R: Clock>(
     rt: &R,
     alloc: Global,
     request: &Request,

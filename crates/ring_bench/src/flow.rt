@@ -9,7 +9,7 @@ use crate::request::{Contender, Request, Workload};
 use crate::rest::{Rest, TRIES};
 use crate::sample::{Sample, nanos_since};
 use ring_rings::{
-    ClaimFault, Consumer, Kind, ManyToOne, OneToOne, Producer, Ring, RingTable, SlotTable, Steps,
+    Bodies, ClaimFault, Consumer, InSlots, InWords, Kind, ManyToOne, OneToOne, Producer, Ring,
     TryFault,
 };
 use std::alloc::Global;
@@ -33,7 +33,7 @@ struct Load {
 
 /// Writes a message, and waits while there is no room. `REFUSED` if such a message is never taken, `STUCK` if there was
 /// no room for a long time.
-fn send<K: Kind, B: Steps>(
+fn send<K: Kind, B: Bodies>(
     ring: &Ring<K, B>,
     producer: &mut Producer,
     body: &[u8],
@@ -45,7 +45,7 @@ fn send<K: Kind, B: Steps>(
 {
     let mut rest = Rest::new();
     for _ in 0..TRIES {
-        match K::write_once(ring, producer, TYPE_ID, body) {
+        match ring.try_write(producer, TYPE_ID, body) {
             Ok(()) => return Ok(()),
             Err(TryFault::Refused(ClaimFault::InsufficientCapacity { .. })) => rest.wait(),
             Err(TryFault::Refused(_)) => return Err(Fault::REFUSED),
@@ -56,7 +56,7 @@ fn send<K: Kind, B: Steps>(
 }
 
 /// Sends all messages of a producer.
-fn produce<K: Kind, B: Steps, R: Wait>(
+fn produce<K: Kind, B: Bodies, R: Wait>(
     rt: &R,
     ring: &Ring<K, B>,
     load: Load,
@@ -82,7 +82,7 @@ fn produce<K: Kind, B: Steps, R: Wait>(
 }
 
 /// Sends all messages of all producers, each on a thread of its own.
-fn produce_all<K: Kind + Sync, B: Steps + Sync, R: Threads + Sync + Wait>(
+fn produce_all<K: Kind + Sync, B: Bodies + Sync, R: Threads + Sync + Wait>(
     rt: &R,
     ring: &Ring<K, B>,
     loads: Vec<Load>,
@@ -105,7 +105,7 @@ fn produce_all<K: Kind + Sync, B: Steps + Sync, R: Threads + Sync + Wait>(
 }
 
 /// Reads until this many messages have come.
-fn take_all<K, B: Steps>(ring: &Ring<K, B>, mut consumer: Consumer, messages: u64) -> Tally
+fn take_all<K, B: Bodies>(ring: &Ring<K, B>, mut consumer: Consumer, messages: u64) -> Tally
     requires { IsConsumerOf ring.now consumer }
 {
     let mut tally = Tally::new();
@@ -124,7 +124,7 @@ fn take_all<K, B: Steps>(ring: &Ring<K, B>, mut consumer: Consumer, messages: u6
 }
 
 /// Takes all messages, and measures the time from when all threads are there.
-fn consume<K, B: Steps, R: Clock + Wait>(
+fn consume<K, B: Bodies, R: Clock + Wait>(
     rt: &R,
     ring: &Ring<K, B>,
     consumer: Consumer,
@@ -142,7 +142,7 @@ fn consume<K, B: Steps, R: Clock + Wait>(
 }
 
 /// The producers, each of which sends this many messages, and the consumer.
-fn run_all<K: Kind + Sync, B: Steps + Sync, R: Clock + Threads + Sync + Wait>(
+fn run_all<K: Kind + Sync, B: Bodies + Sync, R: Clock + Threads + Sync + Wait>(
     rt: &R,
     ring: &Ring<K, B>,
     loads: Vec<Load>,
@@ -179,7 +179,7 @@ fn load_of(alloc: Global, producer: Producer, size: usize, id: u32) -> Result<Lo
 }
 
 /// Splits off a producer for each load, one less than there are producers.
-fn loads_of<B: Steps>(
+fn loads_of<B: Bodies>(
     alloc: Global,
     ring: &Ring<ManyToOne, B>,
     mut producer: Producer,
@@ -199,7 +199,7 @@ fn loads_of<B: Steps>(
 }
 
 /// One producer and the consumer of a ring of one producer.
-fn run_one_to_one<B: Steps + Drop + Sync, R: Clock + Threads + Sync + Wait>(
+fn run_one_to_one<B: Bodies + Sync, R: Clock + Threads + Sync + Wait>(
     rt: &R,
     alloc: Global,
     request: &Request,
@@ -217,7 +217,7 @@ fn run_one_to_one<B: Steps + Drop + Sync, R: Clock + Threads + Sync + Wait>(
 }
 
 /// Some producers, each of which sends this many messages, and the consumer of a ring of many producers.
-fn run_producers<B: Steps + Drop + Sync, R: Clock + Threads + Sync + Wait>(
+fn run_producers<B: Bodies + Sync, R: Clock + Threads + Sync + Wait>(
     rt: &R,
     alloc: Global,
     request: &Request,
@@ -230,7 +230,7 @@ fn run_producers<B: Steps + Drop + Sync, R: Clock + Threads + Sync + Wait>(
 }
 
 /// A ring of many producers with as many as a request asks for, one if it asks for a pair.
-fn run_many_to_one<B: Steps + Drop + Sync, R: Clock + Threads + Sync + Wait>(
+fn run_many_to_one<B: Bodies + Sync, R: Clock + Threads + Sync + Wait>(
     rt: &R,
     alloc: Global,
     request: &Request,
@@ -256,10 +256,10 @@ pub fn run_flow<R: Clock + Threads + Sync + Wait>(
     times: u64,
 ) -> Result<Sample, Fault> {
     match request.contender {
-        Contender::OneToOne => run_one_to_one::<RingTable, R>(rt, alloc, request, times),
-        Contender::ManyToOne => run_many_to_one::<RingTable, R>(rt, alloc, request, times),
-        Contender::PlainOneToOne => run_one_to_one::<SlotTable, R>(rt, alloc, request, times),
-        Contender::PlainManyToOne => run_many_to_one::<SlotTable, R>(rt, alloc, request, times),
+        Contender::OneToOne => run_one_to_one::<InWords, R>(rt, alloc, request, times),
+        Contender::ManyToOne => run_many_to_one::<InWords, R>(rt, alloc, request, times),
+        Contender::PlainOneToOne => run_one_to_one::<InSlots, R>(rt, alloc, request, times),
+        Contender::PlainManyToOne => run_many_to_one::<InSlots, R>(rt, alloc, request, times),
         _ => Err(Fault::NO_CONTENDER),
     }
 }

@@ -9,7 +9,7 @@ use crate::request::{Contender, Request};
 use crate::sample::Sample;
 use crate::storm::run_storm;
 use crate::trips::run_trips;
-use ring_rings::{Closes, Kind, ManyToOne, OneToOne, RingTable, SlotTable};
+use ring_rings::{Bodies, InSlots, InWords, Kind, ManyToOne, OneToOne};
 use std::alloc::Global;
 use std::rt::Clock;
 use std::sync::Wait;
@@ -37,7 +37,7 @@ const TRIES: u32 = 8;
 const MOST_GROWTH: u64 = 64;
 
 /// Runs a job with a shared ring of a kind this many times.
-fn run_ring<R: Clock + Threads + Sync, K: Kind + Sync, B: Closes + Drop + Sync>(
+fn run_ring<R: Clock + Threads + Sync, K: Kind + Sync, B: Bodies + Sync>(
     rt: &R,
     alloc: Global,
     request: &Request,
@@ -60,12 +60,12 @@ fn run_any_ring<R: Clock + Threads + Sync>(
 ) -> Result<Sample, Fault> {
     match request.contender {
         Contender::Solo => run_solo(rt, alloc, request, times),
-        Contender::OneToOne => run_ring::<R, OneToOne, RingTable>(rt, alloc, request, job, times),
-        Contender::ManyToOne => run_ring::<R, ManyToOne, RingTable>(rt, alloc, request, job, times),
-        Contender::PlainOneToOne => run_ring::<R, OneToOne, SlotTable>(
+        Contender::OneToOne => run_ring::<R, OneToOne, InWords>(rt, alloc, request, job, times),
+        Contender::ManyToOne => run_ring::<R, ManyToOne, InWords>(rt, alloc, request, job, times),
+        Contender::PlainOneToOne => run_ring::<R, OneToOne, InSlots>(
             rt, alloc, request, job, times,
         ),
-        Contender::PlainManyToOne => run_ring::<R, ManyToOne, SlotTable>(
+        Contender::PlainManyToOne => run_ring::<R, ManyToOne, InSlots>(
             rt, alloc, request, job, times,
         ),
         _ => Err(Fault::NO_CONTENDER),

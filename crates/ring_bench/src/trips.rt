@@ -14,7 +14,7 @@ use ring_board::Board;
 use ring_conductor::Request::{Allocate, Set};
 use ring_conductor::{Client, Conductor, Polled, Reply, Request as Command};
 use ring_counters::{CounterValues, CountersManager};
-use ring_rings::{Closes, Kind, Ring};
+use ring_rings::{Bodies, Kind, Ring};
 use std::alloc::Global;
 use std::rt::Clock;
 use std::sync::atomic::{AtomicBool, Ordering};
@@ -29,7 +29,7 @@ const COUNTERS: u32 = 16;
 
 /// A client that sends commands, one after another, and waits for each reply.
 #[derive(Drop)]
-struct Caller<'a, K, B: Closes, R> {
+struct Caller<'a, K, B: Bodies, R> {
     rt: &'a R,
     ring: &'a Ring<K, B>,
     board: &'a Board,
@@ -59,7 +59,7 @@ fn receive(board: &Board, client: &mut Client, correlation: u64) -> Result<Reply
 }
 
 /// Sends a command, and waits for the reply.
-fn ask<K: Kind, B: Closes>(
+fn ask<K: Kind, B: Bodies>(
     ring: &Ring<K, B>,
     board: &Board,
     client: &mut Client,
@@ -73,7 +73,7 @@ fn ask<K: Kind, B: Closes>(
 }
 
 /// Allocates the counter 0, and waits for the reply.
-fn allocate<K: Kind, B: Closes>(
+fn allocate<K: Kind, B: Bodies>(
     ring: &Ring<K, B>,
     board: &Board,
     client: &mut Client,
@@ -92,7 +92,7 @@ fn allocate<K: Kind, B: Closes>(
     }
 }
 
-impl<'a, K: Kind, B: Closes, R: Clock> Task for Caller<'a, K, B, R> {
+impl<'a, K: Kind, B: Bodies, R: Clock> Task for Caller<'a, K, B, R> {
     ghost is_ready = { λ s. IsSeatedAt K.many s.ring.now s.board.now s.client };
 
     fn step(&mut self, number: u64) -> Result<(), Fault> {
@@ -116,7 +116,7 @@ impl<'a, K: Kind, B: Closes, R: Clock> Task for Caller<'a, K, B, R> {
 
 /// What client and conductor share, and the two.
 #[derive(Drop)]
-struct Service<K, B: Closes> {
+struct Service<K, B: Bodies> {
     ring: Ring<K, B>,
     board: Board,
     values: CounterValues,
@@ -124,7 +124,7 @@ struct Service<K, B: Closes> {
     client: Client,
 }
 
-impl<K: Kind, B: Closes + Drop> Service<K, B> {
+impl<K: Kind, B: Bodies> Service<K, B> {
     /// A ring and a board of this capacity, with a conductor and a client.
     fn open(alloc: Global, capacity: u32) -> Result<Service<K, B>, Fault>
         ensures conductor { IfOk result (λ s. IsConductorOf IsConsumerOf s.ring s.board s.values s.conductor) }
@@ -146,7 +146,7 @@ impl<K: Kind, B: Closes + Drop> Service<K, B> {
 }
 
 /// Works until it is stopped.
-fn conduct<K, B: Closes>(
+fn conduct<K, B: Bodies>(
     ring: &Ring<K, B>,
     board: &Board,
     values: &CounterValues,
@@ -197,7 +197,7 @@ fn sample_of(nanos: u64, mut trips: Vec<u32>) -> Result<Sample, Fault> {
 }
 
 /// Allocates the counter 0, and then sends all commands. Returns the nanoseconds that these took.
-fn call_often<R: Clock, K: Kind, B: Closes>(
+fn call_often<R: Clock, K: Kind, B: Bodies>(
     rt: &R,
     caller: &mut Caller<'_, K, B, R>,
     times: u64,
@@ -210,7 +210,7 @@ fn call_often<R: Clock, K: Kind, B: Closes>(
 }
 
 /// Sends all commands, and then says the conductor to stop.
-fn call_all<R: Clock, K: Kind, B: Closes>(
+fn call_all<R: Clock, K: Kind, B: Bodies>(
     rt: &R,
     mut caller: Caller<'_, K, B, R>,
     stop: &AtomicBool,
@@ -232,7 +232,7 @@ fn check_last(conductor: &Conductor, times: u64) -> Result<(), Fault> {
 }
 
 /// A client and the conductor, each on a thread.
-fn run_service<R: Clock + Threads + Sync, K: Kind + Sync, B: Closes + Drop + Sync>(
+fn run_service<R: Clock + Threads + Sync, K: Kind + Sync, B: Bodies + Sync>(
     rt: &R,
     service: Service<K, B>,
     last: Instant,
@@ -273,7 +273,7 @@ fn run_service<R: Clock + Threads + Sync, K: Kind + Sync, B: Closes + Drop + Syn
 
 /// Sends this many commands, one after another, and waits for each reply. `NO_BUFFER` if there is no ring of that
 /// capacity; `REFUSED`, `STUCK` and `WRONG_MESSAGE` if commands or replies are lost.
-pub fn run_trips<R: Clock + Threads + Sync, K: Kind + Sync, B: Closes + Drop + Sync>(
+pub fn run_trips<R: Clock + Threads + Sync, K: Kind + Sync, B: Bodies + Sync>(
     rt: &R,
     alloc: Global,
     request: &Request,

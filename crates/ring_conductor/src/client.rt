@@ -8,7 +8,7 @@ ghost use Rattle.std.specs.Prelude.{◌≡◌, length, IfErr, IfOk, OnErr, OnOk}
 
 use ring_board::{Board, CopyReceiver, Lapped};
 use ring_protocol::{Command, LONGEST_COMMAND, Reply, decode_reply, encode_command};
-use ring_rings::{Kind, Producer, Ring, Steps, TryFault};
+use ring_rings::{Bodies, Kind, Producer, Ring, TryFault};
 use thiserror::Error;
 
 /// Sends commands through a ring of either kind and receives the replies from a broadcast buffer. One thread has it at
@@ -151,7 +151,7 @@ impl Client {
     }
 
     /// Draws the correlation id of a command, for `send_as`.
-    pub fn next_correlation_id<K, B: Steps>(&mut self, ring: &Ring<K, B>) -> u64
+    pub fn next_correlation_id<K, B: Bodies>(&mut self, ring: &Ring<K, B>) -> u64
         requires { IsProducerOf ring.now (producer_of self.old) }
         ensures producer { IsProducerOf ring.now (producer_of self.new) }
         ensures same { sent_by self.new ≡ sent_by self.old }
@@ -164,7 +164,7 @@ impl Client {
 
     /// Loads the heartbeat that the conductor stores, by one step: 0 if it stored none, and never one before the last
     /// that this client loaded. Whether a conductor that no longer stores one is alive is for the caller to judge.
-    pub fn heartbeat<K, B: Steps>(&mut self, ring: &Ring<K, B>) -> u64
+    pub fn heartbeat<K, B: Bodies>(&mut self, ring: &Ring<K, B>) -> u64
         requires { IsProducerOf ring.now (producer_of self.old) }
         ensures producer { IsProducerOf ring.now (producer_of self.new) }
         ensures same { sent_by self.new ≡ sent_by self.old }
@@ -178,9 +178,9 @@ impl Client {
     /// Makes one try to send a command with a correlation id that was drawn for it. It never waits, and takes no
     /// memory.
     ///
-    /// Returns `TooLong` if the command has more than `LONGEST_COMMAND` bytes, and `Refused` if `Kind::write_once`
+    /// Returns `TooLong` if the command has more than `LONGEST_COMMAND` bytes, and `Refused` if `Ring::try_write`
     /// refuses. Nothing was written then, and the call can be made again with the same id.
-    pub fn send_as<K: Kind, B: Steps>(
+    pub fn send_as<K: Kind, B: Bodies>(
         &mut self,
         ring: &Ring<K, B>,
         correlation: u64,
@@ -202,12 +202,7 @@ impl Client {
         let Some(len) = encode_command(&command, self.buffer.as_mut_slice()) else {
             return Err(SendFault::TooLong);
         };
-        match K::write_once(
-            ring,
-            &mut self.producer,
-            command.type_id(),
-            &self.buffer[..len],
-        ) {
+        match ring.try_write(&mut self.producer, command.type_id(), &self.buffer[..len]) {
             Ok(()) => Ok(()),
             Err(reason) => Err(SendFault::Refused {
                 correlation,
@@ -220,9 +215,9 @@ impl Client {
     /// no memory.
     ///
     /// Returns `TooLong` if the command has more than `LONGEST_COMMAND` bytes, for which no id was drawn, and `Refused`
-    /// if `Kind::write_once` refuses. Nothing was written then; the id in the refusal stays drawn, and `send_as` can
+    /// if `Ring::try_write` refuses. Nothing was written then; the id in the refusal stays drawn, and `send_as` can
     /// try again with it.
-    pub fn send<K: Kind, B: Steps>(
+    pub fn send<K: Kind, B: Bodies>(
         &mut self,
         ring: &Ring<K, B>,
         request: Request<'_>,

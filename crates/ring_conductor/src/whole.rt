@@ -8,7 +8,7 @@ use crate::conductor::{Conductor, Work};
 use crate::finishing::{Finished, finish};
 use ring_board::{Board, CopyReceiver};
 use ring_counters::CountersManager;
-use ring_rings::{Closes, ManyToOne, Ring, RingTable};
+use ring_rings::{Bodies, InWords, ManyToOne, Ring};
 use std::alloc::Global;
 use std::snapshot::Snapshot;
 use thiserror::Error;
@@ -69,11 +69,11 @@ pub fn whole_run(alloc: Global, early: u64, late: u64) -> Result<WholeRun, Whole
     requires moments { (early ≤ 2 ^ 62) × (late ≤ 2 ^ 62) }
     ensures { IfOk result (Concludes early late) }
 {
-    whole_run_over::<RingTable>(alloc, early, late)
+    whole_run_over::<InWords>(alloc, early, late)
 }
 
-/// `whole_run` over a ring of either form: with a `SlotTable` bodies lie in plain memory.
-pub fn whole_run_over<B: Closes + Drop>(
+/// `whole_run` over a ring of either form: with `InSlots` bodies lie in plain memory.
+pub fn whole_run_over<B: Bodies>(
     alloc: Global,
     early: u64,
     late: u64,

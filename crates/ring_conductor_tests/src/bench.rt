@@ -8,7 +8,7 @@ use crate::sending::{receives, send};
 use ring_board::{Board, CopyReceiver};
 use ring_conductor::{Command, Conductor, Cycle, FinishFault, Finished, Reply, Work, WorkStop};
 use ring_counters::{CounterValues, CountersManager, IdFault};
-use ring_rings::{Closes, Kind, Producer, Ring, RingTable, Steps};
+use ring_rings::{Bodies, InWords, Kind, Producer, Ring};
 use std::alloc::Global;
 use std::process::Abort;
 
@@ -52,7 +52,7 @@ fn done(is_done: bool) -> Answer {
 /// A conductor of some counters, with its ring, its board, the ring's sole producer and a listener. `B` says where the
 /// ring's bodies lie.
 #[derive(Drop)]
-pub struct Bench<K, B: Steps = RingTable> {
+pub struct Bench<K, B: Bodies = InWords> {
     pub ring: Ring<K, B>,
     pub board: Board,
     pub values: CounterValues,
@@ -65,7 +65,7 @@ pub struct Bench<K, B: Steps = RingTable> {
     ghost listens: { IsReceiverOf board listener },
 }
 
-impl<K: Kind, B: Closes + Drop> Bench<K, B> {
+impl<K: Kind, B: Bodies> Bench<K, B> {
     /// With a ring of 1,024 bytes, a board of 256, and this many counters, whose ids are given again after 50 ms.
     pub fn new(rt: &impl Abort, alloc: Global, counters: u32) -> Self {
         Self::with_sizes(rt, alloc, (1024, 256), counters, 0)
@@ -105,7 +105,9 @@ impl<K: Kind, B: Closes + Drop> Bench<K, B> {
     }
 
     fn write(&mut self, type_id: i32, body: &[u8]) -> bool {
-        K::write_once(&self.ring, &mut self.producer, type_id, body).is_ok()
+        self.ring
+            .try_write(&mut self.producer, type_id, body)
+            .is_ok()
     }
 
     pub fn run(&mut self, cycles: &[Cycle]) -> Work

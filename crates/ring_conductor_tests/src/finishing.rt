@@ -8,12 +8,12 @@ use crate::sending::work;
 use ring_board::Board;
 use ring_conductor::{Conductor, FinishFault, FinishRefused, WorkStop, finish};
 use ring_counters::CounterValues;
-use ring_rings::{Closes, ManyToOne, Producer, Ring, RingTable, SlotTable};
+use ring_rings::{Bodies, InSlots, InWords, ManyToOne, Producer, Ring};
 use std::alloc::Global;
 use std::process::Abort;
 
 /// All of a conductor that does not finish yet, for this reason.
-fn refused<B: Closes + Drop>(
+fn refused<B: Bodies>(
     rt: &impl Abort,
     ring: Ring<ManyToOne, B>,
     board: Board,
@@ -36,7 +36,7 @@ fn refused<B: Closes + Drop>(
 }
 
 /// Finishes after a message that is no command was received.
-fn finishes<B: Closes + Drop>(rt: &impl Abort, back: FinishRefused<Ring<ManyToOne, B>>)
+fn finishes<B: Bodies>(rt: &impl Abort, back: FinishRefused<Ring<ManyToOne, B>>)
     requires conductor { IsConductorOf IsConsumerOf back.ring back.board back.values back.conductor }
     requires producer { IsProducerOf back.ring back.producer }
 {
@@ -58,7 +58,7 @@ fn finishes<B: Closes + Drop>(rt: &impl Abort, back: FinishRefused<Ring<ManyToOn
 }
 
 /// Does not finish before the other producer is back, which writes a message that is no command.
-fn finishes_with_both<B: Closes + Drop>(
+fn finishes_with_both<B: Bodies>(
     rt: &impl Abort,
     back: FinishRefused<Ring<ManyToOne, B>>,
     mut other: Producer,
@@ -83,7 +83,7 @@ fn finishes_with_both<B: Closes + Drop>(
 }
 
 /// Open claims are reported before producers that are out, and the conductor works on after it did not finish.
-fn finishes_last<B: Closes + Drop>(rt: &impl Abort, alloc: Global) {
+fn finishes_last<B: Bodies>(rt: &impl Abort, alloc: Global) {
     let Bench {
         ring,
         board,
@@ -103,6 +103,6 @@ fn finishes_last<B: Closes + Drop>(rt: &impl Abort, alloc: Global) {
 
 #[test]
 fn finishes_once_claims_are_settled_and_producers_back(rt: HostRuntime) {
-    finishes_last::<RingTable>(&rt, rt.alloc());
-    finishes_last::<SlotTable>(&rt, rt.alloc());
+    finishes_last::<InWords>(&rt, rt.alloc());
+    finishes_last::<InSlots>(&rt, rt.alloc());
 }

@@ -1,5 +1,5 @@
 //! When a storm's clients ask their gate, and when they report an answer to it; and threads that do not start.
-use crate::storms::{Bodies, run_in};
+use crate::storms::{Form, run_in};
 use ring_storm::{Gate, OpenGate, StormFault, StormPlan};
 use std::sync::atomic::Ordering::SeqCst;
 use std::sync::atomic::{AtomicBool, AtomicU32};
@@ -47,7 +47,7 @@ fn each_answer_is_told_before_the_next_command(rt: HostRuntime) {
         ring: 256,
         turns: 50_000_000,
     };
-    let report = run_in(&rt, rt.alloc(), Bodies::InWords, &plan, &gate).expect(&rt, "a report");
+    let report = run_in(&rt, rt.alloc(), Form::InWords, &plan, &gate).expect(&rt, "a report");
     assert_eq!(rt; (report.seen, report.sum), (600, 600));
     assert!(rt; !gate.broken.load(SeqCst));
     let answered = [gate.answered[0].load(SeqCst), gate.answered[1].load(SeqCst)];
@@ -81,7 +81,7 @@ fn a_thread_that_cannot_be_started_is_told_as_memory(rt: HostRuntime) {
         turns: 50_000_000,
     };
     for thread in 0..5 {
-        let report = run_in(&rt, rt.alloc(), Bodies::InWords, &plan, &Without { thread });
+        let report = run_in(&rt, rt.alloc(), Form::InWords, &plan, &Without { thread });
         assert_eq!(rt; report, Err(StormFault::OutOfMemory));
     }
 }
@@ -126,7 +126,7 @@ fn no_answer_is_told_where_no_conductor_works(rt: HostRuntime) {
         ring: 4096,
         turns: 50_000_000,
     };
-    let report = run_in(&rt, rt.alloc(), Bodies::InWords, &plan, &gate);
+    let report = run_in(&rt, rt.alloc(), Form::InWords, &plan, &gate);
     assert_eq!(rt; report, Err(StormFault::OutOfMemory));
     assert!(rt; gate.asked.load(SeqCst));
     assert!(rt; !gate.told.load(SeqCst));
@@ -189,7 +189,7 @@ fn no_answer_is_told_before_the_conductor_works(rt: HostRuntime) {
         ring: 256,
         turns: 50_000_000,
     };
-    let report = run_in(&rt, rt.alloc(), Bodies::InWords, &plan, &gate).expect(&rt, "a report");
+    let report = run_in(&rt, rt.alloc(), Form::InWords, &plan, &gate).expect(&rt, "a report");
     let told = (gate.told_before.load(SeqCst), gate.told.load(SeqCst));
     assert_eq!(rt; (report.seen, told), (2, (0, 2)));
 }

@@ -10,16 +10,16 @@ use crate::sending::work;
 use ring_board::Board;
 use ring_conductor::{Command, Conductor, FinishRefused, Finished, WorkStop, finish};
 use ring_counters::CounterValues;
-use ring_rings::{ManyToOne, Producer, Ring, SlotTable};
+use ring_rings::{InSlots, ManyToOne, Producer, Ring};
 
 /// Finishes over a ring whose bodies lie in slots, with the clauses of `finish`.
 fn finish_over_slots(
-    ring: Ring<ManyToOne, SlotTable>,
+    ring: Ring<ManyToOne, InSlots>,
     board: Board,
     values: CounterValues,
     conductor: Conductor,
     producer: Producer,
-) -> Result<Finished, FinishRefused<Ring<ManyToOne, SlotTable>>>
+) -> Result<Finished, FinishRefused<Ring<ManyToOne, InSlots>>>
     requires conductor { IsConductorOf IsConsumerOf ring board values conductor }
     requires producer { IsProducerOf ring producer }
     ensures refused { IsRefusedAs (handed_back ring board values conductor producer)
@@ -33,7 +33,7 @@ fn finish_over_slots(
 
 /// The same without its clauses, which a test does not need.
 fn finished_over_slots(
-    ring: Ring<ManyToOne, SlotTable>,
+    ring: Ring<ManyToOne, InSlots>,
     board: Board,
     values: CounterValues,
     conductor: Conductor,
@@ -54,7 +54,7 @@ static COMMAND: Command<'static> = Command::Allocate {
 
 #[test]
 fn the_headline_holds_of_bodies_in_slots(rt: HostRuntime) {
-    let mut bench = Bench::<ManyToOne, SlotTable>::new(&rt, rt.alloc(), 4);
+    let mut bench = Bench::<ManyToOne, InSlots>::new(&rt, rt.alloc(), 4);
     assert!(rt; bench.send(&[COMMAND]));
     let Bench {
         ring,

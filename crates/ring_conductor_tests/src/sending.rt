@@ -5,10 +5,10 @@ ghost use Rattle.ring_board.specs.Seats.{IsReceiverOf};
 
 use ring_board::{Board, Copied, CopyReceiver, Lapped};
 use ring_conductor::{Command, Reply, Work, WorkStop, decode_reply, encode_command};
-use ring_rings::{Kind, Producer, Ring, Steps};
+use ring_rings::{Bodies, Kind, Producer, Ring};
 
 /// Sends a command, and tests whether there was room for it.
-fn send_one<K: Kind, B: Steps>(
+fn send_one<K: Kind, B: Bodies>(
     ring: &Ring<K, B>,
     producer: &mut Producer,
     command: &Command<'_>,
@@ -21,11 +21,11 @@ fn send_one<K: Kind, B: Steps>(
     let mut bytes = [0; 64];
     let len = encode_command(command, &mut bytes).unwrap_or(0);
     let body = bytes.get(..len).unwrap_or(&[]);
-    K::write_once(ring, producer, command.type_id(), body).is_ok()
+    ring.try_write(producer, command.type_id(), body).is_ok()
 }
 
 /// Sends commands, and tests whether there was room for all.
-pub fn send<K: Kind, B: Steps>(
+pub fn send<K: Kind, B: Bodies>(
     ring: &Ring<K, B>,
     producer: &mut Producer,
     commands: &[Command],

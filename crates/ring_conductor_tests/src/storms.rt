@@ -1,5 +1,5 @@
 //! Storms over rings of either form, whose reports are known.
-use ring_rings::{Closes, RingTable, SlotTable};
+use ring_rings::{Bodies, InSlots, InWords};
 use ring_storm::{Gate, OpenGate, StormFault, StormPlan, storm_over};
 use std::alloc::Global;
 use std::sync::Wait;
@@ -24,7 +24,7 @@ pub struct Numbers {
 }
 
 /// Runs a storm over a ring of one form. It has no contract, so that the tests do not depend on a storm's.
-fn run<B: Closes + Drop + Sync, R: Threads + Wait, G: Gate + Sync>(
+fn run<B: Bodies + Sync, R: Threads + Wait, G: Gate + Sync>(
     rt: &R,
     alloc: Global,
     plan: &StormPlan,
@@ -42,24 +42,24 @@ fn run<B: Closes + Drop + Sync, R: Threads + Wait, G: Gate + Sync>(
 
 /// Where the bodies of a storm's ring lie.
 #[derive(Clone, Copy)]
-pub enum Bodies {
+pub enum Form {
     InWords,
     InSlots,
 }
 
-const BOTH: [Bodies; 2] = [Bodies::InWords, Bodies::InSlots];
+const BOTH: [Form; 2] = [Form::InWords, Form::InSlots];
 
 /// Runs a storm over a ring of this form.
 pub fn run_in<R: Threads + Wait, G: Gate + Sync>(
     rt: &R,
     alloc: Global,
-    bodies: Bodies,
+    bodies: Form,
     plan: &StormPlan,
     gate: &G,
 ) -> Result<Numbers, StormFault> {
     match bodies {
-        Bodies::InWords => run::<RingTable, R, G>(rt, alloc, plan, gate),
-        Bodies::InSlots => run::<SlotTable, R, G>(rt, alloc, plan, gate),
+        Form::InWords => run::<InWords, R, G>(rt, alloc, plan, gate),
+        Form::InSlots => run::<InSlots, R, G>(rt, alloc, plan, gate),
     }
 }
 

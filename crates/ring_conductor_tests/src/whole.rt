@@ -1,6 +1,6 @@
 //! One run of the whole, as a user sees what comes out.
 use ring_conductor::{Polled, Reply, WholeRun, Work, WorkStop, whole_run, whole_run_over};
-use ring_rings::SlotTable;
+use ring_rings::InSlots;
 use std::process::Abort;
 
 /// A run that took both commands, and left a counter with 7.
@@ -38,6 +38,6 @@ fn one_run_takes_all_and_leaves_its_counter(rt: HostRuntime) {
 /// Its commands lie in plain memory.
 #[test]
 fn one_run_over_slots_does_the_same(rt: HostRuntime) {
-    let run = whole_run_over::<SlotTable>(rt.alloc(), 100, 200).expect(&rt, "a run");
+    let run = whole_run_over::<InSlots>(rt.alloc(), 100, 200).expect(&rt, "a run");
     check(&rt, run);
 }

@@ -11,7 +11,7 @@ use Rattle.ring_table.specs.declared.claim.Stage.TheVariants.{Stored}
 use Rattle.ring_table.specs.Changes.{blank, changed, staged}
 use Rattle.ring_table.specs.ProducerSteps.{with_changed}
 use Rattle.ring_rings.specs.declared.ring.Ring.{Ring}
-use Rattle.ring_rings.specs.declared.steps.Steps.{Ghosts}
+use Rattle.ring_rings.specs.declared.bodies.Bodies.{Ghosts}
 use Rattle.ring_rings.specs.declared.ring.Producer.{Producer}
 use Rattle.ring_rings.specs.Bodies.{PutsBytes}
 use Rattle.ring_rings.specs.Seats.{view_of, IsOpenClaimOf, KeepsOthers}

@@ -6,7 +6,7 @@ use Rattle.std.proofs.lemmas.List.{append-nil, get_or_default, length-set, set-g
 use Rattle.std.proofs.lemmas.List.Elements.{All-head, All-nil, All-push, All-tail}
 use Rattle.ring_words.specs.Open.{ClaimAt}
 use Rattle.ring_rings.specs.declared.ring.Ring.{Ring}
-use Rattle.ring_rings.specs.declared.steps.Steps.{Ghosts}
+use Rattle.ring_rings.specs.declared.bodies.Bodies.{Ghosts}
 use Rattle.ring_rings.specs.declared.ring.Producer.{Producer}
 use Rattle.ring_rings.specs.Holding.{in_slots, AreApart, AreOpen}
 use Rattle.ring_rings.specs.Seats.{IsOpenClaimOf, KeepsOthers}
@@ -24,23 +24,12 @@ pub record IsPast (number : ℕ) (slots : Slots) (i : ℕ) : Type 0 where
   pub none : All (λ o. has_numbered number o ≡ false) (take i slots)
 
 module _ (number : ℕ) (slots : Slots) where
-  pub past_none : IsPast number slots 0
-  past_none = record { none = All-nil (λ o. has_numbered number o ≡ false) }
-
   -- the next one does not have it
   pub past_more : (i : ℕ) (d : Option ClaimAt) → i < length slots → has_numbered number (get_or slots i d) ≡ false
       → IsPast number slots i → IsPast number slots (i + 1)
   past_more i d inside off so_far = record {
     none = subst (All (λ o. has_numbered number o ≡ false)) (sym (take_more slots i d inside))
         (All-push (λ o. has_numbered number o ≡ false) (take i slots) (get_or slots i d) so_far.none off);
-  }
-
-  -- the next one has it
-  pub slot_found : (i : ℕ) (d : Option ClaimAt) → i < length slots → has_numbered number (get_or slots i d) ≡ true
-      → IsSlotOf number slots i
-  slot_found i d inside on = record {
-    inside = inside;
-    has = ap (has_numbered number) (get_or_default slots i None d inside) ∙ on;
   }
 
 -- no slot has it
@@ -67,10 +56,6 @@ numbered_in : (number : ℕ) (o : Option ClaimAt) (t : ClaimAt) → o ≡ Some t
     → t.place ≡ number
 numbered_in number o t is has =
     eqb-true t.place number (subst (λ (x : Option ClaimAt). has_numbered number x ≡ true) is has)
-
-pub no_slot : (number : ℕ) (o : Option ClaimAt) → o ≡ None → has_numbered number o ≡ true → ⊥
-no_slot number o is has =
-    let clash : false ≡ true = subst (λ (x : Option ClaimAt). has_numbered number x ≡ true) is has in absurd cc
 
 pub takes_from : (number : ℕ) (slots : Slots) (i : ℕ) (t : ClaimAt) → IsSlotOf number slots i
     → slice_index_or slots i None ≡ Some t → AreApart (in_slots slots)

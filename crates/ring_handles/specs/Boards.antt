@@ -62,10 +62,6 @@ pub record Listening : Type 0 where
   -- how it was lapped last
   pub lap : Option Lapped
 
--- the receiver with this seat
-abbrev pub seated : Sat → Listening → Listening
-seated m r = record r { seat = m }
-
 -- a share was moved to a receiver, which starts at the record at latest
 pub record Subscribes (p q : Sending) (r : Listening) : Type 0 where
   pub allowed : subscribe_refusal_of p.view.shares ≡ None

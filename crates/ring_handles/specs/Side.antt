@@ -9,7 +9,7 @@ use Rattle.ring_words.specs.Open.{ClaimAt}
 use Rattle.ring_rings.specs.Closing.{close_refusal_of}
 use Rattle.ring_rings.specs.declared.fault.CloseFault.{CloseFault}
 use Rattle.ring_rings.specs.declared.ring.Ring.{Ring}
-use Rattle.ring_rings.specs.declared.steps.Steps.{Ghosts}
+use Rattle.ring_rings.specs.declared.bodies.Bodies.{Ghosts}
 use Rattle.ring_rings.specs.declared.ring.Producer.{Producer}
 use Rattle.ring_rings.specs.declared.ring.Consumer.{Consumer}
 use Rattle.ring_rings.specs.Holding.{AreOpen}
@@ -74,7 +74,7 @@ pub record Side : Type 0 where
 abbrev pub side : {K B : Type 0} {G : Ghosts B} → Bool → Identity → Ring K B G → Producer → List ClaimAt → Side
 side {K} {B} {G} many identity ring p claims = record {
   many = many;
-  table = G.table_of ring.table;
+  table = ring.table.shared.table_id;
   identity = identity;
   capacity = capacity_of ring;
   view = view_of p;

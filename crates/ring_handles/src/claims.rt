@@ -36,7 +36,7 @@ pub(crate) fn claim_in<K: Kind>(
     let Ok(()) = claims.reserve(producer.open_claims()) else {
         return OUT_OF_MEMORY;
     };
-    match K::claim_once(ring, producer, type_id, len) {
+    match ring.try_claim(producer, type_id, len) {
         Ok(claim) => {
             *number = claim.place();
             claims.keep(claim);

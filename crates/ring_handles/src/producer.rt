@@ -51,7 +51,7 @@ fn write_in<K: Kind>(ring: &PlainRing<K>, producer: &mut Producer, type_id: i32,
         → Wrote type_id body.now (side K.many identity ring.now producer.old claims)
         (side K.many identity ring.now producer.new claims) result }
 {
-    match K::write_once(ring, producer, type_id, body) {
+    match ring.try_write(producer, type_id, body) {
         Ok(()) => DONE,
         Err(fault) => fault.code(),
     }

@@ -1,5 +1,5 @@
 -- What a closed table hands on.
-use Rattle.std.proofs.Common.{◌≡◌, ℕ, ◌≤◌, ◌<◌, List, [], ◌∷◌, length, slice_index, refl, sym, ap, ◌∙◌, subst, arith}
+use Rattle.std.proofs.Common.{◌≡◌, ℕ, ◌≤◌, ◌<◌, List, [], ◌∷◌, length, slice_index, true, refl, sym, ap, ◌∙◌, subst, arith}
 use Rattle.std.specs.Prelude.{All}
 use Rattle.std.proofs.lemmas.List.Elements.{All-cons, All-nil}
 use mathlib.Core.Option.{some}
@@ -7,6 +7,7 @@ use lib.ListN.{get_elem?}
 use Rattle.ring_layout.specs.declared.message.Claim.{Claim}
 use Rattle.ring_layout.specs.History.{IsMessage}
 use Rattle.ring_layout.specs.Places.{end_of}
+use Rattle.ring_layout.specs.Refusals.{all_shares}
 use Rattle.ring_layout.specs.Picture.{IsPicture}
 use Rattle.ring_layout.specs.Layout.{head_cache_index, heartbeat_index}
 use Rattle.ring_layout.proofs.PlaceLemmas.{next_le, span_bounds}
@@ -17,7 +18,7 @@ use Rattle.ring_words.specs.Ring.{Has, IsRing, ring}
 use Rattle.ring_table.specs.declared.claim.StagedClaim.{StagedClaim}
 use Rattle.ring_table.specs.declared.view.View.{View}
 use Rattle.ring_table.specs.Staged.{in_words, AreAbove, ArePlaced, AreRising, claim_end, unplaced, staged_span}
-use Rattle.ring_table.specs.Closed.{IsClosed, LeavesRest, restarted}
+use Rattle.ring_table.specs.Closed.{IsClosed, IsLast, LeavesRest, restarted}
 use Rattle.ring_table.specs.OpenClaims.{open_count}
 use Rattle.ring_table.specs.Views.{with_consumer_of}
 use Rattle.ring_table.proofs.MemoryLemmas.{head_bounds}
@@ -120,38 +121,31 @@ module _ (C start : ℕ) (words : List ℕ) (v : View) (closed : IsClosed C star
           unnamed = closed.service.unnamed;
         }
 
--- what a producer into which the consumer was joined has of both
-pub none_open_too : (v p r : View) → v ≡ with_consumer_of p r → open_count p.producer.claims ≡ 0
-    → open_count v.producer.claims ≡ 0
-none_open_too v p r both none = ap (λ (u : View). open_count u.producer.claims) both ∙ none
+-- a producer with all shares and no open claim that a consumer at rest was joined into has the last seat
+pub last_seat : (v p r : View) → v ≡ with_consumer_of p r → p.producer.shares ≡ all_shares
+    → open_count p.producer.claims ≡ 0 → p.out ≡ [] → r.consumes ≡ true → r.consumer.cleared ≡ r.consumer.head
+    → IsLast v
+last_seat v p r both all none_open home consumes none_cleared = subst IsLast (sym both) record {
+  all = all;
+  consumes = consumes;
+  home = home;
+  none_open = none_open;
+  none_cleared = none_cleared;
+}
 
-pub none_cleared_too : (v p r : View) → v ≡ with_consumer_of p r → r.consumer.cleared ≡ r.consumer.head
-    → v.consumer.cleared ≡ v.consumer.head
-none_cleared_too v p r both none =
-    ap (λ (u : View). u.consumer.cleared) both ∙ none ∙ sym (ap (λ (u : View). u.consumer.head) both)
+-- v is the view of a producer p that the consumer r was joined into
+module _ (K C start : ℕ) (same : K ≡ C) (words : List ℕ) (v p r : View) (both : v ≡ with_consumer_of p r)
+    (closed : IsClosed K start words v) (left : LeavesRest K words v) where
+  pub closes_to_ring : IsRing (ring C words)
+  closes_to_ring = subst (λ k. IsRing (ring k words)) same (rest_is_ring K start words v closed left)
 
--- v is the view of a producer p that the consumer r was joined into, and the items are a copy of the closed table's
--- words
-module _ (K C start : ℕ) (same : K ≡ C) (words items : List ℕ) (copied : items ≡ words) (v p r : View)
-    (both : v ≡ with_consumer_of p r) (closed : IsClosed K start words v)
-    (leaves : open_count v.producer.claims ≡ 0 → v.consumer.cleared ≡ v.consumer.head → LeavesRest K words v)
-    (none_open : open_count p.producer.claims ≡ 0) (none_cleared : r.consumer.cleared ≡ r.consumer.head) where
-  left : LeavesRest K words v
-  left = leaves (ap (λ (u : View). open_count u.producer.claims) both ∙ none_open)
-      (ap (λ (u : View). u.consumer.cleared) both ∙ none_cleared ∙ sym (ap (λ (u : View). u.consumer.head) both))
+  pub closes_with_rest : HandsOut C start p (at_rest r) (ring C words)
+  closes_with_rest = subst (λ k. HandsOut k start p (at_rest r) (ring k words)) same
+      (hands_out K start words v closed left p r both)
 
-  carried : (P : ℕ → List ℕ → Type 0) → P K words → P C items
-  carried P t = subst (λ (k : ℕ). P k items) same (subst (P K) (sym copied) t)
+  pub closes_with_service : Serves C p (at_rest r) (ring C words)
+  closes_with_service =
+      subst (λ k. Serves k p (at_rest r) (ring k words)) same (serves K start words v closed left p r both)
 
-  pub closes_to_ring : IsRing (ring C items)
-  closes_to_ring = carried (λ k l. IsRing (ring k l)) (rest_is_ring K start words v closed left)
-
-  pub closes_with_rest : HandsOut C start p (at_rest r) (ring C items)
-  closes_with_rest =
-      carried (λ k l. HandsOut k start p (at_rest r) (ring k l)) (hands_out K start words v closed left p r both)
-
-  pub closes_with_service : Serves C p (at_rest r) (ring C items)
-  closes_with_service = carried (λ k l. Serves k p (at_rest r) (ring k l)) (serves K start words v closed left p r both)
-
-  pub closes_whole : IsWhole (sent_in p) (received_in (at_rest r)) (ring C items)
-  closes_whole = whole C start p (at_rest r) (ring C items) closes_to_ring closes_with_rest
+  pub closes_whole : IsWhole (sent_in p) (received_in (at_rest r)) (ring C words)
+  closes_whole = whole C start p (at_rest r) (ring C words) closes_to_ring closes_with_rest

@@ -4,7 +4,7 @@ use Rattle.std.proofs.lemmas.List.{set-get_or, set_split}
 use Rattle.std.proofs.lemmas.List.Elements.{All-append, All-cons, All-head, All-nil, All-push, All-tail, All-weaker}
 use Rattle.ring_words.specs.Open.{ClaimAt}
 use Rattle.ring_rings.specs.declared.ring.Ring.{Ring}
-use Rattle.ring_rings.specs.declared.steps.Steps.{Ghosts}
+use Rattle.ring_rings.specs.declared.bodies.Bodies.{Ghosts}
 use Rattle.ring_rings.specs.declared.ring.Producer.{Producer}
 use Rattle.ring_rings.specs.Holding.{in_slots, AreApart, AreOpen}
 use Rattle.ring_rings.specs.Seats.{IsOpenClaimOf, KeepsBoth, KeepsClaims, KeepsOthers, LiesApart}

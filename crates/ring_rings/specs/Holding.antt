@@ -2,7 +2,7 @@
 use Rattle.std.specs.Prelude.{◌≢◌, List, [], ◌∷◌, All, Option, Some, None}
 use Rattle.ring_words.specs.Open.{ClaimAt}
 use Rattle.ring_rings.specs.declared.ring.Ring.{Ring}
-use Rattle.ring_rings.specs.declared.steps.Steps.{Ghosts}
+use Rattle.ring_rings.specs.declared.bodies.Bodies.{Ghosts}
 use Rattle.ring_rings.specs.declared.ring.Producer.{Producer}
 use Rattle.ring_rings.specs.Seats.{IsOpenClaimOf}
 

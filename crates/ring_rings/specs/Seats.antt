@@ -14,7 +14,7 @@ use Rattle.ring_table.specs.declared.view.View.{View}
 use Rattle.ring_table.specs.Seats.{IsSameSeat}
 use Rattle.ring_rings.specs.Reading.{at_rest}
 use Rattle.ring_rings.specs.declared.ring.Ring.{Ring}
-use Rattle.ring_rings.specs.declared.steps.Steps.{Ghosts}
+use Rattle.ring_rings.specs.declared.bodies.Bodies.{Ghosts}
 use Rattle.ring_rings.specs.declared.ring.Producer.{Producer}
 use Rattle.ring_rings.specs.declared.ring.Consumer.{Consumer}
 
@@ -23,7 +23,7 @@ capacity_of ring = ring.capacity
 
 -- the position of the first claim
 abbrev pub start_of : {K B : Type 0} {G : Ghosts B} → Ring K B G → ℕ
-start_of {K} {B} {G} ring = (G.key_of ring.table).start
+start_of {K} {B} {G} ring = ring.table.shared.key.start
 
 -- Producers ------------------------------------------------------------------
 
@@ -47,7 +47,7 @@ abbrev pub seen_tail_of : Producer → ℕ
 seen_tail_of p = p.seat.me.0.producer.seen_tail
 
 pub record IsProducerOf {K B : Type 0} {G : Ghosts B} (ring : Ring K B G) (p : Producer) : Type 0 where
-  pub table : p.seat.table_id ≡ G.table_of ring.table
+  pub table : p.seat.table_id ≡ ring.table.shared.table_id
   pub capacity : p.seat.me.0.capacity ≡ ring.capacity
 
 -- if the ring is not for many producers, this one holds all shares
@@ -72,7 +72,7 @@ abbrev pub head_of : Consumer → ℕ
 head_of c = c.seat.me.0.consumer.head
 
 pub record IsConsumerOf {K B : Type 0} {G : Ghosts B} (ring : Ring K B G) (c : Consumer) : Type 0 where
-  pub table : c.seat.table_id ≡ G.table_of ring.table
+  pub table : c.seat.table_id ≡ ring.table.shared.table_id
   pub capacity : c.seat.me.0.capacity ≡ ring.capacity
 
 -- the same consumer, of the same ring

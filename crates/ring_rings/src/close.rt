@@ -1,15 +1,17 @@
 //! How a ring is closed.
-ghost use Rattle.std.specs.Prelude.{◌≡◌, IfOk, OnOk};
+ghost use Rattle.std.specs.Prelude.{◌≡◌, vec_len, IfOk, OnOk};
 ghost use Rattle.ring_layout.specs.Refusals.{all_shares};
+ghost use Rattle.ring_table.specs.Closed.{IsClosed, IsLast, LeavesRest};
 ghost use Rattle.ring_rings.specs.Closing.{close_refusal_of, kept_open, HandsOut, IsRefusedAs, Serves};
 ghost use Rattle.ring_rings.specs.Ring.{received, sent, IsWhole};
 ghost use Rattle.ring_rings.specs.Seats.{capacity_of, consumer_view, open_claims_of, shares_of, start_of, view_of};
 ghost use Rattle.ring_rings.specs.Seats.{IsConsumerOf, IsProducerOf};
 
+use crate::bodies::Bodies;
 use crate::fault::CloseFault;
 use crate::ring::{CloseRefused, Consumer, Producer, Ring};
-use crate::steps::Closes;
 use ring_layout::ALL_SHARES;
+use ring_table::{RingSeat, RingTable, join_consumer};
 use ring_words::SoloRing;
 
 /// Tests whether a ring may be closed by this producer.
@@ -31,7 +33,19 @@ fn test_close(producer: &Producer) -> Result<(), CloseFault>
     Ok(())
 }
 
-impl<K, B: Closes> Ring<K, B> {
+/// The words of a ring in its format, in `room`, from its last seat.
+fn take_words<B: Bodies>(table: RingTable<B>, seat: RingSeat, room: Vec<u64>) -> Vec<u64>
+    requires table { (seat.table_id ≡ table.shared.table_id)
+        × (table.shared.table_id.slots ≡ B.slots_for table.shared.key.capacity) }
+    requires room { vec_len room ≡ table.shared.table_id.words }
+    requires last { IsLast seat.me.0 }
+    ensures closed { IsClosed table.shared.key.capacity table.shared.key.start result.items seat.me.0 }
+    ensures rest { LeavesRest table.shared.key.capacity result.items seat.me.0 }
+{
+    B::show(table.close_with(seat), room)
+}
+
+impl<K, B: Bodies> Ring<K, B> {
     /// Takes the ring apart and returns what is in it as a ring of one owner: what was committed and not read, and the
     /// trailer's words. Returns, in this order: `ClaimsOpen` if claims of this producer are open; `ProducersOut` if
     /// shares are with other producers. After an error everything comes back unchanged.
@@ -77,8 +91,8 @@ impl<K, B: Closes> Ring<K, B> {
             capacity,
             kind: _,
         } = self;
-        table.join_consumer(&mut seat, reader);
-        let words = table.close(seat, room);
+        join_consumer(&table.shared, &mut seat, reader);
+        let words = take_words(table, seat, room);
         Ok(SoloRing::from_words(capacity, words, scratch))
     }
 }

@@ -6,15 +6,15 @@ ghost use Rattle.ring_rings.specs.Ring.{received, sent};
 ghost use Rattle.ring_rings.specs.Seats.{capacity_of, start_of};
 ghost use Rattle.ring_rings.specs.Opening.{IsFirstConsumer, IsFirstProducer};
 
+use crate::bodies::Bodies;
 use crate::ring::{Consumer, Producer, Ring};
-use crate::steps::Steps;
 use ring_layout::ring_buffer_descriptor::TRAILER_WORDS;
 use ring_layout::{ALL_SHARES, MakeFault, check_ring, max_message};
-use ring_table::Key;
+use ring_table::{Key, split_consumer};
 use std::alloc::{AllocError, Global};
 use std::marker::PhantomData;
 
-impl<K, B: Steps> Ring<K, B> {
+impl<K, B: Bodies> Ring<K, B> {
     /// Makes an empty ring that starts at position 0, with a producer that holds all shares. Returns the errors of
     /// `new_at`.
     pub fn new(alloc: Global, capacity: u32) -> Result<(Self, Producer, Consumer), MakeFault>
@@ -66,7 +66,7 @@ impl<K, B: Steps> Ring<K, B> {
         };
         let (table, mut seat) = B::open(alloc, key)?;
         let consumer = Consumer {
-            seat: table.split_consumer(&mut seat),
+            seat: split_consumer(&table.shared, &mut seat),
             head: start,
             scratch,
         };

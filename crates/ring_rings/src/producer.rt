@@ -5,6 +5,7 @@ pub(crate) mod record;
 pub(crate) mod room;
 pub(crate) mod service;
 pub(crate) mod settle;
+pub(crate) mod try_once;
 pub(crate) mod wait;
 
 ghost use Rattle.std.specs.Prelude.{◌≡◌, IfOk, OnErr};

@@ -4,9 +4,9 @@ ghost use Rattle.ring_layout.specs.Places.{IsCapacity, max_position};
 ghost use Rattle.ring_layout.specs.Layout.{ring_words};
 ghost use Rattle.ring_rings.specs.Matching.{Matches, matches_prop};
 
+use crate::bodies::Bodies;
 use crate::fault::CloseFault;
-use crate::steps::Steps;
-use ring_table::{RingSeat, RingTable, SlotTable};
+use ring_table::{InSlots, InWords, RingSeat, RingTable};
 use std::marker::PhantomData;
 
 /// The kind of a ring that one producer writes.
@@ -15,18 +15,18 @@ pub struct OneToOne;
 /// The kind of a ring that any number of producers write.
 pub struct ManyToOne;
 
-/// A ring of messages between threads, shared by reference. It has one consumer, and producers as its kind says. `B` is
-/// its table, which says where the bodies of messages lie: in atomic words in a `RingTable`, in plain memory in a
-/// `SlotTable`. The calls and what they do are the same.
+/// A ring of messages between threads, shared by reference. It has one consumer, and producers as its kind says. `B`
+/// says where the bodies of messages lie: `InWords` in atomic words, `InSlots` in plain memory. The calls and what they
+/// do are the same.
 #[derive(Drop)]
-pub struct Ring<K, B: Steps = RingTable> {
-    pub(crate) table: B,
+pub struct Ring<K, B: Bodies = InWords> {
+    pub(crate) table: RingTable<B>,
     // Room for the words that `close` hands on.
     pub(crate) room: Vec<u64>,
     pub(crate) capacity: u32,
     pub(crate) kind: PhantomData<K>,
-    ghost key: { (B.key_of table).capacity ≡ capacity },
-    ghost wide: { ((B.table_of table).words ≡ ring_words capacity) × ((B.table_of table).slots ≡ B.slots_for capacity)
+    ghost key: { table.shared.key.capacity ≡ capacity },
+    ghost wide: { (table.shared.table_id.words ≡ ring_words capacity) × (table.shared.table_id.slots ≡ B.slots_for capacity)
         × (vec_len room ≡ ring_words capacity) },
     ghost lawful: { IsCapacity capacity },
 }
@@ -43,7 +43,7 @@ pub type OneToOneRing = Ring<OneToOne>;
 pub type ManyToOneRing = Ring<ManyToOne>;
 
 /// A ring whose bodies lie in plain memory, which one thread at a time reads and writes.
-pub type PlainRing<K> = Ring<K, SlotTable>;
+pub type PlainRing<K> = Ring<K, InSlots>;
 
 /// A ring with one producer whose bodies lie in plain memory.
 ///

@@ -9,8 +9,8 @@ ghost use Rattle.ring_rings.specs.Ring.{received, sent, IsWhole, Leaves, Receive
 ghost use Rattle.ring_rings.specs.Seats.{capacity_of, consumer_view, head_of, open_claims_of, shares_of, start_of};
 ghost use Rattle.ring_rings.specs.Seats.{view_of, IsConsumerOf, IsProducerOf, IsSameConsumer};
 
+use crate::bodies::Bodies;
 use crate::ring::{CloseRefused, Consumer, Producer, Ring};
-use crate::steps::Closes;
 use ring_words::{Handler, ReadEnd, SoloRing, Stop};
 
 /// A ring that commands are read from: of one producer or of many.
@@ -64,7 +64,7 @@ pub trait CommandSource: Sized {
         ensures service { IfOk result (Serves (bytes self) (view_of producer) (consumer_view consumer)) };
 }
 
-impl<K, B: Closes> CommandSource for Ring<K, B> {
+impl<K, B: Bodies> CommandSource for Ring<K, B> {
     ghost bytes = { capacity_of };
 
     ghost start = { start_of };

@@ -1,124 +1,158 @@
 //! The steps of a ring whose bodies lie in words, one atomic word for eight bytes, as the ring's format has it.
-use crate::consumer::pass::clear_up;
-use crate::consumer::turn::load_body;
-use crate::producer::record::{put_bytes, store_body};
-use crate::steps::{Closes, Steps};
+ghost use Rattle.std.specs.Prelude.{◌≡◌, ◌≢◌, ℕ, ◌+◌, ◌*◌, ◌%◌, ◌<◌, ◌≤◌, List, [], ◌∷◌, ◌++◌, length};
+ghost use Rattle.ring_layout.specs.Places.{index, max_position};
+ghost use Rattle.ring_table.specs.declared.claim.StagedClaim.{StagedClaim};
+ghost use Rattle.ring_table.specs.ConsumerSteps.{ClearsWord};
+ghost use Rattle.ring_table.specs.Seats.{IsSameSeat, IsSeatOf};
+ghost use Rattle.ring_table.specs.Views.{with_claims};
+ghost use Rattle.ring_rings.specs.Bodies.{loaded, put_at, IsFreshClaim, MergesWord};
+ghost use Rattle.ring_rings.specs.ReadingSteps.{CopiesWord, IsReaderSeatOf, OnlyLoads};
+
+use crate::bodies::Bodies;
+use atomic_table::Closed;
+use ring_layout::record_descriptor::HEADER_LENGTH;
+use ring_layout::{first_word, put_bytes_word, put_word, word_index};
 use ring_table::{
-    Key, RingSeat, RingTable, Wanted, close, copy_words, draw_correlation_id, join_consumer,
-    join_producer, load_cache, load_first_header, load_head, load_heartbeat, load_next_header,
-    load_tail, move_tail, open, split_consumer, split_producer, store_aborted_header, store_cache,
-    store_claimed_header, store_committed_header, store_head, store_head_before, store_heartbeat,
-    store_padding_header, store_tail,
+    InWords, Key, RingSeat, RingTable, SharedRing, Wanted, clear_word, copy_words, load_body_word,
+    load_own_word, load_passed_word, open, store_body_word, store_claimed_header,
+    store_committed_header,
 };
 use std::alloc::{AllocError, Global};
 
-impl Steps for RingTable {
-    ghost use Rattle.std.specs.Prelude.{◌≡◌};
+/// Stores a whole body into the newest claim, which has its length and zeros for its bytes.
+#[inline(always)]
+fn store_body(
+    words: &SharedRing<InWords>,
+    seat: &mut RingSeat,
+    capacity: u32,
+    place: u64,
+    body: &[u8],
+)
+    requires seat { IsSeatOf words.now.table_id words.now.key capacity seat.old }
+    requires place { place ≤ max_position }
+    requires fresh { (cs : List StagedClaim) × (c : StagedClaim)
+        × IsFreshClaim place (length body.now) cs c seat.old.me.0 }
+    requires inside { place % capacity + 8 + length body.now ≤ capacity }
+    ensures seat { IsSameSeat seat.old seat.new }
+    ensures stored { (cs : List StagedClaim) (c : StagedClaim) → IsFreshClaim place (length body.now) cs c seat.old.me.0
+        → seat.new.me.0 ≡ with_claims (cs ++ put_at 0 body.now c ∷ []) seat.old.me.0 }
+{
+    // A record does not cross the end of the buffer, so its words are side by side.
+    let first = word_index(capacity, place) + 1;
+    let whole = body.len() / 8;
+    for k in 0..whole {
+        let word = first_word(&body[8 * k..8 * k + 8]);
+        // What is 0 already needs no store.
+        if word != 0 {
+            store_body_word(words, seat, capacity, place, 8 * k as u64, first + k, word);
+        }
+    }
+    if 8 * whole < body.len() {
+        let word = first_word(&body[8 * whole..]);
+        let at = 8 * whole as u64;
+        if word != 0 {
+            store_body_word(words, seat, capacity, place, at, first + whole, word);
+        }
+    }
+}
 
-    ghost table_of = { λ table. table.shared.table_id };
+/// The word of an open claim's body with these bytes in place of its own from byte `at` on. The word is loaded if the
+/// bytes are not all of it.
+fn merged_word(
+    words: &SharedRing<InWords>,
+    seat: &mut RingSeat,
+    capacity: u32,
+    position: u64,
+    at: usize,
+    bytes: &[u8],
+) -> u64
+    requires seat { IsSeatOf words.now.table_id words.now.key capacity seat.old }
+    requires within { at + length bytes.now ≤ 8 }
+    requires some { 0 < length bytes.now }
+    ensures seat { IsSameSeat seat.old seat.new }
+    ensures view { (loads : List (ℕ × ℕ)) × (seat.new.me.0 ≡ loaded loads seat.old.me.0) }
+    ensures word { MergesWord (index capacity position) at bytes.now seat.old.me.0 result }
+{
+    if bytes.len() == 8 {
+        return first_word(bytes);
+    }
+    put_bytes_word(load_own_word(words, seat, capacity, position), at, bytes)
+}
 
-    ghost key_of = { λ table. table.shared.key };
+/// Copies the word number `k` of the body at `place` to its room in the scratch. Its first word has the index `first`.
+#[inline(always)]
+fn load_word(
+    ring: &SharedRing<InWords>,
+    seat: &mut RingSeat,
+    capacity: u32,
+    place: u64,
+    first: usize,
+    k: usize,
+    scratch: &mut [u8],
+)
+    requires seat { IsReaderSeatOf ring.now.table_id ring.now.key capacity seat.old }
+    requires place { (seat.old.me.0.consumer.cleared ≤ place) × (place ≤ max_position)
+        × (place % capacity + 8 + 8 * k < capacity) }
+    requires first { first ≡ index capacity place + 1 }
+    requires room { 8 * k + 8 ≤ length scratch.old }
+    ensures seat { IsSameSeat seat.old seat.new }
+    ensures rest { OnlyLoads seat.old.me.0 seat.new.me.0 }
+    ensures copies { CopiesWord capacity place k seat.old.me.0 scratch.old seat.new.me.0 scratch.new }
+{
+    let position = place + HEADER_LENGTH as u64 + 8 * k as u64;
+    let word = load_body_word(ring, seat, capacity, position, first + k);
+    put_word(scratch, 8 * k, word);
+}
 
+/// Clears the next word that the read has passed. Its index in the buffer is `target`.
+#[inline(always)]
+fn pass_word(
+    ring: &SharedRing<InWords>,
+    seat: &mut RingSeat,
+    capacity: u32,
+    cleared: u64,
+    target: usize,
+)
+    requires seat { IsReaderSeatOf ring.now.table_id ring.now.key capacity seat.old }
+    requires target { target ≡ index capacity cleared }
+    requires cleared { seat.old.me.0.consumer.cleared ≡ cleared }
+    requires passed { cleared < seat.old.me.0.consumer.scan }
+    ensures seat { IsSameSeat seat.old seat.new }
+    ensures told { ClearsWord seat.old.me.0 seat.new.me.0 }
+{
+    // A load costs little of what a store does, and many words of messages are 0.
+    if load_passed_word(ring, seat, capacity, cleared, target) != 0 {
+        clear_word(ring, seat, capacity, cleared, target);
+    }
+}
+
+impl Bodies for InWords {
     ghost slots_for = { λ _. 0 };
 
-    fn open(alloc: Global, key: Key) -> Result<(Self, RingSeat), AllocError> {
+    fn open(alloc: Global, key: Key) -> Result<(RingTable<Self>, RingSeat), AllocError> {
         open(alloc, key)
-    }
-
-    fn split_consumer(&self, seat: &mut RingSeat) -> RingSeat {
-        split_consumer(&self.shared, seat)
-    }
-
-    fn split_producer(&self, producer: &mut RingSeat) -> RingSeat {
-        split_producer(&self.shared, producer)
-    }
-
-    fn join_consumer(&self, producer: &mut RingSeat, consumer: RingSeat) {
-        join_consumer(&self.shared, producer, consumer);
-    }
-
-    fn join_producer(&self, producer: &mut RingSeat, other: RingSeat) {
-        join_producer(&self.shared, producer, other);
-    }
-
-    #[inline(always)]
-    fn load_tail(&self, producer: &mut RingSeat, capacity: u32) -> u64 {
-        load_tail(&self.shared, producer, capacity)
-    }
-
-    #[inline(always)]
-    fn load_head(&self, producer: &mut RingSeat, capacity: u32) -> u64 {
-        load_head(&self.shared, producer, capacity)
-    }
-
-    #[inline(always)]
-    fn load_cache(&self, producer: &mut RingSeat, capacity: u32) -> u64 {
-        load_cache(&self.shared, producer, capacity)
-    }
-
-    #[inline(always)]
-    fn store_cache(&self, producer: &mut RingSeat, capacity: u32, head: u64) {
-        store_cache(&self.shared, producer, capacity, head);
-    }
-
-    #[inline(always)]
-    fn draw_correlation_id(&self, producer: &mut RingSeat, capacity: u32) -> u64 {
-        draw_correlation_id(&self.shared, producer, capacity)
-    }
-
-    #[inline(always)]
-    fn load_heartbeat(&self, producer: &mut RingSeat, capacity: u32) -> u64 {
-        load_heartbeat(&self.shared, producer, capacity)
-    }
-
-    #[inline(always)]
-    fn store_heartbeat(&self, consumer: &mut RingSeat, capacity: u32, value: u64) {
-        store_heartbeat(&self.shared, consumer, capacity, value);
-    }
-
-    #[inline(always)]
-    fn move_tail(
-        &self,
-        producer: &mut RingSeat,
-        capacity: u32,
-        old: u64,
-        new: u64,
-        wanted: Wanted,
-    ) -> u64 {
-        move_tail(&self.shared, producer, capacity, old, new, wanted)
-    }
-
-    #[inline(always)]
-    fn store_tail(&self, producer: &mut RingSeat, capacity: u32, new: u64, wanted: Wanted) {
-        store_tail(&self.shared, producer, capacity, new, wanted);
-    }
-
-    #[inline(always)]
-    fn store_padding_header(&self, producer: &mut RingSeat, capacity: u32, from: u64, place: u64) {
-        store_padding_header(&self.shared, producer, capacity, from, place);
     }
 
     #[inline(always)]
     fn store_claimed_header(
-        &self,
+        words: &SharedRing<Self>,
         producer: &mut RingSeat,
         capacity: u32,
         place: u64,
         wanted: Wanted,
     ) {
-        store_claimed_header(&self.shared, producer, capacity, place, wanted);
+        store_claimed_header(words, producer, capacity, place, wanted);
     }
 
     #[inline(always)]
     fn store_record(
-        &self,
+        words: &SharedRing<Self>,
         seat: &mut RingSeat,
         capacity: u32,
         place: u64,
         wanted: Wanted,
         body: &[u8],
     ) {
-        let words = &self.shared;
         store_claimed_header(words, seat, capacity, place, wanted);
         store_body(words, seat, capacity, place, body);
         store_committed_header(words, seat, capacity, place, wanted);
@@ -126,7 +160,7 @@ impl Steps for RingTable {
 
     #[inline(always)]
     fn put_bytes(
-        &self,
+        words: &SharedRing<Self>,
         seat: &mut RingSeat,
         capacity: u32,
         place: u64,
@@ -134,73 +168,64 @@ impl Steps for RingTable {
         offset: usize,
         bytes: &[u8],
     ) {
-        put_bytes(&self.shared, seat, capacity, place, offset, bytes);
-    }
-
-    #[inline(always)]
-    fn store_committed_header(
-        &self,
-        producer: &mut RingSeat,
-        capacity: u32,
-        place: u64,
-        wanted: Wanted,
-    ) {
-        store_committed_header(&self.shared, producer, capacity, place, wanted);
-    }
-
-    #[inline(always)]
-    fn store_aborted_header(
-        &self,
-        producer: &mut RingSeat,
-        capacity: u32,
-        place: u64,
-        wanted: Wanted,
-    ) {
-        store_aborted_header(&self.shared, producer, capacity, place, wanted);
-    }
-
-    #[inline(always)]
-    fn load_first_header(&self, consumer: &mut RingSeat, capacity: u32, head: u64) -> u64 {
-        load_first_header(&self.shared, consumer, capacity, head)
-    }
-
-    #[inline(always)]
-    fn load_next_header(&self, consumer: &mut RingSeat, capacity: u32, scan: u64) -> u64 {
-        load_next_header(&self.shared, consumer, capacity, scan)
+        let mut done = 0;
+        while done < bytes.len() {
+            let (index, byte) = ((offset + done) / 8, (offset + done) % 8);
+            let count = (8 - byte).min(bytes.len() - done);
+            let chunk = &bytes[done..done + count];
+            let at = 8 * index as u64;
+            let position = place + 8 + at;
+            let word = merged_word(words, seat, capacity, position, byte, chunk);
+            let target = word_index(capacity, position);
+            store_body_word(words, seat, capacity, place, at, target, word);
+            done += count;
+        }
     }
 
     #[inline(always)]
     fn load_body(
-        &self,
+        words: &SharedRing<Self>,
         seat: &mut RingSeat,
         capacity: u32,
         place: u64,
         len: usize,
         scratch: &mut [u8],
     ) {
-        load_body(&self.shared, seat, capacity, place, len, scratch);
+        // A record does not cross the end of the buffer, so its words lie side by side.
+        let first = word_index(capacity, place) + 1;
+        let count = len.div_ceil(8);
+        // Four in a turn, since the compiler keeps a turn for each.
+        for k in 0..count / 4 {
+            load_word(words, seat, capacity, place, first, 4 * k, scratch);
+            load_word(words, seat, capacity, place, first, 4 * k + 1, scratch);
+            load_word(words, seat, capacity, place, first, 4 * k + 2, scratch);
+            load_word(words, seat, capacity, place, first, 4 * k + 3, scratch);
+        }
+        for j in count / 4 * 4..count {
+            load_word(words, seat, capacity, place, first, j, scratch);
+        }
     }
 
     #[inline(always)]
-    fn clear_up(&self, seat: &mut RingSeat, capacity: u32, head: u64, to: u64) {
-        clear_up(&self.shared, seat, capacity, head, to);
+    fn clear_up(words: &SharedRing<Self>, seat: &mut RingSeat, capacity: u32, head: u64, to: u64) {
+        // A read does not cross the end of the buffer, so the words lie side by side.
+        let first = word_index(capacity, head);
+        let count = (to - head) / 8;
+        // Four in a turn, since the compiler keeps a turn for each.
+        for k in 0..count / 4 {
+            let (at, target) = (head + 32 * k, first + 4 * k as usize);
+            pass_word(words, seat, capacity, at, target);
+            pass_word(words, seat, capacity, at + 8, target + 1);
+            pass_word(words, seat, capacity, at + 16, target + 2);
+            pass_word(words, seat, capacity, at + 24, target + 3);
+        }
+        for j in count / 4 * 4..count {
+            pass_word(words, seat, capacity, head + 8 * j, first + j as usize);
+        }
     }
 
-    #[inline(always)]
-    fn store_head(&self, consumer: &mut RingSeat, capacity: u32, head: u64) {
-        store_head(&self.shared, consumer, capacity, head);
-    }
-
-    #[inline(always)]
-    fn store_head_before(&self, consumer: &mut RingSeat, capacity: u32, head: u64) {
-        store_head_before(&self.shared, consumer, capacity, head);
-    }
-}
-
-impl Closes for RingTable {
-    fn close(self, seat: RingSeat, room: Vec<u64>) -> Vec<u64> {
+    fn show(closed: Closed<u64, Global>, room: Vec<u64>) -> Vec<u64> {
         let mut words = room;
-        let closed = close(self, seat);
         copy_words(&closed, &mut words);
         closed.free();
         words

@@ -4,7 +4,7 @@ use crate::bench::Said::{self, At, Done};
 use crate::bench::{Call, opened};
 use crate::play::{PLAY, Play, plays};
 use crate::script::Script;
-use ring_rings::{Action, ManyToOne, RingTable, SlotTable, Standing, Steps, Stop};
+use ring_rings::{Action, Bodies, InSlots, InWords, ManyToOne, Standing, Stop};
 use std::alloc::Global;
 use std::process::Abort;
 
@@ -112,7 +112,7 @@ fn break_leaves_the_padding_behind_the_message(rt: HostRuntime) {
 }
 
 /// Positions around a read distinguish an empty ring from one into which a message came after the read.
-fn tells_standings<B: Steps + Drop>(rt: &impl Abort, alloc: Global) {
+fn tells_standings<B: Bodies>(rt: &impl Abort, alloc: Global) {
     let (ring, mut producer, mut consumer) = opened::<ManyToOne, B>(rt, alloc, 0);
     let mut count = Script::new(&[], &[(1, &[0; 8])]);
     let before = ring.positions(&mut producer);
@@ -129,6 +129,6 @@ fn tells_standings<B: Steps + Drop>(rt: &impl Abort, alloc: Global) {
 
 #[test]
 fn positions_around_a_read_tell_empty_from_moving(rt: HostRuntime) {
-    tells_standings::<RingTable>(&rt, rt.alloc());
-    tells_standings::<SlotTable>(&rt, rt.alloc());
+    tells_standings::<InWords>(&rt, rt.alloc());
+    tells_standings::<InSlots>(&rt, rt.alloc());
 }

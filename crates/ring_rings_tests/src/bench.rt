@@ -4,8 +4,7 @@ ghost use Rattle.ring_rings.specs.Seats.{all_shares, shares_of, IsConsumerOf, Is
 
 use crate::script::Script;
 use ring_rings::{
-    Claim, ClaimFault, Closes, Consumer, Kind, Positions, Producer, ReadEnd, Ring, Steps, Stop,
-    TryFault,
+    Bodies, Claim, ClaimFault, Consumer, Kind, Positions, Producer, ReadEnd, Ring, Stop, TryFault,
 };
 use ring_words::SoloRing;
 use std::alloc::Global;
@@ -51,7 +50,7 @@ pub enum Said {
 
 /// A ring with all its seats on which the ring's calls are made with them.
 #[derive(Drop)]
-pub struct Bench<K, B: Steps> {
+pub struct Bench<K, B: Bodies> {
     pub ring: Ring<K, B>,
     pub producer: Producer,
     pub consumer: Consumer,
@@ -61,7 +60,7 @@ pub struct Bench<K, B: Steps> {
 }
 
 /// Puts bytes into a claim, and tests whether those fit that should, and no others.
-fn fill<K, B: Steps>(
+fn fill<K, B: Bodies>(
     ring: &Ring<K, B>,
     producer: &mut Producer,
     claim: &mut Claim,
@@ -93,7 +92,7 @@ fn read(end: ReadEnd) -> Said {
 }
 
 /// A ring of 128 bytes with its seats, which begins at this position.
-pub fn opened<K, B: Steps>(
+pub fn opened<K, B: Bodies>(
     rt: &impl Abort,
     alloc: Global,
     start: u64,
@@ -106,7 +105,7 @@ pub fn opened<K, B: Steps>(
 }
 
 /// Reads at most nine messages.
-pub fn read_nine<K, B: Steps>(
+pub fn read_nine<K, B: Bodies>(
     ring: &Ring<K, B>,
     consumer: &mut Consumer,
     script: &mut Script<'_>,
@@ -117,7 +116,7 @@ pub fn read_nine<K, B: Steps>(
     ring.read(consumer, 9, script)
 }
 
-impl<K: Kind, B: Closes + Drop> Bench<K, B> {
+impl<K: Kind, B: Bodies> Bench<K, B> {
     /// A ring of 128 bytes that begins at this position.
     pub fn new(rt: &impl Abort, alloc: Global, start: u64) -> Self {
         let (ring, producer, consumer) = opened(rt, alloc, start);
@@ -129,7 +128,7 @@ impl<K: Kind, B: Closes + Drop> Bench<K, B> {
     }
 
     fn commit(&mut self, type_id: i32, len: usize, fills: &[Fill<'_>]) -> Said {
-        match K::claim_once(&self.ring, &mut self.producer, type_id, len) {
+        match self.ring.try_claim(&mut self.producer, type_id, len) {
             Ok(mut claim) => {
                 let index = claim.index();
                 let filled = fill(&self.ring, &mut self.producer, &mut claim, fills);
@@ -145,7 +144,7 @@ impl<K: Kind, B: Closes + Drop> Bench<K, B> {
     }
 
     fn abort(&mut self, type_id: i32, len: usize) -> Said {
-        match K::claim_once(&self.ring, &mut self.producer, type_id, len) {
+        match self.ring.try_claim(&mut self.producer, type_id, len) {
             Ok(claim) => {
                 let index = claim.index();
                 self.ring.abort(&mut self.producer, claim);
@@ -156,7 +155,7 @@ impl<K: Kind, B: Closes + Drop> Bench<K, B> {
     }
 
     fn write(&mut self, type_id: i32, body: &[u8]) -> Said {
-        match K::write_once(&self.ring, &mut self.producer, type_id, body) {
+        match self.ring.try_write(&mut self.producer, type_id, body) {
             Ok(()) => Said::Done,
             Err(fault) => refused(fault),
         }

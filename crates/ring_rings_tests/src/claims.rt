@@ -6,7 +6,7 @@ use crate::bench::Said::{self, Done, Made};
 use crate::bench::{Fill, opened, read_nine};
 use crate::play::{OnEach, PLAY, Play, on_each, plays};
 use crate::script::{BODY, Message, Script, end};
-use ring_rings::{Claim, Closes, Kind, Producer, ReadEnd, Ring, Steps, Stop};
+use ring_rings::{Bodies, Claim, Kind, Producer, ReadEnd, Ring, Stop};
 use std::alloc::Global;
 use std::process;
 
@@ -21,7 +21,7 @@ const OUTSIDE: [Fill<'static>; 3] = [
 ];
 
 /// Claims room in a ring that has some.
-pub fn claimed<K: Kind, B: Steps>(
+pub fn claimed<K: Kind, B: Bodies>(
     rt: &impl process::Abort,
     ring: &Ring<K, B>,
     producer: &mut Producer,
@@ -34,11 +34,11 @@ pub fn claimed<K: Kind, B: Steps>(
     ensures opened { IsNewClaimOf ring.now producer.old producer.new result }
     ensures keeps { KeepsHoldings ring.now producer.old producer.new }
 {
-    K::claim_once(ring, producer, type_id, len).expect(rt, "a claim")
+    ring.try_claim(producer, type_id, len).expect(rt, "a claim")
 }
 
 /// What is read when the second of two claims was committed, and then when the first one was.
-fn settles_the_second_first<K: Kind, B: Steps + Drop>(
+fn settles_the_second_first<K: Kind, B: Bodies>(
     rt: &impl process::Abort,
     alloc: Global,
 ) -> (ReadEnd, ReadEnd) {
@@ -58,7 +58,7 @@ fn settles_the_second_first<K: Kind, B: Steps + Drop>(
 struct SettlesSecondFirst;
 
 impl OnEach for SettlesSecondFirst {
-    fn holds<K: Kind, B: Closes + Drop>(rt: &impl process::Abort, alloc: Global) {
+    fn holds<K: Kind, B: Bodies>(rt: &impl process::Abort, alloc: Global) {
         let (before, after) = settles_the_second_first::<K, B>(rt, alloc);
         assert_eq!(rt; before, end(0, 0, Stop::Unpublished));
         assert_eq!(rt; after, end(2, 16, Stop::Unpublished));
@@ -74,7 +74,7 @@ fn claims_are_settled_in_any_order(rt: HostRuntime) {
 struct AbortsFirst;
 
 impl OnEach for AbortsFirst {
-    fn holds<K: Kind, B: Closes + Drop>(rt: &impl process::Abort, alloc: Global) {
+    fn holds<K: Kind, B: Bodies>(rt: &impl process::Abort, alloc: Global) {
         let mut script = Script::new(&[], &[(2, &[])]);
         let (ring, mut producer, mut consumer) = opened::<K, B>(rt, alloc, 0);
         let first = claimed(rt, &ring, &mut producer, 1, 0);
@@ -137,7 +137,7 @@ fn puts_bytes_into_a_claim(rt: HostRuntime) {
 
 /// What other calls answer while a claim is open, and what reads find before it is filled, before it is committed, and
 /// then: the number of open claims, a tail, an id, a heartbeat, and the messages of each read.
-fn others_and_reads<K: Kind, B: Steps + Drop>(
+fn others_and_reads<K: Kind, B: Bodies>(
     rt: &impl process::Abort,
     alloc: Global,
 ) -> ([u64; 4], [ReadEnd; 3]) {
@@ -165,7 +165,7 @@ fn others_and_reads<K: Kind, B: Steps + Drop>(
 struct ShownLate;
 
 impl OnEach for ShownLate {
-    fn holds<K: Kind, B: Closes + Drop>(rt: &impl process::Abort, alloc: Global) {
+    fn holds<K: Kind, B: Bodies>(rt: &impl process::Abort, alloc: Global) {
         let (others, [empty, filled, committed]) = others_and_reads::<K, B>(rt, alloc);
         assert!(rt; others == [1, 16, 0, 0]);
         assert_eq!(rt; empty, end(0, 0, Stop::Unpublished));

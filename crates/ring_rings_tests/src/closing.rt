@@ -8,14 +8,14 @@ use crate::claims::claimed;
 use crate::play::{OnEach, OnShared, PLAY, Play, on_both, on_each, plays};
 use crate::script::{Script, end};
 use ring_rings::{
-    Action, ClaimFault, CloseFault, CloseRefused, Closes, Consumer, Kind, ManyToOne, NoShares,
-    Producer, ReadEnd, Ring, Steps, Stop, TryFault,
+    Action, Bodies, ClaimFault, CloseFault, CloseRefused, Consumer, Kind, ManyToOne, NoShares,
+    Producer, ReadEnd, Ring, Stop, TryFault,
 };
 use std::alloc::Global;
 use std::process;
 
 /// All of a ring that does not close, for this reason.
-fn refused<K, B: Closes + Drop>(
+fn refused<K, B: Bodies>(
     rt: &impl process::Abort,
     ring: Ring<K, B>,
     producer: Producer,
@@ -34,7 +34,7 @@ fn refused<K, B: Closes + Drop>(
 }
 
 /// What is left of a ring that does not close while a claim is open, and does when that is settled.
-fn closed_late<K: Kind, B: Closes + Drop>(
+fn closed_late<K: Kind, B: Bodies>(
     rt: &impl process::Abort,
     alloc: Global,
     commits: bool,
@@ -58,7 +58,7 @@ fn closed_late<K: Kind, B: Closes + Drop>(
 struct ClosesLate;
 
 impl OnEach for ClosesLate {
-    fn holds<K: Kind, B: Closes + Drop>(rt: &impl process::Abort, alloc: Global) {
+    fn holds<K: Kind, B: Bodies>(rt: &impl process::Abort, alloc: Global) {
         let mut script = Script::new(&[], &[(1, &[])]);
         for (commits, messages) in [(true, 1), (false, 0)] {
             let read = closed_late::<K, B>(rt, alloc, commits, &mut script);
@@ -184,7 +184,7 @@ fn leaves_these_words(rt: HostRuntime) {
 struct Shares;
 
 impl OnShared for Shares {
-    fn holds<B: Closes + Drop>(rt: &impl process::Abort, alloc: Global) {
+    fn holds<B: Bodies>(rt: &impl process::Abort, alloc: Global) {
         let (ring, mut first, _consumer) = opened::<ManyToOne, B>(rt, alloc, 0);
         assert_eq!(rt; first.shares(), 65536);
         let mut second = ring.split(&mut first).expect(rt, "a producer");
@@ -202,7 +202,7 @@ fn a_producer_of_one_share_does_not_split(rt: HostRuntime) {
 struct ClosesLast;
 
 impl OnShared for ClosesLast {
-    fn holds<B: Closes + Drop>(rt: &impl process::Abort, alloc: Global) {
+    fn holds<B: Bodies>(rt: &impl process::Abort, alloc: Global) {
         let (ring, mut first, consumer) = opened::<ManyToOne, B>(rt, alloc, 0);
         let second = ring.split(&mut first).expect(rt, "a producer");
         let claim = claimed(rt, &ring, &mut first, 1, 0);
@@ -225,7 +225,7 @@ fn closes_when_all_shares_are_back(rt: HostRuntime) {
 struct SplitsAll;
 
 impl OnShared for SplitsAll {
-    fn holds<B: Closes + Drop>(rt: &impl process::Abort, alloc: Global) {
+    fn holds<B: Bodies>(rt: &impl process::Abort, alloc: Global) {
         let (ring, mut first, consumer) = opened::<ManyToOne, B>(rt, alloc, 0);
         for _ in 0..65535 {
             assert!(rt; ring.split(&mut first).is_ok());
@@ -243,7 +243,7 @@ fn splits_until_one_share_is_left(rt: HostRuntime) {
 }
 
 /// Writes empty messages until the ring is full, which holds this many, and tests that no more are written.
-pub fn fill_up<B: Steps>(
+pub fn fill_up<B: Bodies>(
     rt: &impl process::Abort,
     ring: &Ring<ManyToOne, B>,
     producer: &mut Producer,
@@ -263,7 +263,7 @@ pub fn fill_up<B: Steps>(
 struct LosesOne;
 
 impl OnShared for LosesOne {
-    fn holds<B: Closes + Drop>(rt: &impl process::Abort, alloc: Global) {
+    fn holds<B: Bodies>(rt: &impl process::Abort, alloc: Global) {
         let (ring, mut first, mut consumer) = opened::<ManyToOne, B>(rt, alloc, 0);
         let mut second = ring.split(&mut first).expect(rt, "a producer");
         let _kept_aside = claimed(rt, &ring, &mut second, 1, 0);

@@ -4,8 +4,8 @@ ghost use Rattle.ring_rings.specs.Seats.{IsConsumerOf, IsProducerOf, KeepsHoldin
 
 use crate::dice::{Dice, LONGEST};
 use ring_rings::{
-    Action, Claim, Closes, Consumer, Handler, Kind, ManyToOne, OneToOne, Positions, Producer,
-    ReadEnd, Ring, Steps, TryFault,
+    Action, Bodies, Claim, Consumer, Handler, Kind, ManyToOne, OneToOne, Positions, Producer,
+    ReadEnd, Ring, TryFault,
 };
 use ring_words::SoloRing;
 use std::alloc::Global;
@@ -71,7 +71,7 @@ pub struct Other {
 
 /// A ring with a producer at work, another one at rest, up to two open claims of each, and its consumer.
 #[derive(Drop)]
-pub struct Form<K: Kind, B: Steps> {
+pub struct Form<K: Kind, B: Bodies> {
     ring: Ring<K, B>,
     producer: Producer,
     first: Option<Claim>,
@@ -82,7 +82,7 @@ pub struct Form<K: Kind, B: Steps> {
     answers: Vec<Answer>,
 }
 
-impl<K: Kind, B: Steps> Model for Form<K, B> {
+impl<K: Kind, B: Bodies> Model for Form<K, B> {
     ghost use Rattle.std.specs.Prelude.{ℕ, IfSome};
     ghost use Rattle.ring_rings.specs.Seats.{capacity_of, IsConsumerOf, MayClaim};
     ghost use Rattle.ring_rings_tests.specs.Held.{Holds};
@@ -116,7 +116,7 @@ fn front(bytes: &[u8], len: usize) -> &[u8] {
 }
 
 /// One of the three reads.
-fn read_by<K, B: Steps>(
+fn read_by<K, B: Bodies>(
     ring: &Ring<K, B>,
     consumer: &mut Consumer,
     how: u32,
@@ -134,7 +134,7 @@ fn read_by<K, B: Steps>(
 }
 
 /// One of the calls that change nothing in the ring's buffer.
-fn asked<K, B: Steps>(ring: &Ring<K, B>, producer: &mut Producer, how: u32) -> Answer
+fn asked<K, B: Bodies>(ring: &Ring<K, B>, producer: &mut Producer, how: u32) -> Answer
     requires { IsProducerOf ring.now producer.old }
     ensures producer { IsProducerOf ring.now producer.new }
     ensures keeps { KeepsHoldings ring.now producer.old producer.new }
@@ -147,7 +147,7 @@ fn asked<K, B: Steps>(ring: &Ring<K, B>, producer: &mut Producer, how: u32) -> A
     }
 }
 
-impl<K: Kind, B: Steps> Form<K, B> {
+impl<K: Kind, B: Bodies> Form<K, B> {
     pub fn new(rt: &impl Abort, alloc: Global, capacity: u32, start: u64, seed: u64) -> Self {
         let (ring, producer, consumer) = Ring::<K, B>::new_at(alloc, capacity, start).expect(
             rt, "a ring",
@@ -173,7 +173,7 @@ impl<K: Kind, B: Steps> Form<K, B> {
         let (type_id, len) = (self.dice.type_id(), self.length());
         let bytes = self.dice.bytes();
         let body = front(&bytes, len);
-        let said = K::write_once(&self.ring, &mut self.producer, type_id, body);
+        let said = self.ring.try_write(&mut self.producer, type_id, body);
         tell(&mut self.answers, Answer::Wrote(said));
     }
 
@@ -186,7 +186,7 @@ impl<K: Kind, B: Steps> Form<K, B> {
             return;
         }
         let (type_id, len) = (self.dice.type_id(), self.length());
-        match K::claim_once(&self.ring, &mut self.producer, type_id, len) {
+        match self.ring.try_claim(&mut self.producer, type_id, len) {
             Ok(claim) => {
                 tell(
                     &mut self.answers,
@@ -267,20 +267,20 @@ impl<K: Kind, B: Steps> Form<K, B> {
 /// A kind of ring whose producers may be cut in two and put together.
 pub trait Team: Kind {
     /// Has the other producer work, which is made if there is none.
-    fn swap<B: Steps + Drop>(form: &mut Form<Self, B>);
+    fn swap<B: Bodies>(form: &mut Form<Self, B>);
 
     /// Joins the other producer, if there is one. Of the open claims of each, one stays open.
-    fn join<B: Steps + Drop>(form: &mut Form<Self, B>);
+    fn join<B: Bodies>(form: &mut Form<Self, B>);
 }
 
 impl Team for OneToOne {
-    fn swap<B: Steps + Drop>(_form: &mut Form<Self, B>) {}
+    fn swap<B: Bodies>(_form: &mut Form<Self, B>) {}
 
-    fn join<B: Steps + Drop>(_form: &mut Form<Self, B>) {}
+    fn join<B: Bodies>(_form: &mut Form<Self, B>) {}
 }
 
 impl Team for ManyToOne {
-    fn swap<B: Steps + Drop>(form: &mut Form<Self, B>) {
+    fn swap<B: Bodies>(form: &mut Form<Self, B>) {
         let other = match form.other.take() {
             Some(other) => other,
             None => match form.ring.split(&mut form.producer) {
@@ -304,7 +304,7 @@ impl Team for ManyToOne {
         });
     }
 
-    fn join<B: Steps + Drop>(form: &mut Form<Self, B>) {
+    fn join<B: Bodies>(form: &mut Form<Self, B>) {
         form.settle();
         let Some(other) = form.other.take() else {
             return;
@@ -327,7 +327,7 @@ impl Team for ManyToOne {
     }
 }
 
-impl<K: Team, B: Steps + Drop> Form<K, B> {
+impl<K: Team, B: Bodies> Form<K, B> {
     /// Makes a random call.
     fn call(&mut self) {
         let how = self.dice.below(4);
@@ -353,7 +353,7 @@ impl<K: Team, B: Steps + Drop> Form<K, B> {
     }
 }
 
-impl<K: Team, B: Closes + Drop> Form<K, B> {
+impl<K: Team, B: Bodies> Form<K, B> {
     /// Settles all claims, and returns all answers and, if it can be closed, the ring's content.
     pub fn close(mut self) -> (Vec<Answer>, Option<SoloRing>) {
         K::join(&mut self);

@@ -3,7 +3,7 @@ use crate::bench::{opened, read_nine};
 use crate::claims::claimed;
 use crate::play::{OnShared, on_both};
 use crate::script::{Script, end};
-use ring_rings::{Closes, ManyToOne, Stop};
+use ring_rings::{Bodies, ManyToOne, Stop};
 use std::alloc::Global;
 use std::process::Abort;
 
@@ -11,7 +11,7 @@ use std::process::Abort;
 struct JoinsWithClaims;
 
 impl OnShared for JoinsWithClaims {
-    fn holds<B: Closes + Drop>(rt: &impl Abort, alloc: Global) {
+    fn holds<B: Bodies>(rt: &impl Abort, alloc: Global) {
         let (ring, mut one, mut consumer) = opened::<ManyToOne, B>(rt, alloc, 0);
         let mut two = ring.split(&mut one).expect(rt, "a producer");
         let first = claimed(rt, &ring, &mut one, 1, 8);

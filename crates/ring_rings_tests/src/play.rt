@@ -1,33 +1,33 @@
 //! Tests on rings of both kinds and over both tables: calls, with what each answers and what they leave, or code.
 use crate::bench::{Bench, Call, Said};
 use crate::script::{Message, Script};
-use ring_rings::{Action, Closes, Kind, ManyToOne, OneToOne, Positions, RingTable, SlotTable};
+use ring_rings::{Action, Bodies, InSlots, InWords, Kind, ManyToOne, OneToOne, Positions};
 use ring_words::SoloRing;
 use std::alloc::Global;
 use std::process::Abort;
 
 /// What is tested on rings of both kinds and over both tables.
 pub trait OnEach {
-    fn holds<K: Kind, B: Closes + Drop>(rt: &impl Abort, alloc: Global);
+    fn holds<K: Kind, B: Bodies>(rt: &impl Abort, alloc: Global);
 }
 
 /// Tests it on a ring of each kind, with bodies in words and with bodies in slots.
 pub fn on_each<T: OnEach>(rt: &impl Abort, alloc: Global) {
-    T::holds::<OneToOne, RingTable>(rt, alloc);
-    T::holds::<OneToOne, SlotTable>(rt, alloc);
-    T::holds::<ManyToOne, RingTable>(rt, alloc);
-    T::holds::<ManyToOne, SlotTable>(rt, alloc);
+    T::holds::<OneToOne, InWords>(rt, alloc);
+    T::holds::<OneToOne, InSlots>(rt, alloc);
+    T::holds::<ManyToOne, InWords>(rt, alloc);
+    T::holds::<ManyToOne, InSlots>(rt, alloc);
 }
 
 /// What is tested on rings of many producers over both tables.
 pub trait OnShared {
-    fn holds<B: Closes + Drop>(rt: &impl Abort, alloc: Global);
+    fn holds<B: Bodies>(rt: &impl Abort, alloc: Global);
 }
 
 /// Tests it on a ring with bodies in words, and on one with bodies in slots.
 pub fn on_both<T: OnShared>(rt: &impl Abort, alloc: Global) {
-    T::holds::<RingTable>(rt, alloc);
-    T::holds::<SlotTable>(rt, alloc);
+    T::holds::<InWords>(rt, alloc);
+    T::holds::<InSlots>(rt, alloc);
 }
 
 /// Calls on a ring of 128 bytes, whose handler answers with these actions, and then with `Continue`.
@@ -60,7 +60,7 @@ fn holds(rt: &impl Abort, rest: &SoloRing, words: &[(usize, Option<u64>)]) {
     }
 }
 
-fn plays_on<K: Kind, B: Closes + Drop>(rt: &impl Abort, alloc: Global, play: &Play<'_>) {
+fn plays_on<K: Kind, B: Bodies>(rt: &impl Abort, alloc: Global, play: &Play<'_>) {
     let mut bench = Bench::<K, B>::new(rt, alloc, play.start);
     let mut script = Script::new(play.actions, play.shown);
     for (at, (call, said)) in play.calls.iter().enumerate() {
@@ -76,9 +76,9 @@ fn plays_on<K: Kind, B: Closes + Drop>(rt: &impl Abort, alloc: Global, play: &Pl
 /// Makes each play on a ring of each kind, with bodies in words and with bodies in slots.
 pub fn plays(rt: &impl Abort, alloc: Global, all: &[&Play<'_>]) {
     for play in all {
-        plays_on::<OneToOne, RingTable>(rt, alloc, play);
-        plays_on::<OneToOne, SlotTable>(rt, alloc, play);
-        plays_on::<ManyToOne, RingTable>(rt, alloc, play);
-        plays_on::<ManyToOne, SlotTable>(rt, alloc, play);
+        plays_on::<OneToOne, InWords>(rt, alloc, play);
+        plays_on::<OneToOne, InSlots>(rt, alloc, play);
+        plays_on::<ManyToOne, InWords>(rt, alloc, play);
+        plays_on::<ManyToOne, InSlots>(rt, alloc, play);
     }
 }

@@ -1,6 +1,6 @@
 //! The same random calls on rings with bodies in words and with bodies in slots.
 use crate::form::{Answer, Form, Team};
-use ring_rings::{Closes, ManyToOne, OneToOne, RingTable, SlotTable};
+use ring_rings::{Bodies, InSlots, InWords, ManyToOne, OneToOne};
 use ring_words::SoloRing;
 use std::alloc::Global;
 use std::process::Abort;
@@ -12,7 +12,7 @@ const CALLS: u32 = 5_000;
 type Case = (u32, u64, u64);
 
 /// What is answered, and what is left.
-fn played<K: Team, B: Closes + Drop>(
+fn played<K: Team, B: Bodies>(
     rt: &impl Abort,
     alloc: Global,
     case: Case,
@@ -42,8 +42,8 @@ fn lie_alike(rt: &impl Abort, case: Case, words: &SoloRing, slots: &SoloRing) {
 
 /// Tests whether both forms answer the same to calls that go far, and leave the same words.
 fn compare<K: Team>(rt: &impl Abort, alloc: Global, case: Case) {
-    let (in_words, words) = played::<K, RingTable>(rt, alloc, case);
-    let (in_slots, slots) = played::<K, SlotTable>(rt, alloc, case);
+    let (in_words, words) = played::<K, InWords>(rt, alloc, case);
+    let (in_slots, slots) = played::<K, InSlots>(rt, alloc, case);
     assert_eq!(rt; in_words.len(), in_slots.len(), "{case:?}");
     assert!(rt; in_words.len() as u64 > u64::from(CALLS) / 2, "{case:?}");
     assert!(rt;

@@ -5,7 +5,7 @@ use crate::bench::{Call, Said, opened};
 use crate::closing::fill_up;
 use crate::play::{OnShared, PLAY, Play, on_both, plays};
 use crate::script::{BODY, end};
-use ring_rings::{Action, Closes, Handler, ManyToOne, Producer, Ring, Steps, Stop};
+use ring_rings::{Action, Bodies, Handler, ManyToOne, Producer, Ring, Stop};
 use std::alloc::Global;
 use std::process;
 
@@ -195,14 +195,14 @@ fn read_takes_each_action_as_continue(rt: HostRuntime) {
 
 /// Answers `Commit`, and at the second message tries to write.
 #[derive(Drop)]
-struct Sender<'a, B: Steps> {
+struct Sender<'a, B: Bodies> {
     ring: &'a Ring<ManyToOne, B>,
     producer: Producer,
     shown: u32,
     sent: bool,
 }
 
-impl<B: Steps> Handler for Sender<'_, B> {
+impl<B: Bodies> Handler for Sender<'_, B> {
     ghost use Rattle.ring_rings.specs.Seats.{IsProducerOf};
 
     ghost ready = { λ s. IsProducerOf s.ring.now s.producer };
@@ -222,7 +222,7 @@ impl<B: Steps> Handler for Sender<'_, B> {
 struct WritesInRead;
 
 impl OnShared for WritesInRead {
-    fn holds<B: Closes + Drop>(rt: &impl process::Abort, alloc: Global) {
+    fn holds<B: Bodies>(rt: &impl process::Abort, alloc: Global) {
         let (ring, mut producer, mut consumer) = opened::<ManyToOne, B>(rt, alloc, 0);
         fill_up(rt, &ring, &mut producer, 16);
         let mut sender = Sender {

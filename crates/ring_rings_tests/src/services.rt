@@ -7,7 +7,7 @@ use crate::bench::opened;
 use crate::play::{OnEach, OnShared, PLAY, Play, on_both, on_each, plays};
 use crate::script::end;
 use ring_rings::{
-    Action, Closes, Consumer, Handler, Kind, ManyToOne, Producer, ReadEnd, Ring, Steps, Stop,
+    Action, Bodies, Consumer, Handler, Kind, ManyToOne, Producer, ReadEnd, Ring, Stop,
 };
 use std::alloc::Global;
 use std::process::Abort;
@@ -39,7 +39,7 @@ fn draws_ids_and_beats(rt: HostRuntime) {
 
 /// Answers always the same, and notes the head at each message.
 #[derive(Drop)]
-struct HeadNotes<'a, K, B: Steps> {
+struct HeadNotes<'a, K, B: Bodies> {
     ring: &'a Ring<K, B>,
     producer: Producer,
     action: Action,
@@ -47,7 +47,7 @@ struct HeadNotes<'a, K, B: Steps> {
     heads: [u64; 3],
 }
 
-impl<K, B: Steps> Handler for HeadNotes<'_, K, B> {
+impl<K, B: Bodies> Handler for HeadNotes<'_, K, B> {
     ghost use Rattle.ring_rings.specs.Seats.{IsProducerOf};
 
     ghost ready = { λ s. IsProducerOf s.ring.now s.producer };
@@ -65,7 +65,7 @@ impl<K, B: Steps> Handler for HeadNotes<'_, K, B> {
 }
 
 /// Reads with a handler that notes the head.
-fn read_noting<K, B: Steps>(
+fn read_noting<K, B: Bodies>(
     ring: &Ring<K, B>,
     producer: Producer,
     consumer: &mut Consumer,
@@ -86,22 +86,22 @@ fn read_noting<K, B: Steps>(
 }
 
 /// What a handler sees of the head that always answers this.
-fn heads_seen<K: Kind, B: Steps + Drop>(
+fn heads_seen<K: Kind, B: Bodies>(
     rt: &impl Abort,
     alloc: Global,
     action: Action,
 ) -> (ReadEnd, usize, [u64; 3]) {
     let (ring, mut producer, mut consumer) = opened::<K, B>(rt, alloc, 0);
-    K::write_once(&ring, &mut producer, 1, &[]).expect(rt, "room");
-    K::write_once(&ring, &mut producer, 1, &[]).expect(rt, "room");
-    K::write_once(&ring, &mut producer, 1, &[]).expect(rt, "room");
+    ring.try_write(&mut producer, 1, &[]).expect(rt, "room");
+    ring.try_write(&mut producer, 1, &[]).expect(rt, "room");
+    ring.try_write(&mut producer, 1, &[]).expect(rt, "room");
     read_noting(&ring, producer, &mut consumer, action)
 }
 
 struct HeadsSeen;
 
 impl OnEach for HeadsSeen {
-    fn holds<K: Kind, B: Closes + Drop>(rt: &impl Abort, alloc: Global) {
+    fn holds<K: Kind, B: Bodies>(rt: &impl Abort, alloc: Global) {
         for (action, heads) in [(Action::Commit, [0, 8, 16]), (Action::Continue, [0, 0, 0])] {
             let seen = heads_seen::<K, B>(rt, alloc, action);
             assert_eq!(rt; seen, (end(3, 24, Stop::Unpublished), 3, heads));
@@ -118,7 +118,7 @@ fn commit_moves_the_head_at_once_and_continue_at_the_end(rt: HostRuntime) {
 struct DrawsInTurn;
 
 impl OnShared for DrawsInTurn {
-    fn holds<B: Closes + Drop>(rt: &impl Abort, alloc: Global) {
+    fn holds<B: Bodies>(rt: &impl Abort, alloc: Global) {
         let (ring, mut first, mut consumer) = opened::<ManyToOne, B>(rt, alloc, 0);
         let mut second = ring.split(&mut first).expect(rt, "a producer");
         ring.set_heartbeat(&mut consumer, 77);

@@ -4,8 +4,8 @@ ghost use Rattle.ring_rings.specs.Seats.{all_shares, shares_of, IsConsumerOf, Is
 
 use crate::bench::opened;
 use ring_rings::{
-    Action, ClaimFault, Closes, Consumer, Handler, ManyToOne, OneToOne, Positions, Producer, Ring,
-    RingTable, SlotTable, Steps, Stop, TryFault,
+    Action, Bodies, ClaimFault, Consumer, Handler, InSlots, InWords, ManyToOne, OneToOne,
+    Positions, Producer, Ring, Stop, TryFault,
 };
 use std::alloc::Global;
 use std::process::Abort;
@@ -39,7 +39,7 @@ impl Handler for Numbers {
 }
 
 /// Writes the numbers from 0 on, and says how many it wrote.
-fn write_numbers<B: Steps>(ring: &Ring<OneToOne, B>, mut producer: Producer) -> (Producer, u64)
+fn write_numbers<B: Bodies>(ring: &Ring<OneToOne, B>, mut producer: Producer) -> (Producer, u64)
     requires producer { IsProducerOf ring.now producer }
     requires sole { shares_of producer ≡ all_shares }
     ensures { IsProducerOf ring.now result.0 }
@@ -59,7 +59,7 @@ fn write_numbers<B: Steps>(ring: &Ring<OneToOne, B>, mut producer: Producer) -> 
 }
 
 /// Reads until all numbers have come.
-fn read_numbers<B: Steps>(ring: &Ring<OneToOne, B>, mut consumer: Consumer) -> (Consumer, Numbers)
+fn read_numbers<B: Bodies>(ring: &Ring<OneToOne, B>, mut consumer: Consumer) -> (Consumer, Numbers)
     requires { IsConsumerOf ring.now consumer }
     ensures { IsConsumerOf ring.now result.0 }
 {
@@ -79,7 +79,7 @@ fn read_numbers<B: Steps>(ring: &Ring<OneToOne, B>, mut consumer: Consumer) -> (
 }
 
 /// The numbers go through a ring from one thread to another.
-fn numbers_through<B: Closes + Drop + Sync>(rt: &(impl Abort + Threads), alloc: Global) {
+fn numbers_through<B: Bodies + Sync>(rt: &(impl Abort + Threads), alloc: Global) {
     let (ring, producer, consumer) = opened::<OneToOne, B>(rt, alloc, 0);
     let shared = &ring;
     let ((producer, written), (consumer, numbers)) = join(
@@ -111,8 +111,8 @@ fn numbers_through<B: Closes + Drop + Sync>(rt: &(impl Abort + Threads), alloc: 
 
 #[test]
 fn numbers_come_in_order(rt: HostRuntime) {
-    numbers_through::<RingTable>(&rt, rt.alloc());
-    numbers_through::<SlotTable>(&rt, rt.alloc());
+    numbers_through::<InWords>(&rt, rt.alloc());
+    numbers_through::<InSlots>(&rt, rt.alloc());
 }
 
 /// What a producer came to: how many messages it wrote, and the ids that it drew.
@@ -158,7 +158,7 @@ impl Handler for Tally {
 }
 
 /// Draws three ids, and writes the messages of the producer with this number.
-fn write_share<B: Steps>(ring: &Ring<ManyToOne, B>, mut producer: Producer, index: u32) -> Written
+fn write_share<B: Bodies>(ring: &Ring<ManyToOne, B>, mut producer: Producer, index: u32) -> Written
     requires { IsProducerOf ring.now producer }
     ensures { IsProducerOf ring.now result.producer }
 {
@@ -185,7 +185,7 @@ fn write_share<B: Steps>(ring: &Ring<ManyToOne, B>, mut producer: Producer, inde
 }
 
 /// Reads until the messages of four producers have come.
-fn read_shares<B: Steps>(ring: &Ring<ManyToOne, B>, mut consumer: Consumer) -> (Consumer, Tally)
+fn read_shares<B: Bodies>(ring: &Ring<ManyToOne, B>, mut consumer: Consumer) -> (Consumer, Tally)
     requires { IsConsumerOf ring.now consumer }
     ensures { IsConsumerOf ring.now result.0 }
 {
@@ -206,7 +206,7 @@ fn read_shares<B: Steps>(ring: &Ring<ManyToOne, B>, mut consumer: Consumer) -> (
 }
 
 /// Two producers, each on a thread of its own.
-fn write_two<R: Threads + Sync, B: Steps + Sync>(
+fn write_two<R: Threads + Sync, B: Bodies + Sync>(
     rt: &R,
     ring: &Ring<ManyToOne, B>,
     producers: (Producer, Producer),
@@ -231,7 +231,7 @@ fn write_two<R: Threads + Sync, B: Steps + Sync>(
 }
 
 /// Four producers, each on a thread of its own.
-fn write_four<R: Threads + Sync, B: Steps + Sync>(
+fn write_four<R: Threads + Sync, B: Bodies + Sync>(
     rt: &R,
     ring: &Ring<ManyToOne, B>,
     first: (Producer, Producer),
@@ -256,7 +256,7 @@ fn write_four<R: Threads + Sync, B: Steps + Sync>(
 }
 
 /// The same, and the consumer on a thread of its own.
-fn run_shares<R: Threads + Sync, B: Steps + Sync>(
+fn run_shares<R: Threads + Sync, B: Bodies + Sync>(
     rt: &R,
     ring: &Ring<ManyToOne, B>,
     first: (Producer, Producer),
@@ -295,7 +295,7 @@ fn count_draws(all: &[&Written], id: u64) -> usize {
 }
 
 /// The messages of four producers go through a ring, each producer on a thread of its own.
-fn shares_through<R: Abort + Threads + Sync, B: Closes + Drop + Sync>(rt: &R, alloc: Global) {
+fn shares_through<R: Abort + Threads + Sync, B: Bodies + Sync>(rt: &R, alloc: Global) {
     let (ring, mut one, consumer) = Ring::<ManyToOne, B>::new(alloc, 1024).expect(rt, "a ring");
     let two = ring.split(&mut one).expect(rt, "a producer");
     let three = ring.split(&mut one).expect(rt, "a producer");
@@ -334,6 +334,6 @@ fn shares_through<R: Abort + Threads + Sync, B: Closes + Drop + Sync>(rt: &R, al
 
 #[test]
 fn four_producers_lose_no_message(rt: HostRuntime) {
-    shares_through::<_, RingTable>(&rt, rt.alloc());
-    shares_through::<_, SlotTable>(&rt, rt.alloc());
+    shares_through::<_, InWords>(&rt, rt.alloc());
+    shares_through::<_, InSlots>(&rt, rt.alloc());
 }

@@ -4,14 +4,14 @@ ghost use Rattle.ring_rings.specs.Seats.{IsProducerOf};
 use crate::bench::{opened, read_nine};
 use crate::script::{BODY, Message, Script, end};
 use ring_rings::{
-    ClaimFault, ManyToOne, Positions, Producer, Ring, RingTable, SlotTable, Steps, Stop,
+    Bodies, ClaimFault, InSlots, InWords, ManyToOne, Positions, Producer, Ring, Stop,
 };
 use std::alloc::Global;
 use std::process::Abort;
 use std::sync::Wait;
 
 /// Writes the messages, each of a type id and a body.
-fn write_all<B: Steps>(
+fn write_all<B: Bodies>(
     rt: &impl Wait,
     ring: &Ring<ManyToOne, B>,
     producer: &mut Producer,
@@ -27,7 +27,7 @@ fn write_all<B: Steps>(
 }
 
 /// Writes messages until the ring is full, and tests that no more are written.
-fn fills<B: Steps>(
+fn fills<B: Bodies>(
     rt: &(impl Abort + Wait),
     ring: &Ring<ManyToOne, B>,
     producer: &mut Producer,
@@ -42,7 +42,7 @@ fn fills<B: Steps>(
     assert_eq!(rt; ring.positions(producer), Positions { head, tail });
 }
 
-fn writes_until_full<B: Steps + Drop>(rt: &(impl Abort + Wait), alloc: Global) {
+fn writes_until_full<B: Bodies>(rt: &(impl Abort + Wait), alloc: Global) {
     let (ring, mut producer, mut consumer) = opened::<ManyToOne, B>(rt, alloc, 0);
     let messages: [Message<'_>; 6] = [
         (1, &BODY),
@@ -61,12 +61,12 @@ fn writes_until_full<B: Steps + Drop>(rt: &(impl Abort + Wait), alloc: Global) {
 
 #[test]
 fn writes_that_may_wait_fill_the_ring(rt: HostRuntime) {
-    writes_until_full::<RingTable>(&rt, rt.alloc());
-    writes_until_full::<SlotTable>(&rt, rt.alloc());
+    writes_until_full::<InWords>(&rt, rt.alloc());
+    writes_until_full::<InSlots>(&rt, rt.alloc());
 }
 
 /// Commits a claim at the beginning of the ring, and tests that another one is refused.
-fn claims<B: Steps>(rt: &(impl Abort + Wait), ring: &Ring<ManyToOne, B>, producer: &mut Producer)
+fn claims<B: Bodies>(rt: &(impl Abort + Wait), ring: &Ring<ManyToOne, B>, producer: &mut Producer)
     requires { IsProducerOf ring.now producer.old }
 {
     let claim = ring.claim(rt, producer, 2, 0).expect(rt, "a claim");
@@ -76,7 +76,7 @@ fn claims<B: Steps>(rt: &(impl Abort + Wait), ring: &Ring<ManyToOne, B>, produce
     assert!(rt; matches!(refused, Err(ClaimFault::BadType { type_id: 0 })));
 }
 
-fn claims_and_commits<B: Steps + Drop>(rt: &(impl Abort + Wait), alloc: Global) {
+fn claims_and_commits<B: Bodies>(rt: &(impl Abort + Wait), alloc: Global) {
     let (ring, mut producer, mut consumer) = opened::<ManyToOne, B>(rt, alloc, 0);
     claims(rt, &ring, &mut producer);
     let mut script = Script::new(&[], &[(2, &[])]);
@@ -87,6 +87,6 @@ fn claims_and_commits<B: Steps + Drop>(rt: &(impl Abort + Wait), alloc: Global) 
 
 #[test]
 fn claims_that_may_wait_are_settled(rt: HostRuntime) {
-    claims_and_commits::<RingTable>(&rt, rt.alloc());
-    claims_and_commits::<SlotTable>(&rt, rt.alloc());
+    claims_and_commits::<InWords>(&rt, rt.alloc());
+    claims_and_commits::<InSlots>(&rt, rt.alloc());
 }

@@ -5,7 +5,7 @@ use crate::bench::{Call, Said};
 use crate::play::{OnEach, PLAY, Play, on_each, plays};
 use crate::script::BODY;
 use ring_rings::ClaimFault::{BadType, InsufficientCapacity, PositionLimit, TooLong};
-use ring_rings::{Closes, Kind, MakeFault, Ring, Stop};
+use ring_rings::{Bodies, Kind, MakeFault, Ring, Stop};
 use std::alloc::Global;
 use std::process::Abort;
 
@@ -160,7 +160,7 @@ fn ends_at_the_last_position(rt: HostRuntime) {
 struct NotMade;
 
 impl OnEach for NotMade {
-    fn holds<K: Kind, B: Closes + Drop>(rt: &impl Abort, alloc: Global) {
+    fn holds<K: Kind, B: Bodies>(rt: &impl Abort, alloc: Global) {
         for (capacity, start, fault) in [
             (100, 0, MakeFault::BadCapacity),
             (64, 0, MakeFault::BadCapacity),

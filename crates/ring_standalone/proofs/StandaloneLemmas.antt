@@ -12,7 +12,7 @@ use Rattle.ring_table.specs.ProducerSteps.{with_changed}
 use Rattle.ring_table.specs.Views.{with_claims}
 use Rattle.ring_rings.specs.declared.fault.CloseFault.{CloseFault}
 use Rattle.ring_rings.specs.declared.ring.Ring.{Ring}
-use Rattle.ring_rings.specs.declared.steps.Steps.{Ghosts}
+use Rattle.ring_rings.specs.declared.bodies.Bodies.{Ghosts}
 use Rattle.ring_rings.specs.declared.ring.Producer.{Producer}
 use Rattle.ring_rings.specs.declared.ring.Consumer.{Consumer}
 use Rattle.ring_rings.specs.Seats.{view_of, IsProducerOf, KeepsClaims, KeepsOthers}

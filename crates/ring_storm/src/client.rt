@@ -14,7 +14,7 @@ use crate::shared::Shared;
 use crossbeam_utils::Backoff;
 use ring_conductor::{Client, Polled, Request};
 use ring_protocol::Reply;
-use ring_rings::{ManyToOne, Ring, Steps};
+use ring_rings::{Bodies, ManyToOne, Ring};
 
 /// The type of the clients' counters.
 const COUNTER_TYPE: i32 = 1;
@@ -54,7 +54,7 @@ fn request_of(label: &[u8], counter: u32, number: u32) -> Request<'_>
 }
 
 /// Tries once to send a command. The ring refuses while it is full, or if another client was faster.
-fn try_send<B: Steps>(
+fn try_send<B: Bodies>(
     ring: &Ring<ManyToOne, B>,
     client: &mut Client,
     correlation: u64,
@@ -71,7 +71,7 @@ fn try_send<B: Steps>(
     client.send_as(ring, correlation, request).is_ok()
 }
 
-impl<G: Gate, B: Steps> Shared<'_, G, B> {
+impl<G: Gate, B: Bodies> Shared<'_, G, B> {
     /// Waits until the gate lets the client send.
     fn wait_for_gate(&self, client: u32, number: u32) -> bool {
         let backoff = Backoff::new();

@@ -6,7 +6,7 @@ ghost use Rattle.ring_storm.specs.Storming.{all_commands, taken_by};
 use crate::shared::Shared;
 use crossbeam_utils::Backoff;
 use ring_conductor::{Conductor, WorkStop};
-use ring_rings::Closes;
+use ring_rings::Bodies;
 
 /// The conductor after its work.
 #[derive(Drop)]
@@ -16,7 +16,7 @@ pub(crate) struct ConductorEnd {
     pub(crate) is_done: bool,
 }
 
-impl<G, B: Closes> Shared<'_, G, B> {
+impl<G, B: Bodies> Shared<'_, G, B> {
     /// Works until a command comes, and returns the number of those that came, 0 if none did.
     fn work(&self, conductor: &mut Conductor) -> u64
         requires conductor { IsConductorAt self.now conductor.old }

@@ -7,10 +7,10 @@ use crate::seats::{Endpoints, StormClient};
 use crate::shared::Shared;
 use ring_board::SubscribeFault;
 use ring_conductor::Client;
-use ring_rings::Steps;
+use ring_rings::Bodies;
 use std::alloc::Global;
 
-impl<G, B: Steps> Shared<'_, G, B> {
+impl<G, B: Bodies> Shared<'_, G, B> {
     /// Makes a client with endpoints of its own. If memory runs out, nothing has changed.
     pub(crate) fn split_client(
         &self,

@@ -14,7 +14,7 @@ use crate::promises::{ClientBack, ConductorBack};
 use crate::seats::{Endpoints, Failure, LevelEnd, StormClient};
 use crate::shared::Shared;
 use core::thread::Stack;
-use ring_rings::{Closes, Steps};
+use ring_rings::Bodies;
 use std::alloc::Global;
 use std::snapshot::Snapshot;
 use std::thread::{Scope, Threads};
@@ -43,7 +43,7 @@ fn give_up(endpoints: Endpoints) -> LevelEnd
 }
 
 /// The innermost level: the conductor, on a thread of its own.
-fn conduct<'s, E, R: Threads, G: Gate + Sync, B: Closes + Sync>(
+fn conduct<'s, E, R: Threads, G: Gate + Sync, B: Bodies + Sync>(
     scope: &'s Scope<'s, E>,
     rt: &'s R,
     shared: Shared<'s, G, B>,
@@ -127,7 +127,7 @@ fn conduct<'s, E, R: Threads, G: Gate + Sync, B: Closes + Sync>(
 
 /// Starts the clients below a number, each on a thread of its own, and after them the conductor. Each level starts one
 /// client and calls the next level; then it joins the thread and takes the seats back.
-pub(crate) fn level<'s, E, R: Threads, G: Gate + Sync, B: Closes + Sync>(
+pub(crate) fn level<'s, E, R: Threads, G: Gate + Sync, B: Bodies + Sync>(
     scope: &'s Scope<'s, E>,
     rt: &'s R,
     alloc: Global,
@@ -198,7 +198,7 @@ pub(crate) fn level<'s, E, R: Threads, G: Gate + Sync, B: Closes + Sync>(
 }
 
 /// Takes a client's seats back. It has spent its turns if it did not get all its replies.
-fn gather<G, B: Steps>(
+fn gather<G, B: Bodies>(
     shared: Shared<'_, G, B>,
     index: u32,
     end: LevelEnd,

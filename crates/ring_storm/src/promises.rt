@@ -8,26 +8,26 @@ use crate::seats::StormClient;
 use ring_board::Board;
 use ring_conductor::Conductor;
 use ring_counters::CounterValues;
-use ring_rings::{ManyToOne, Ring, Steps};
+use ring_rings::{Bodies, ManyToOne, Ring};
 use std::snapshot::Snapshot;
 use std::thread::Promise;
 
 /// A client comes back with its seats, and each command that it counts had its reply.
 #[derive_where(Clone, Copy)]
-pub(crate) struct ClientBack<'a, B: Steps> {
+pub(crate) struct ClientBack<'a, B: Bodies> {
     pub(crate) ring: &'a Ring<ManyToOne, B>,
     pub(crate) board: &'a Board,
     pub(crate) plan: StormPlan,
     pub(crate) index: u32,
 }
 
-impl<'a, B: Steps> Promise<StormClient> for ClientBack<'a, B> {
+impl<'a, B: Bodies> Promise<StormClient> for ClientBack<'a, B> {
     ghost kept_by = { λ p r. IsClientOf p.ring.now p.board.now r × HasWorked p.plan.commands p.index r };
 }
 
 /// The conductor comes back with its shares, and has joined no receiver.
 #[derive(Drop)]
-pub(crate) struct ConductorBack<'a, B: Steps> {
+pub(crate) struct ConductorBack<'a, B: Bodies> {
     pub(crate) ring: &'a Ring<ManyToOne, B>,
     pub(crate) board: &'a Board,
     pub(crate) values: &'a CounterValues,
@@ -36,7 +36,7 @@ pub(crate) struct ConductorBack<'a, B: Steps> {
     pub(crate) plan: StormPlan,
 }
 
-impl<'a, B: Steps> Promise<ConductorEnd> for ConductorBack<'a, B> {
+impl<'a, B: Bodies> Promise<ConductorEnd> for ConductorBack<'a, B> {
     ghost kept_by = { λ p r. HasConducted p.plan p.ring.now p.board.now p.values.now r
         × (board_shares_of r.conductor ≡ board_shares_of p.given.value) };
 }

@@ -3,13 +3,13 @@
 use crate::plan::StormPlan;
 use ring_board::Board;
 use ring_counters::CounterValues;
-use ring_rings::{ManyToOne, Ring, Steps};
+use ring_rings::{Bodies, ManyToOne, Ring};
 use std::sync::atomic::AtomicBool;
 use std::sync::atomic::Ordering::SeqCst;
 
 /// What all threads of a storm share.
 #[derive_where(Clone, Copy)]
-pub(crate) struct Shared<'a, G, B: Steps> {
+pub(crate) struct Shared<'a, G, B: Bodies> {
     pub(crate) ring: &'a Ring<ManyToOne, B>,
     pub(crate) board: &'a Board,
     pub(crate) values: &'a CounterValues,
@@ -19,7 +19,7 @@ pub(crate) struct Shared<'a, G, B: Steps> {
     pub(crate) plan: StormPlan,
 }
 
-impl<G, B: Steps> Shared<'_, G, B> {
+impl<G, B: Bodies> Shared<'_, G, B> {
     /// Whether a thread gave up.
     pub(crate) fn is_stopped(&self) -> bool {
         self.stopped.load(SeqCst)

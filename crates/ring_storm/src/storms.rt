@@ -12,7 +12,7 @@ use crate::shared::Shared;
 use ring_board::Board;
 use ring_conductor::{Conductor, finish};
 use ring_counters::{CounterValues, CountersManager};
-use ring_rings::{Closes, ManyToOne, Ring, RingTable};
+use ring_rings::{Bodies, InWords, ManyToOne, Ring};
 use std::alloc::Global;
 use std::sync::Wait;
 use std::sync::atomic::AtomicBool;
@@ -40,11 +40,11 @@ pub fn storm<R: Threads + Wait, G: Gate + Sync>(
     ensures bad_plan { (result ≡ Err BadPlan) ↔ (IsPlan plan.now → ⊥) }
     ensures report { IfOk result (IsReportOf plan.now) }
 {
-    storm_over::<RingTable, R, G>(rt, alloc, plan, gate)
+    storm_over::<InWords, R, G>(rt, alloc, plan, gate)
 }
 
-/// Does what `storm` does, over a ring of either form. With `SlotTable` bodies lie in plain memory.
-pub fn storm_over<B: Closes + Drop + Sync, R: Threads + Wait, G: Gate + Sync>(
+/// Does what `storm` does, over a ring of either form. With `InSlots` bodies lie in plain memory.
+pub fn storm_over<B: Bodies + Sync, R: Threads + Wait, G: Gate + Sync>(
     rt: &R,
     alloc: Global,
     plan: &StormPlan,
@@ -81,7 +81,7 @@ pub fn storm_over<B: Closes + Drop + Sync, R: Threads + Wait, G: Gate + Sync>(
 }
 
 /// Runs all threads, and finishes with what they give back, whether all is done or some gave up.
-fn run<B: Closes + Drop + Sync, R: Threads + Wait, G: Gate + Sync>(
+fn run<B: Bodies + Sync, R: Threads + Wait, G: Gate + Sync>(
     rt: &R,
     alloc: Global,
     plan: &StormPlan,
@@ -113,7 +113,7 @@ fn run<B: Closes + Drop + Sync, R: Threads + Wait, G: Gate + Sync>(
 }
 
 /// Runs all threads, and takes their seats back.
-fn run_threads<B: Closes + Sync, R: Threads + Wait, G: Gate + Sync>(
+fn run_threads<B: Bodies + Sync, R: Threads + Wait, G: Gate + Sync>(
     rt: &R,
     alloc: Global,
     plan: &StormPlan,

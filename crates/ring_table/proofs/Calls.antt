@@ -42,6 +42,14 @@ pub same_seat : {old new : Seat ℕ View} → new.table_id ≡ old.table_id → 
 same_seat table id slots view =
     record { table = table; id = id; slots = slots; capacity = view.capacity; out = view.out }
 
+-- the same of a seat whose view and slots became m
+pub reseated_as : {old new : Seat ℕ View} {m : Mine} → (new.table_id ≡ old.table_id) × (new.id ≡ old.id) × (new.me ≡ m)
+    → m.1 ≡ old.me.1 → IsOf old.me.0 m.0 → IsSameSeat old new
+reseated_as h slots view = same_seat h.0 h.1 (ap (λ (m : Mine). m.1) h.2 ∙ slots) (record {
+  capacity = ap (λ (m : Mine). m.0.capacity) h.2 ∙ view.capacity;
+  out = ap (λ (m : Mine). m.0.out) h.2 ∙ view.out;
+})
+
 -- what a step leaves for the shelf: the new view has the same slots out, and no more claims
 pub record Leaves (B : Bodies) (v w : View) : Type 0 where
   pub out : w.out ≡ v.out

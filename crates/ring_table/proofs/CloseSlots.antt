@@ -16,7 +16,7 @@ use Rattle.ring_table.specs.Views.{View}
 use Rattle.ring_table.specs.ProducerSteps.{HasClaim}
 use Rattle.ring_table.specs.Rule.{IsMemory, Kept}
 use Rattle.ring_table.specs.Shelf.{IsOut, IsOwnOut, IsGotOut, IsShelf}
-use Rattle.ring_table.specs.Closed.{IsClosed}
+use Rattle.ring_table.specs.Closed.{IsClosed, IsLast}
 use Rattle.ring_table.specs.Walk.{Parts, Walked}
 use Rattle.ring_table.proofs.CloseLemmas.{Closes, closes, idle}
 use Rattle.ring_table.proofs.LawLemmas.{none_open}
@@ -41,13 +41,6 @@ settled_there (y ∷ ys) zero x all e =
 settled_there (y ∷ ys) (suc k) x all e = settled_there ys k x all.1 e
 
 -- the seat that closes a ring: it has all shares and consumes, and has no claim open, no read running and no body out
-pub record IsLast (v : View) : Type 0 where
-  pub all : v.producer.shares ≡ all_shares
-  pub consumes : v.consumes ≡ true
-  pub home : v.out ≡ []
-  pub none_open : open_count v.producer.claims ≡ 0
-  pub none_cleared : v.consumer.cleared ≡ v.consumer.head
-
 -- the capacity of a ring of n words
 pub capacity_of : (C n : ℕ) → IsCapacity C → n ≡ ring_words C → C ≡ (n - 96) * 8
 capacity_of C n cap is = let c8 = capacity_aligned C cap in omega arith

@@ -1,13 +1,20 @@
 -- The words of a fresh ring, and those of a closed one.
-use Rattle.std.specs.Prelude.{◌≡◌, ℕ, ◌/◌, ◌<◌, List, [], ◌∷◌, ◌++◌, length, slice_index}
+use Rattle.std.specs.Prelude.{◌≡◌, ℕ, ◌/◌, ◌<◌, List, [], ◌∷◌, ◌++◌, length, slice_index, true}
+use Rattle.std.specs.Slots.{slots_items, IsFull}
+use Rattle.std.specs.declared.alloc.Global.{Global}
+use Rattle.atomic_table.specs.Table.{Final, Seen}
+use Rattle.atomic_table.specs.declared.owned.Closed.{Closed}
 use Rattle.ring_layout.specs.Places.{end_of}
 use Rattle.ring_layout.specs.Layout.{ring_words, tail_index, head_cache_index, head_index, correlation_index, heartbeat_index, IsUnnamed}
 use Rattle.ring_layout.specs.Picture.{IsPicture}
-use Rattle.ring_table.specs.Staged.{in_words, StagedClaim, unplaced, ArePlaced, staged_end}
+use Rattle.ring_layout.specs.Refusals.{all_shares}
+use Rattle.ring_table.specs.OpenClaims.{open_count}
+use Rattle.ring_table.specs.Staged.{Bodies, in_words, StagedClaim, unplaced, ArePlaced, staged_end}
 use Rattle.ring_table.specs.Passing.{AreSettled, placed_committed_of}
 use Rattle.ring_table.specs.Services.{times_drawn, once_below, AreServed}
 use Rattle.ring_table.specs.Views.{View}
-use Rattle.ring_table.specs.Rule.{IsLawful, IsMemory, IsService}
+use Rattle.ring_table.specs.Rule.{IsLawful, IsMemory, IsService, Keeps}
+use Rattle.ring_table.specs.declared.view.Key.{Key}
 
 pub record IsFresh (C start : ℕ) (words : List ℕ) : Type 0 where
   pub wide : length words ≡ ring_words C
@@ -18,6 +25,22 @@ pub record IsFresh (C start : ℕ) (words : List ℕ) : Type 0 where
   pub heartbeat : slice_index words (heartbeat_index C) ≡ 0
   pub records : (i : ℕ) → i < C / 8 → slice_index words i ≡ 0
   pub unnamed : (i : ℕ) → IsUnnamed C i → slice_index words i ≡ 0
+
+-- a last seat: all others were joined into it, no claim is open, and no read is running
+pub record IsLast (v : View) : Type 0 where
+  pub all : v.producer.shares ≡ all_shares
+  pub consumes : v.consumes ≡ true
+  pub home : v.out ≡ []
+  pub none_open : open_count v.producer.claims ≡ 0
+  pub none_cleared : v.consumer.cleared ≡ v.consumer.head
+
+-- what a table left whose last seat knew v
+pub record IsLeft (bodies : Bodies) (k : Key) (v : View) (closed : Closed ℕ Global) : Type 0 where
+  pub last : IsLast v
+  pub full : IsFull closed.words × IsFull closed.slots
+  pub id : ℕ
+  pub final : Final (Seen (λ s. Keeps bodies k s.words s.homes s.views) id v)
+      (slots_items closed.words) (slots_items closed.slots)
 
 -- The words of a ring whose producers and consumer were joined into one seat, and that seat's view. It has all claims
 -- and all draws

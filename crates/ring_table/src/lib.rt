@@ -27,7 +27,7 @@ pub use laws::{
     stored_claims_show_one_picture,
 };
 pub use mode::{InSlots, InWords, Mode};
-pub use picture::{close_slots, copy_words};
+pub use picture::{show_slots, copy_words};
 pub use putting::put_slots;
 pub use rule::RingRule;
 pub use steps::consumer::{
@@ -47,5 +47,5 @@ pub use steps::slots::{
     return_body, take_body,
 };
 pub use steps::{RingSeat, SharedRing};
-pub use table::{RingTable, SlotTable, close, open, open_slots};
+pub use table::{RingTable, open, open_slots};
 pub use view::{ConsumerView, Key, ProducerView, Service, View, Wanted};

@@ -1,17 +1,15 @@
 //! The words of a closed ring whose bodies lie in slots, in the ring's format.
-ghost use Rattle.std.specs.Prelude.{◌≡◌, ◌+◌, ◌/◌, ◌%◌, ◌^◌, ◌≤◌, ◌<◌, [], length, vec_len, true};
+ghost use Rattle.std.specs.Prelude.{◌≡◌, ◌+◌, ◌/◌, ◌%◌, ◌^◌, ◌≤◌, ◌<◌, [], length, vec_len};
 ghost use Rattle.std.specs.Slots.{slots_items, slots_len, IsFull};
 ghost use Rattle.ring_layout.specs.Layout.{ring_words};
-ghost use Rattle.ring_layout.specs.Refusals.{all_shares};
-ghost use Rattle.ring_table.specs.Closed.{IsClosed, LeavesRest};
-ghost use Rattle.ring_table.specs.OpenClaims.{open_count};
+ghost use Rattle.ring_table.specs.declared.view.Key.{Key as TheKey};
+ghost use Rattle.ring_table.specs.Closed.{IsClosed, IsLeft, LeavesRest};
 ghost use Rattle.ring_table.specs.Owners.{all_of};
-ghost use Rattle.ring_table.specs.Staged.{staged_end};
+ghost use Rattle.ring_table.specs.Staged.{elsewhere, staged_end};
+ghost use Rattle.ring_table.specs.Views.{View};
 ghost use Rattle.ring_table.specs.Walk.{IsCopied, Parts, Walked};
 
 use crate::mode::{InSlots, Mode};
-use crate::steps::RingSeat;
-use crate::table::SlotTable;
 use atomic_table::Closed;
 use ring_layout::ring_buffer_descriptor::{HEAD_POSITION_WORD, TAIL_POSITION_WORD, TRAILER_WORDS};
 use ring_layout::{align8, word_index};
@@ -91,21 +89,16 @@ fn free_slots(mut closed: Closed<u64, Global>)
     closed.free();
 }
 
-/// The words of a ring whose bodies lie in slots, once all producers and the consumer were joined into this seat, no
-/// claim is open, and no read is running. They are those of a ring whose bodies lie in words, and are in `room`.
-pub fn close_slots(table: SlotTable, seat: RingSeat, room: Vec<u64>) -> Vec<u64>
-    requires table { (seat.table_id ≡ table.shared.table_id)
-        × (table.shared.table_id.slots ≡ table.shared.key.capacity / 8) }
-    requires room { vec_len room ≡ table.shared.table_id.words }
-    requires all { (seat.me.0.producer.shares ≡ all_shares) × (seat.me.0.consumes ≡ true) }
-    requires home { seat.me.0.out ≡ [] }
-    requires settled { (open_count seat.me.0.producer.claims ≡ 0)
-        × (seat.me.0.consumer.cleared ≡ seat.me.0.consumer.head) }
-    ensures closed { IsClosed table.shared.key.capacity table.shared.key.start result.items seat.me.0 }
-    ensures rest { LeavesRest table.shared.key.capacity result.items seat.me.0 }
+/// The words of a ring whose bodies lie in slots, in `room`, from what its table left. They are those of a ring whose
+/// bodies lie in words.
+pub fn show_slots(closed: Closed<u64, Global>, room: Vec<u64>) -> Vec<u64>
+    requires left { (k : TheKey) × (v : View) × IsLeft elsewhere k v closed
+        × (slots_len closed.slots ≡ k.capacity / 8) }
+    requires room { vec_len room ≡ slots_len closed.words }
+    ensures { (k : TheKey) (v : View) → IsLeft elsewhere k v closed
+        → IsClosed k.capacity k.start result.items v × LeavesRest k.capacity result.items v }
 {
     let mut words = room;
-    let closed = table.close_with(seat);
     copy_words(&closed, &mut words);
     let capacity = ((words.len() - TRAILER_WORDS) * 8) as u32;
     show_bodies(&closed, &mut words, capacity);

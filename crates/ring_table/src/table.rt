@@ -1,29 +1,23 @@
-//! A ring's table, from its making to its close.
-ghost use Rattle.std.specs.Prelude.{◌≡◌, ◌%◌, ◌/◌, ◌≤◌, [], replicate, IfOk, true};
-ghost use Rattle.std.specs.Slots.{slots_items, slots_len, IsFull};
+//! A ring's table, as it is made.
+ghost use Rattle.std.specs.Prelude.{◌≡◌, ◌%◌, ◌/◌, ◌≤◌, [], replicate, IfOk};
 ghost use Rattle.ring_layout.specs.Layout.{ring_words};
 ghost use Rattle.ring_layout.specs.Places.{max_position};
-ghost use Rattle.ring_layout.specs.Refusals.{all_shares};
 ghost use Rattle.ring_table.specs.Rule.{IsLawful};
 ghost use Rattle.ring_table.specs.Views.{first_view};
-ghost use Rattle.ring_table.specs.Closed.{IsClosed, IsFresh, LeavesRest};
-ghost use Rattle.ring_table.specs.OpenClaims.{open_count};
+ghost use Rattle.ring_table.specs.Closed.{IsFresh};
 
 use crate::mode::{InSlots, InWords};
 use crate::rule::RingRule;
 use crate::steps::RingSeat;
 use crate::view::{Key, View};
-use atomic_table::{Closed, Refused, Table};
+use atomic_table::{Refused, Table};
 use ring_layout::ring_buffer_descriptor::{
     HEAD_CACHE_POSITION_WORD, HEAD_POSITION_WORD, TAIL_POSITION_WORD, TRAILER_WORDS,
 };
 use std::alloc::{AllocError, Global};
 
-/// A ring with its memory, whose bodies lie in words. Its field `shared` is what threads share.
-pub type RingTable = Table<u64, View, Key, RingRule<InWords>, Global>;
-
-/// A ring with its memory, whose bodies lie in slots, one for each word of the records.
-pub type SlotTable = Table<u64, View, Key, RingRule<InSlots>, Global>;
+/// A ring with its memory. Its field `shared` is what threads share.
+pub type RingTable<M> = Table<u64, View, Key, RingRule<M>, Global>;
 
 fn fresh_words(alloc: Global, key: Key) -> Result<Vec<u64>, AllocError>
     requires { IsLawful key.capacity key.start }
@@ -39,7 +33,7 @@ fn fresh_words(alloc: Global, key: Key) -> Result<Vec<u64>, AllocError>
 
 /// A fresh ring, and its first seat, which is the only producer and the consumer. The only error is that there was no
 /// memory.
-pub fn open(alloc: Global, key: Key) -> Result<(RingTable, RingSeat), AllocError>
+pub fn open(alloc: Global, key: Key) -> Result<(RingTable<InWords>, RingSeat), AllocError>
     requires lawful { IsLawful key.capacity key.start }
     requires limit { key.start ≤ max_position }
     ensures words { IfOk result (λ t. t.0.shared.table_id.words ≡ ring_words key.capacity) }
@@ -59,7 +53,7 @@ fn zeros(alloc: Global, count: usize) -> Result<Vec<u64>, AllocError>
 }
 
 /// The same with bodies in slots.
-pub fn open_slots(alloc: Global, key: Key) -> Result<(SlotTable, RingSeat), AllocError>
+pub fn open_slots(alloc: Global, key: Key) -> Result<(RingTable<InSlots>, RingSeat), AllocError>
     requires lawful { IsLawful key.capacity key.start }
     requires limit { key.start ≤ max_position }
     ensures words { IfOk result (λ t. t.0.shared.table_id.words ≡ ring_words key.capacity) }
@@ -74,21 +68,4 @@ pub fn open_slots(alloc: Global, key: Key) -> Result<(SlotTable, RingSeat), Allo
         Ok(made) => Ok(made),
         Err(Refused { slots: _ }) => Err(AllocError),
     }
-}
-
-/// The words of a ring, once all producers and the consumer were joined into this seat.
-pub fn close(table: RingTable, seat: RingSeat) -> Closed<u64, Global>
-    requires table { seat.table_id ≡ table.shared.table_id }
-    requires shares { seat.me.0.producer.shares ≡ all_shares }
-    requires consumes { seat.me.0.consumes ≡ true }
-    ensures sizes { (slots_len result.words ≡ table.shared.table_id.words)
-        × (slots_len result.slots ≡ table.shared.table_id.slots) }
-    ensures full { IsFull result.words }
-    ensures closed { IsClosed table.shared.key.capacity table.shared.key.start (slots_items result.words) seat.me.0 }
-
-    // If no claim is open and no read is running, the words are the picture of what the reader left.
-    ensures rest { open_count seat.me.0.producer.claims ≡ 0 → seat.me.0.consumer.cleared ≡ seat.me.0.consumer.head
-        → LeavesRest table.shared.key.capacity (slots_items result.words) seat.me.0 }
-{
-    table.close_with(seat)
 }

@@ -4,10 +4,11 @@ ghost use Rattle.ring_table.specs.Views.{with_beat};
 ghost use Rattle.ring_rings.specs.Ring.{received};
 ghost use Rattle.ring_rings.specs.Seats.{IsConsumerOf, consumer_view, IsSameConsumer};
 
+use crate::bodies::Bodies;
 use crate::ring::{Consumer, Ring};
-use crate::steps::Steps;
+use ring_table::store_heartbeat;
 
-impl<K, B: Steps> Ring<K, B> {
+impl<K, B: Bodies> Ring<K, B> {
     /// Stores the consumer's heartbeat, which producers load. It is 0 until the first is stored.
     pub fn set_heartbeat(&self, consumer: &mut Consumer, value: u64)
         requires { IsConsumerOf self.now consumer.old }
@@ -16,7 +17,6 @@ impl<K, B: Steps> Ring<K, B> {
         ensures seat { IsSameConsumer consumer.old consumer.new }
         ensures view { consumer_view consumer.new ≡ with_beat value (consumer_view consumer.old) }
     {
-        self.table
-            .store_heartbeat(&mut consumer.seat, self.capacity, value);
+        store_heartbeat(&self.table.shared, &mut consumer.seat, self.capacity, value);
     }
 }

@@ -8,13 +8,13 @@ ghost use Rattle.ring_rings.specs.Reading.{Controls, EndsAt, ReadsTo};
 ghost use Rattle.ring_rings.specs.Ring.{Leaves, Receives};
 ghost use Rattle.ring_rings.specs.ReadingSteps.{Ended, HasCome, MayMoveTo, SettlesAll};
 
+use crate::bodies::Bodies;
 use crate::consumer::turn::Turn;
 use crate::ring::{Consumer, Ring};
-use crate::steps::Steps;
 use ring_layout::byte_index;
 use ring_words::{Action, Handler, ReadEnd, Stop};
 
-impl<K, B: Steps> Ring<K, B> {
+impl<K, B: Bodies> Ring<K, B> {
     /// Tests whether a read came from `start` to the end of the buffer.
     fn is_block_end(&self, start: u64, scan: u64) -> bool
         ensures { result ≡ (nat_lt start scan && scan % capacity_of self.now == 0) }

@@ -8,14 +8,14 @@ ghost use Rattle.ring_rings.specs.Ring.{message, sent, AreMerged, HasMessage};
 ghost use Rattle.ring_rings.specs.Seats.{capacity_of, claims_of, shares_of, view_of};
 ghost use Rattle.ring_rings.specs.Seats.{IsNewClaimOf, IsProducerOf, KeepsBoth, KeepsClaims};
 
+use crate::bodies::Bodies;
 use crate::claim::Claim;
 use crate::fault::TryFault;
-use crate::kind::Kind;
 use crate::ring::{ManyToOne, Producer, Ring};
-use crate::steps::Steps;
 use ring_layout::{NoShares, has_spare_share};
+use ring_table::{join_producer, load_tail, split_producer};
 
-impl<B: Steps> Ring<ManyToOne, B> {
+impl<B: Bodies> Ring<ManyToOne, B> {
     /// Makes one try to claim room for a message of `len` bytes, which are 0 until they are `put`. Several claims may
     /// be open at once. It never waits.
     ///
@@ -41,7 +41,7 @@ impl<B: Steps> Ring<ManyToOne, B> {
         ensures opened { IfOk result (IsNewClaimOf self.now producer.old producer.new) }
         ensures keeps { KeepsClaims self.now producer.old producer.new }
     {
-        ManyToOne::claim_once(self, producer, type_id, len)
+        self.try_claim(producer, type_id, len)
     }
 
     /// Makes one try to write a message: it is claimed, stored and committed. The refusals are those of `claim_once`.
@@ -63,7 +63,7 @@ impl<B: Steps> Ring<ManyToOne, B> {
             (view_of producer.old) fault (view_of producer.new)) }
         ensures keeps { KeepsClaims self.now producer.old producer.new }
     {
-        ManyToOne::write_once(self, producer, type_id, body)
+        self.try_write(producer, type_id, body)
     }
 
     /// Makes another producer with one share of this one's, without claims, draws or heartbeats read. Returns
@@ -82,7 +82,7 @@ impl<B: Steps> Ring<ManyToOne, B> {
         if !has_spare_share(producer.shares) {
             return Err(NoShares);
         }
-        let seat = self.table.split_producer(&mut producer.seat);
+        let seat = split_producer(&self.table.shared, &mut producer.seat);
         producer.shares -= 1;
         Ok(Producer {
             seat,
@@ -110,8 +110,8 @@ impl<B: Steps> Ring<ManyToOne, B> {
             open_claims,
             own_tail: _,
         } = other;
-        self.table.join_producer(&mut producer.seat, seat);
-        producer.own_tail = self.table.load_tail(&mut producer.seat, self.capacity);
+        join_producer(&self.table.shared, &mut producer.seat, seat);
+        producer.own_tail = load_tail(&self.table.shared, &mut producer.seat, self.capacity);
         producer.shares += shares;
         producer.open_claims += open_claims;
     }

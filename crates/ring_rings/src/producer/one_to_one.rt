@@ -6,14 +6,13 @@ ghost use Rattle.ring_rings.specs.Ring.{message, sent, HasMessage};
 ghost use Rattle.ring_rings.specs.Seats.{capacity_of, shares_of, view_of};
 ghost use Rattle.ring_rings.specs.Seats.{IsNewClaimOf, IsProducerOf, KeepsClaims};
 
+use crate::bodies::Bodies;
 use crate::claim::Claim;
 use crate::fault::TryFault;
-use crate::kind::Kind;
 use crate::ring::{OneToOne, Producer, Ring};
-use crate::steps::Steps;
 use ring_words::ClaimFault;
 
-impl<B: Steps> Ring<OneToOne, B> {
+impl<B: Bodies> Ring<OneToOne, B> {
     /// Claims room for a message of `len` bytes, which are 0 until they are `put`. Several claims may be open at once.
     ///
     /// Returns, in this order: `BadType` if the type id is below 1; `TooLong` if the body would have more than an
@@ -37,7 +36,7 @@ impl<B: Steps> Ring<OneToOne, B> {
         ensures opened { IfOk result (IsNewClaimOf self.now producer.old producer.new) }
         ensures keeps { KeepsClaims self.now producer.old producer.new }
     {
-        match OneToOne::claim_once(self, producer, type_id, len) {
+        match self.try_claim(producer, type_id, len) {
             Ok(claim) => Ok(claim),
             Err(TryFault::Refused(fault)) => Err(fault),
             Err(TryFault::Contended { .. }) => unreachable!(),
@@ -64,7 +63,7 @@ impl<B: Steps> Ring<OneToOne, B> {
             (view_of producer.old) fault (view_of producer.new)) }
         ensures keeps { KeepsClaims self.now producer.old producer.new }
     {
-        match OneToOne::write_once(self, producer, type_id, body) {
+        match self.try_write(producer, type_id, body) {
             Ok(()) => Ok(()),
             Err(TryFault::Refused(fault)) => Err(fault),
             Err(TryFault::Contended { .. }) => unreachable!(),

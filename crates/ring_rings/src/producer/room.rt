@@ -6,24 +6,23 @@ ghost use Rattle.ring_table.specs.Seats.{IsSameSeat, IsSeatOf};
 ghost use Rattle.std.specs.Prelude.{◌≡◌, MatchResult, ◌%◌, ◌≤◌, IfOk, None};
 
 use crate::fault::TryFault;
-use crate::steps::Steps;
 use ring_layout::{
     Admission, has_room, is_length, is_position, is_type_id, max_message, place_record,
 };
-use ring_table::{RingSeat, Wanted};
+use ring_table::{Mode, RingSeat, SharedRing, Wanted, load_cache, load_head, store_cache};
 use ring_words::ClaimFault;
 
 /// Looks for room for a claim: after the cached head, and then after the head.
 ///
 /// Returns `Contended` if one of them is beyond the tail that the claim goes by, so that another producer has moved the
 /// tail; `InsufficientCapacity` if there is no room after the head.
-pub(crate) fn find_room<B: Steps>(
-    words: &B,
+pub(crate) fn find_room<M: Mode>(
+    words: &SharedRing<M>,
     seat: &mut RingSeat,
     capacity: u32,
     admission: Admission,
 ) -> Result<(), TryFault>
-    requires seat { IsSeatOf (B.table_of words.now) (B.key_of words.now) capacity seat.old }
+    requires seat { IsSeatOf words.now.table_id words.now.key capacity seat.old }
     requires tail { seat.old.me.0.producer.seen_tail ≡ admission.tail }
     ensures seat { IsSameSeat seat.old seat.new }
     ensures found { MatchResult result
@@ -31,15 +30,15 @@ pub(crate) fn find_room<B: Steps>(
         (λ fault. FindsShortage capacity admission.tail admission.end fault seat.old.me.0 seat.new.me.0) }
 {
     let Admission { tail, end, .. } = admission;
-    let cached = words.load_cache(seat, capacity);
+    let cached = load_cache(words, seat, capacity);
     if cached > tail {
         return Err(TryFault::Contended { tail, seen: cached });
     }
     if has_room(capacity, end, cached) {
         return Ok(());
     }
-    let head = words.load_head(seat, capacity);
-    words.store_cache(seat, capacity, head);
+    let head = load_head(words, seat, capacity);
+    store_cache(words, seat, capacity, head);
     if head > tail {
         return Err(TryFault::Contended { tail, seen: head });
     }

@@ -5,11 +5,12 @@ ghost use Rattle.ring_rings.specs.Joining.{LoadsPositions};
 ghost use Rattle.ring_rings.specs.Ring.{sent};
 ghost use Rattle.ring_rings.specs.Seats.{capacity_of, view_of, IsProducerOf, KeepsClaims};
 
+use crate::bodies::Bodies;
 use crate::ring::{Producer, Ring};
-use crate::steps::Steps;
+use ring_table::{draw_correlation_id, load_head, load_heartbeat, load_tail};
 use ring_words::Positions;
 
-impl<K, B: Steps> Ring<K, B> {
+impl<K, B: Bodies> Ring<K, B> {
     /// Draws the next correlation id: 0, 1, 2 and so on, modulo 2^64, each once over all producers.
     pub fn next_correlation_id(&self, producer: &mut Producer) -> u64
         requires { IsProducerOf self.now producer.old }
@@ -18,8 +19,7 @@ impl<K, B: Steps> Ring<K, B> {
         ensures draws { DrawsId (view_of producer.old) result (view_of producer.new) }
         ensures keeps { KeepsClaims self.now producer.old producer.new }
     {
-        self.table
-            .draw_correlation_id(&mut producer.seat, self.capacity)
+        draw_correlation_id(&self.table.shared, &mut producer.seat, self.capacity)
     }
 
     /// The consumer's heartbeat: 0, or a value that it stored, and none before one that this producer read.
@@ -30,7 +30,7 @@ impl<K, B: Steps> Ring<K, B> {
         ensures loads { LoadsHeartbeat (capacity_of self.now) (view_of producer.old) result (view_of producer.new) }
         ensures keeps { KeepsClaims self.now producer.old producer.new }
     {
-        self.table.load_heartbeat(&mut producer.seat, self.capacity)
+        load_heartbeat(&self.table.shared, &mut producer.seat, self.capacity)
     }
 
     /// The head, and then the tail, which is not below it. Both are loaded in this call.
@@ -43,9 +43,9 @@ impl<K, B: Steps> Ring<K, B> {
             result.head result.tail (view_of producer.new) }
         ensures keeps { KeepsClaims self.now producer.old producer.new }
     {
-        let (words, seat) = (&self.table, &mut producer.seat);
-        let head = words.load_head(seat, self.capacity);
-        let tail = words.load_tail(seat, self.capacity);
+        let (words, seat) = (&self.table.shared, &mut producer.seat);
+        let head = load_head(words, seat, self.capacity);
+        let tail = load_tail(words, seat, self.capacity);
         producer.own_tail = tail;
         Positions { head, tail }
     }

@@ -12,24 +12,26 @@ ghost use Rattle.ring_rings.specs.Bodies.{PutsBytes};
 ghost use Rattle.ring_rings.specs.Ring.{message, sent, HasMessage, SendsClaimed};
 ghost use Rattle.ring_rings.specs.Seats.{view_of, IsOpenClaimOf, IsProducerOf, KeepsOthers};
 
+use crate::bodies::Bodies;
 use crate::claim::Claim;
 use crate::ring::{Producer, Ring};
-use crate::steps::Steps;
 use ring_layout::ClaimState;
-use ring_table::{RingSeat, Wanted};
+use ring_table::{
+    Mode, RingSeat, SharedRing, Wanted, store_aborted_header, store_committed_header,
+};
 use ring_words::PutRange;
 
 /// Stores the header of an open claim, which is committed or aborted from then on.
 #[inline]
-fn store_settled_header<B: Steps>(
-    words: &B,
+fn store_settled_header<M: Mode>(
+    words: &SharedRing<M>,
     seat: &mut RingSeat,
     capacity: u32,
     place: u64,
     wanted: Wanted,
     state: ClaimState,
 )
-    requires seat { IsSeatOf (B.table_of words.now) (B.key_of words.now) capacity seat.old }
+    requires seat { IsSeatOf words.now.table_id words.now.key capacity seat.old }
     requires message { IsMessage capacity (blank wanted.type_id wanted.len) }
     requires claim { HasClaimAt seat.old.me.0 place (IsStagedOpen wanted.type_id wanted.len) }
     requires settled { state ≢ Open }
@@ -38,14 +40,14 @@ fn store_settled_header<B: Steps>(
     ensures rising { AreRising seat.old.me.0.producer.claims }
 {
     match state {
-        ClaimState::Aborted => words.store_aborted_header(seat, capacity, place, wanted),
+        ClaimState::Aborted => store_aborted_header(words, seat, capacity, place, wanted),
         ClaimState::Committed | ClaimState::Open => {
-            words.store_committed_header(seat, capacity, place, wanted);
+            store_committed_header(words, seat, capacity, place, wanted);
         }
     }
 }
 
-impl<K, B: Steps> Ring<K, B> {
+impl<K, B: Bodies> Ring<K, B> {
     /// Puts bytes into an open claim, from the byte `offset` of its body on. It refuses bytes that are not inside
     /// the body, and then nothing is changed.
     pub fn put(
@@ -72,7 +74,8 @@ impl<K, B: Steps> Ring<K, B> {
         if offset > len || bytes.len() > len - offset {
             return Err(PutRange);
         }
-        self.table.put_bytes(
+        B::put_bytes(
+            &self.table.shared,
             &mut producer.seat,
             self.capacity,
             claim.place(),
@@ -99,7 +102,7 @@ impl<K, B: Steps> Ring<K, B> {
             len: claim.len(),
         };
         store_settled_header(
-            &self.table,
+            &self.table.shared,
             &mut producer.seat,
             self.capacity,
             claim.place(),

@@ -4,15 +4,15 @@ ghost use Rattle.ring_rings.specs.Claiming.{AfterTries, Claims, Refuses, Writes}
 ghost use Rattle.ring_rings.specs.Ring.{message, sent, HasMessage};
 ghost use Rattle.ring_rings.specs.Seats.{capacity_of, view_of, IsNewClaimOf, IsProducerOf, KeepsClaims};
 
+use crate::bodies::Bodies;
 use crate::claim::Claim;
 use crate::fault::TryFault;
 use crate::ring::{ManyToOne, Producer, Ring};
-use crate::steps::Steps;
 use crossbeam_utils::Backoff;
 use ring_words::ClaimFault;
 use std::sync::Wait;
 
-impl<B: Steps> Ring<ManyToOne, B> {
+impl<B: Bodies> Ring<ManyToOne, B> {
     /// Claims as `claim_once` does, and tries again while that is `Contended`. So it may wait.
     pub fn claim<R: Wait>(
         &self,

@@ -10,7 +10,7 @@ use Rattle.ring_conductor.specs.Asking.{services_of}
 use Rattle.ring_conductor.specs.Finishing.{claims_in, joined_by, replies_of, services_in}
 use Rattle.ring_storm.specs.Storming.{HasFinished, IsBoardFor, IsReportBy, IsReportFrom, storm_counters}
 use Rattle.ring_rings.specs.declared.ring.Ring.{Ring}
-use Rattle.ring_rings.specs.declared.steps.Steps.{Ghosts}
+use Rattle.ring_rings.specs.declared.bodies.Bodies.{Ghosts}
 use Rattle.ring_board.specs.declared.board.Board.{Board}
 use Rattle.ring_counters.specs.declared.values.seats.CounterValues.{CounterValues}
 use Rattle.ring_rings.specs.Reading.{messages_of}

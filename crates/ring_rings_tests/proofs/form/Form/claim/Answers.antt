@@ -5,7 +5,7 @@ use Rattle.ring_rings_tests.proofs.form.Form.claim.Goals as goal
 pub invariant_of-self-in-Ok : goal.invariant_of-self-in-Ok
 invariant_of-self-in-Ok g c =
     let was = c.self-3.invariant in
-    let made = c.claim_once.ensures in (
+    let made = c.try_claim.ensures in (
       record {
         producer = made.producer;
         first = c.in-Ok.ensures.opened.is_open;

@@ -1,6 +1,5 @@
-use Rattle.std.proofs.Common.{ap}
-use Rattle.ring_table.specs.ProducerSteps.{Mine}
-use Rattle.ring_table.proofs.Calls.{same_seat}
+use Rattle.std.proofs.Common.{refl}
+use Rattle.ring_table.proofs.Calls.{reseated_as}
 use Rattle.ring_table.proofs.CarryLemmas.{lift_consumer_join}
 use Rattle.ring_table.proofs.SplitLemmas.{joins_consumer}
 use Rattle.ring_table.proofs.steps.seats.join_consumer.Goals as goal
@@ -19,8 +18,4 @@ join_seat-requires g c = (
 
 pub returns-clause-seat : goal.returns-clause-seat
 returns-clause-seat g c =
-    let h = c.join_seat.ensures in
-    same_seat h.0 h.1 (ap (λ (m : Mine). m.1) h.2) (record {
-      capacity = ap (λ (m : Mine). m.0.capacity) h.2;
-      out = ap (λ (m : Mine). m.0.out) h.2;
-    })
+    reseated_as (c.join_seat.ensures.0, c.join_seat.ensures.1, c.join_seat.ensures.2) refl record { capacity = refl; out = refl }

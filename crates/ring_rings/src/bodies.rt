@@ -1,0 +1,130 @@
+//! Where the bodies of a ring's messages lie, and the steps that differ by it. The others are functions of
+//! `ring_table`.
+ghost use Rattle.std.specs.Prelude.{◌≡◌, ℕ, ◌+◌, ◌/◌, ◌%◌, ◌≤◌, List, [], ◌∷◌, ◌++◌, length, vec_len, IfOk};
+ghost use Rattle.std.specs.Slots.{slots_len};
+ghost use Rattle.ring_layout.specs.History.{IsMessage};
+ghost use Rattle.ring_layout.specs.Layout.{ring_words};
+ghost use Rattle.ring_layout.specs.Places.{max_position};
+ghost use Rattle.ring_table.specs.declared.claim.PlacedMessage.{PlacedMessage};
+ghost use Rattle.ring_table.specs.declared.claim.StagedClaim.{StagedClaim};
+ghost use Rattle.ring_table.specs.Changes.{blank, recorded, with_header};
+ghost use Rattle.ring_table.specs.declared.view.Key.{Key as TheKey};
+ghost use Rattle.ring_table.specs.declared.view.View.{View};
+ghost use Rattle.ring_table.specs.Closed.{IsClosed, IsLeft, LeavesRest};
+ghost use Rattle.ring_table.specs.ProducerSteps.{with_changed, HasClaimAt, NeedsHeader};
+ghost use Rattle.ring_table.specs.Rule.{IsLawful};
+ghost use Rattle.ring_table.specs.Seats.{IsSameSeat, IsSeatOf};
+ghost use Rattle.ring_table.specs.SlotSteps.{IsOpenOf};
+ghost use Rattle.ring_table.specs.Staged.{AreRising};
+ghost use Rattle.ring_table.specs.Views.{cleared_to, first_view, with_claims, with_consumer};
+ghost use Rattle.ring_rings.specs.Bodies.{HasPaddedLast, IsPaddedLast, PutsBytes};
+ghost use Rattle.ring_rings.specs.ReadingSteps.{CopiesBody, HasBodyAt, HasGotLast, HasLastAt, IsInBlock, IsReaderSeatOf, OnlyLoads};
+
+use atomic_table::Closed;
+use ring_table::{Key, Mode, RingSeat, RingTable, SharedRing, Wanted};
+use std::alloc::{AllocError, Global};
+
+/// Where the bodies of messages lie: in words (`InWords`) or in slots (`InSlots`).
+pub trait Bodies: Mode {
+    /// The number of slots of a table of this many bytes.
+    ghost slots_for: { ℕ → ℕ };
+
+    /// A fresh ring, and its first seat, which is the only producer and the consumer. The only error is that there was
+    /// no memory.
+    fn open(alloc: Global, key: Key) -> Result<(RingTable<Self>, RingSeat), AllocError>
+        requires lawful { IsLawful key.capacity key.start }
+        requires limit { key.start ≤ max_position }
+        ensures words { IfOk result (λ t. (t.0.shared.table_id.words ≡ ring_words key.capacity)
+            × (t.0.shared.table_id.slots ≡ slots_for key.capacity)) }
+        ensures key { IfOk result (λ t. t.0.shared.key ≡ key) }
+        ensures seat { IfOk result (λ t. t.1.table_id ≡ t.0.shared.table_id) }
+        ensures view { IfOk result (λ t. t.1.me ≡ (first_view key, [])) };
+
+    /// Stores the header of a claim of `len` bytes, its length negated. The claim is open from then on, with zeros for its
+    /// bytes.
+    fn store_claimed_header(
+        words: &SharedRing<Self>,
+        producer: &mut RingSeat,
+        capacity: u32,
+        place: u64,
+        wanted: Wanted,
+    )
+        requires seat { IsSeatOf words.now.table_id words.now.key capacity producer.old }
+        requires message { IsMessage capacity (blank wanted.type_id wanted.len) }
+        requires claim { HasClaimAt producer.old.me.0 place (NeedsHeader wanted.len) }
+        ensures seat { IsSameSeat producer.old producer.new }
+        ensures view { producer.new.me.0 ≡ with_changed place (with_header wanted.type_id wanted.len) producer.old.me.0 }
+        ensures rising { AreRising producer.old.me.0.producer.claims };
+
+    /// Stores the header and the whole body of the newest claim, and commits it.
+    fn store_record(
+        words: &SharedRing<Self>,
+        seat: &mut RingSeat,
+        capacity: u32,
+        place: u64,
+        wanted: Wanted,
+        body: &[u8],
+    )
+        requires seat { IsSeatOf words.now.table_id words.now.key capacity seat.old }
+        requires message { IsMessage capacity (blank wanted.type_id wanted.len) }
+        requires len { length body.now ≡ wanted.len }
+        requires inside { (place ≤ max_position) × (place % capacity + 8 + length body.now ≤ capacity) }
+        requires last { HasPaddedLast place wanted.len seat.old.me.0 }
+        ensures seat { IsSameSeat seat.old seat.new }
+        ensures stored { (cs : List StagedClaim) (c : StagedClaim)
+            → IsPaddedLast place wanted.len cs c seat.old.me.0
+            → seat.new.me.0 ≡ with_claims (cs ++ recorded wanted.type_id body.now c ∷ []) seat.old.me.0 };
+
+    /// Puts bytes into an open claim of `len` bytes, from the byte `offset` of its body on.
+    fn put_bytes(
+        words: &SharedRing<Self>,
+        seat: &mut RingSeat,
+        capacity: u32,
+        place: u64,
+        len: usize,
+        offset: usize,
+        bytes: &[u8],
+    )
+        requires seat { IsSeatOf words.now.table_id words.now.key capacity seat.old }
+        requires place { place ≤ max_position }
+        requires claim { HasClaimAt seat.old.me.0 place (IsOpenOf len) }
+        requires short { (offset + length bytes.now ≤ len) × (len ≤ capacity) }
+        ensures seat { IsSameSeat seat.old seat.new }
+        ensures put { PutsBytes place offset bytes.now seat.old.me.0 seat.new.me.0 };
+
+    /// Copies the body of the message that the read got last to the front of the scratch.
+    fn load_body(
+        words: &SharedRing<Self>,
+        seat: &mut RingSeat,
+        capacity: u32,
+        place: u64,
+        len: usize,
+        scratch: &mut [u8],
+    )
+        requires seat { IsReaderSeatOf words.now.table_id words.now.key capacity seat.old }
+        requires body { HasBodyAt capacity seat.old.me.0.consumer.cleared place len }
+        requires last { HasLastAt place len seat.old.me.0 }
+        requires room { length scratch.old ≡ capacity / 8 }
+        ensures seat { IsSameSeat seat.old seat.new }
+        ensures rest { OnlyLoads seat.old.me.0 seat.new.me.0 }
+        ensures copies { (m : PlacedMessage) → HasGotLast m seat.old.me.0 → m.place ≡ place
+            → length m.message.body ≡ len → CopiesBody capacity m seat.old.me.0 scratch.new seat.new.me.0 };
+
+    /// Clears the words that the read has passed, from the head up to the position `to`.
+    fn clear_up(words: &SharedRing<Self>, seat: &mut RingSeat, capacity: u32, head: u64, to: u64)
+        requires seat { IsReaderSeatOf words.now.table_id words.now.key capacity seat.old }
+        requires cleared { seat.old.me.0.consumer.cleared ≡ head }
+        requires passed { (head ≤ to) × (to ≤ seat.old.me.0.consumer.scan) }
+        requires whole { (head % 8 ≡ 0) × (to % 8 ≡ 0) }
+        requires inside { IsInBlock capacity head to }
+        ensures seat { IsSameSeat seat.old seat.new }
+        ensures view { seat.new.me.0 ≡ with_consumer (cleared_to to seat.old.me.0.consumer) seat.old.me.0 };
+
+    /// The words of a ring in its format, in `room`, from what its table left.
+    fn show(closed: Closed<u64, Global>, room: Vec<u64>) -> Vec<u64>
+        requires left { (k : TheKey) × (v : View) × IsLeft Self.bodies k v closed
+            × (slots_len closed.slots ≡ slots_for k.capacity) }
+        requires room { vec_len room ≡ slots_len closed.words }
+        ensures { (k : TheKey) (v : View) → IsLeft Self.bodies k v closed
+            → IsClosed k.capacity k.start result.items v × LeavesRest k.capacity result.items v };
+}
