@@ -4,8 +4,8 @@ mod CountingLemmas
 mod EndLemmas
 mod EndingLemmas
 pub mod HandleValues
-mod PeekLemmas
 mod ReadLemmas
 mod ShownLemmas
 mod SlotLemmas
+mod TakeLemmas
 pub mod Values

@@ -1,5 +1,5 @@
 -- What a consumer's calls do: r is the consumer before, s after, and the code is what is returned.
-use Rattle.std.specs.Prelude.{◌≡◌, ◌⊎◌, ℕ, ◌<◌, ◌≤◌, ◌%◌, ℤ, pos, List, [], ◌∷◌, ◌++◌, length}
+use Rattle.std.specs.Prelude.{◌≡◌, ◌⊎◌, ℕ, ◌<◌, ◌≤◌, ◌%◌, ℤ, pos, List, [], ◌∷◌, ◌++◌, length, Bool, true, false}
 use Rattle.ring_layout.specs.declared.message.Message.{Message}
 use Rattle.ring_layout.specs.History.{overwritten}
 use Rattle.ring_words.specs.declared.read.end.Stop.{Stop}
@@ -83,17 +83,34 @@ pub record LeavesAtHead (v w : View) (before after : Out) : Type 0 where
   pub short : length before.buffer < length message.body
   pub outs : after ≡ out message.type_id (length message.body) before.buffer
 
-abbrev pub TookOne : (View → View → Type 0) → View → View → Out → Out → ℤ → Type 0
-TookOne Why v w before after code =
-    ReadCode (Took v w before after) (TookNone Why v w before after) (LeavesAtHead v w before after) code
+-- the message at the new head is at the front of the buffer, and stays
+pub record Shows (v w : View) (before after : Out) : Type 0 where
+  pub taken : w.consumer.taken ≡ v.consumer.taken
+  pub message : Message
+  pub next : IsNext v w message
+  pub room : length message.body ≤ length before.buffer
+  pub outs : after ≡ out message.type_id (length message.body) (overwritten 0 message.body before.buffer)
 
--- a message was read, or not
-abbrev pub ReadsOne : (View → View → Type 0) → Out → Out → Reading → Reading → ℤ → Type 0
-ReadsOne Why before after r s code = (s ≡ having_read s.view r) × ReadsOn r.view s.view
-    × TookOne Why r.view s.view before after code
+-- a message was copied, and taken, or stays
+abbrev pub Copied : Bool → View → View → Out → Out → Type 0
+Copied true = Took
+Copied false = Shows
 
+abbrev pub CopiedOne : Bool → (View → View → Type 0) → View → View → Out → Out → ℤ → Type 0
+CopiedOne takes Why v w before after code =
+    ReadCode (Copied takes v w before after) (TookNone Why v w before after) (LeavesAtHead v w before after) code
+
+-- a message was copied, or not
+abbrev pub CopiesOne : Bool → (View → View → Type 0) → Out → Out → Reading → Reading → ℤ → Type 0
+CopiesOne takes Why before after r s code = (s ≡ having_read s.view r) × ReadsOn r.view s.view
+    × CopiedOne takes Why r.view s.view before after code
+
+-- a message was read, or seen
 abbrev pub ReadOne : Out → Out → Reading → Reading → ℤ → Type 0
-ReadOne = ReadsOne (HadNone 1)
+ReadOne = CopiesOne true (HadNone 1)
+
+abbrev pub PeekOne : Out → Out → Reading → Reading → ℤ → Type 0
+PeekOne = CopiesOne false (HadNone 1)
 
 -- the heartbeat was stored
 abbrev pub Beat : ℕ → Reading → Reading → ℤ → Type 0

@@ -12,10 +12,10 @@ pub mod Kinds
 pub mod Lending
 pub mod Opening
 pub mod Owned
-pub mod Peeking
 pub mod Producing
 pub mod Raw
 pub mod Returning
 pub mod Seating
 pub mod Serving
 pub mod Side
+pub mod Taking

@@ -1,7 +1,7 @@
 //! A consumer in a handle.
 ghost use Rattle.std.specs.Prelude.{◌≡◌, pos};
 ghost use Rattle.ring_rings.specs.Seats.{consumer_view, IsConsumerOf};
-ghost use Rattle.ring_handles.specs.Consuming.{out, Beat, RanOut, ReadOne, ReadsOn, ReadsOne, TookOne};
+ghost use Rattle.ring_handles.specs.Consuming.{out, Beat, CopiedOne, CopiesOne, HadNone, PeekOne, RanOut, ReadOne, ReadsOn};
 
 use crate::code::{DONE, NO_MESSAGE};
 use crate::copying::Copying;
@@ -41,24 +41,26 @@ impl Model for ConsumerSide {
     ghost invariant = { λ a. IsConsumerIn a.ring a.consumer × IsLastIn a.ring a.last };
 }
 
-/// Reads up to one message, as far as the end of the ring's buffer, and reports why it stopped.
-fn take_one<K>(ring: &PlainRing<K>, consumer: &mut Consumer, copying: &mut Copying<'_>) -> Stop
+/// Copies up to one message, as far as the end of the ring's buffer, and reports why it stopped.
+fn copy_one<K>(ring: &PlainRing<K>, consumer: &mut Consumer, copying: &mut Copying<'_>) -> Stop
     requires consumer { IsConsumerOf ring.now consumer.old }
     requires waits { copying.old.code ≡ pos 105 }
     ensures consumer { IsConsumerOf ring.now consumer.new }
     ensures borrow { copying.new.buffer.ghost_name ≡ copying.old.buffer.ghost_name }
     ensures reads { ReadsOn (consumer_view consumer.old) (consumer_view consumer.new) }
-    ensures took { TookOne (RanOut 1 result) (consumer_view consumer.old) (consumer_view consumer.new)
+    ensures copied { CopiedOne copying.old.takes (RanOut 1 result)
+        (consumer_view consumer.old) (consumer_view consumer.new)
         (out copying.old.type_id copying.old.len copying.old.buffer.now)
         (out copying.new.type_id copying.new.len copying.new.buffer.now) copying.new.code }
 {
     ring.controlled_read(consumer, 1, copying).stopped
 }
 
-/// Reads up to one message into a buffer, and reports its type id and length, and why it stopped.
-fn read_into<K>(
+/// Copies up to one message into a buffer, and reports its type id and length, and why it stopped.
+fn copy_into<K>(
     ring: &PlainRing<K>,
     consumer: &mut Consumer,
+    takes: bool,
     type_id: &mut i32,
     len: &mut usize,
     buffer: &mut [u8],
@@ -66,7 +68,7 @@ fn read_into<K>(
     requires { IsConsumerOf ring.now consumer.old }
     ensures consumer { IsConsumerOf ring.now consumer.new }
     ensures reads { ReadsOn (consumer_view consumer.old) (consumer_view consumer.new) }
-    ensures took { TookOne (RanOut 1 result.1) (consumer_view consumer.old) (consumer_view consumer.new)
+    ensures copied { CopiedOne takes (RanOut 1 result.1) (consumer_view consumer.old) (consumer_view consumer.new)
         (out type_id.old len.old buffer.old) (out type_id.new len.new buffer.new) result.0 }
 {
     let mut copying = Copying {
@@ -74,8 +76,9 @@ fn read_into<K>(
         type_id: *type_id,
         len: *len,
         code: NO_MESSAGE,
+        takes,
     };
-    let stopped = take_one(ring, consumer, &mut copying);
+    let stopped = copy_one(ring, consumer, &mut copying);
     *type_id = copying.type_id;
     *len = copying.len;
     (copying.code, stopped)
@@ -89,12 +92,36 @@ impl ConsumerSide {
         on_ring!(self.ring, ring => ring.capacity())
     }
 
-    /// Reads up to one message, as far as the end of the ring's buffer.
-    fn try_read(&mut self, type_id: &mut i32, len: &mut usize, buffer: &mut [u8]) -> (i32, Stop)
-        ensures { ReadsOne (RanOut 1 result.1) (out type_id.old len.old buffer.old)
+    /// Copies up to one message, as far as the end of the ring's buffer.
+    fn try_copy(
+        &mut self,
+        takes: bool,
+        type_id: &mut i32,
+        len: &mut usize,
+        buffer: &mut [u8],
+    ) -> (i32, Stop)
+        ensures { CopiesOne takes (RanOut 1 result.1) (out type_id.old len.old buffer.old)
             (out type_id.new len.new buffer.new) self.old self.new result.0 }
     {
-        on_ring!(self.ring, ring => read_into(ring, &mut self.consumer, type_id, len, buffer))
+        on_ring!(self.ring, ring => copy_into(ring, &mut self.consumer, takes, type_id, len, buffer))
+    }
+
+    /// Copies the next message into a buffer, and reports its type id and length. It is taken, or stays in the ring.
+    fn copy_next(
+        &mut self,
+        takes: bool,
+        type_id: &mut i32,
+        len: &mut usize,
+        buffer: &mut [u8],
+    ) -> i32
+        ensures { CopiesOne takes (HadNone 1) (out type_id.old len.old buffer.old)
+            (out type_id.new len.new buffer.new) self.old self.new result }
+    {
+        let (code, stopped) = self.try_copy(takes, type_id, len, buffer);
+        if code == NO_MESSAGE && stopped == Stop::Block {
+            return self.try_copy(takes, type_id, len, buffer).0;
+        }
+        code
     }
 
     /// Reads the next message into a buffer, and reports its type id and length.
@@ -102,11 +129,15 @@ impl ConsumerSide {
         ensures { ReadOne (out type_id.old len.old buffer.old)
             (out type_id.new len.new buffer.new) self.old self.new result }
     {
-        let (code, stopped) = self.try_read(type_id, len, buffer);
-        if code == NO_MESSAGE && stopped == Stop::Block {
-            return self.try_read(type_id, len, buffer).0;
-        }
-        code
+        self.copy_next(true, type_id, len, buffer)
+    }
+
+    /// Copies the next message into a buffer, and reports its type id and length. It stays in the ring.
+    pub fn peek(&mut self, type_id: &mut i32, len: &mut usize, buffer: &mut [u8]) -> i32
+        ensures { PeekOne (out type_id.old len.old buffer.old)
+            (out type_id.new len.new buffer.new) self.old self.new result }
+    {
+        self.copy_next(false, type_id, len, buffer)
     }
 
     /// Stores the heartbeat.

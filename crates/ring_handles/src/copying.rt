@@ -6,13 +6,15 @@ ghost use Rattle.ring_handles.specs.Copying.{Copies};
 use crate::code::{DONE, SHORT_BUFFER};
 use ring_rings::{Action, Handler};
 
-/// Takes one message, if the buffer has room for it.
+/// Copies one message, if the buffer has room for it.
 #[derive(Drop)]
 pub(crate) struct Copying<'a> {
     pub(crate) buffer: &'a mut [u8],
     pub(crate) type_id: i32,
     pub(crate) len: usize,
     pub(crate) code: i32,
+    /// Whether a message that was copied is taken, or stays in the ring.
+    pub(crate) takes: bool,
 }
 
 /// Copies bytes into a buffer, from its byte `at` on.
@@ -35,6 +37,10 @@ impl Handler for Copying<'_> {
         }
         copy_at(self.buffer, 0, body);
         self.code = DONE;
-        Action::Break
+        if self.takes {
+            Action::Break
+        } else {
+            Action::Abort
+        }
     }
 }

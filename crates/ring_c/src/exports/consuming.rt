@@ -1,8 +1,8 @@
 //! What a consumer's handle does.
 ghost use Rattle.ring_handles.specs.Batch.{batch, ReadBatch};
-ghost use Rattle.ring_handles.specs.Consuming.{out, Beat, ReadOne};
+ghost use Rattle.ring_handles.specs.Consuming.{out, Beat, PeekOne, ReadOne};
 ghost use Rattle.ring_handles.specs.Kinds.{a_consumer};
-ghost use Rattle.ring_handles.specs.Peeking.{PeekOne, TakeOne};
+ghost use Rattle.ring_handles.specs.Taking.{TakeOne};
 ghost use Rattle.ring_c.specs.Told.{Uses, Yields};
 
 use crate::work_on::work_on;

@@ -1,6 +1,6 @@
 use Rattle.std.proofs.Common.{rules, ◌≡◌, sym, subst, ℤ, w32, to_z, of_z}
-use Rattle.ring_handles.specs.Peeking.{TakeOne}
-use Rattle.ring_handles.proofs.PeekLemmas.{taken_twice}
+use Rattle.ring_handles.specs.Taking.{TakeOne}
+use Rattle.ring_handles.proofs.TakeLemmas.{taken_twice}
 use Rattle.ring_handles.proofs.consumer.ConsumerSide.take.Goals as goal
 
 pub returns-then-eq : goal.returns-then-eq

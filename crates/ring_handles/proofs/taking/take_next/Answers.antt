@@ -1,6 +1,6 @@
 use Rattle.ring_handles.proofs.EndLemmas.{reads_on}
-use Rattle.ring_handles.proofs.PeekLemmas.{took_next}
-use Rattle.ring_handles.proofs.peeking.take_next.Goals as goal
+use Rattle.ring_handles.proofs.TakeLemmas.{took_next}
+use Rattle.ring_handles.proofs.taking.take_next.Goals as goal
 
 pub returns-clause-reads : goal.returns-clause-reads
 returns-clause-reads g c = reads_on _ _ _ _ _ _ _ c.controlled_read.ensures.controls

@@ -1,8 +1,8 @@
 use Rattle.std.proofs.Common.{rules, ◌≡◌, sym, subst, ℤ, w32, to_z, of_z}
 use Rattle.ring_rings.specs.Seats.{consumer_view}
 use Rattle.ring_handles.specs.Consuming.{RanOut}
-use Rattle.ring_handles.specs.Peeking.{TakenOne}
-use Rattle.ring_handles.proofs.peeking.take_from.Goals as goal
+use Rattle.ring_handles.specs.Taking.{TakenOne}
+use Rattle.ring_handles.proofs.taking.take_from.Goals as goal
 
 pub returns-clause-taken : goal.returns-clause-taken
 returns-clause-taken g c =
