@@ -97,7 +97,7 @@ def calls_in(path, names, whole):
     owner, shown_as, is_trait = None, None, False
     lines = lines_of(path)
     for at, line in enumerate(lines):
-        block = re.match(r"^(?:pub )?(impl|trait)(?:<.*?>)? (?:(\w[\w:]*)(?:<.*?>)? for )?(\w+)((?:<[^']*?>)?)", line)
+        block = re.match(r"^(?:pub )?(impl|trait)(?:<.*?>)? (?:(\w[\w:]*)(?:<.*?>)? for )?(\w+)((?:<[^']*>)?)", line)
         if block:
             is_trait = block.group(1) == "trait" and line.startswith("pub ")
             owner = None if block.group(2) else block.group(3)

@@ -63,7 +63,7 @@ fn ask<K: Kind, B: Bodies>(
     ring: &Ring<K, B>,
     board: &Board,
     client: &mut Client,
-    command: Command<'_>,
+    command: Command<&[u8]>,
 ) -> Result<Reply, Fault>
     requires { IsSeatedAt K.many ring.now board.now client.old }
     ensures { IsSeatedAt K.many ring.now board.now client.new }
@@ -81,7 +81,7 @@ fn allocate<K: Kind, B: Bodies>(
     requires { IsSeatedAt K.many ring.now board.now client.old }
     ensures { IsSeatedAt K.many ring.now board.now client.new }
 {
-    let command = Allocate {
+    let command: Command<&[u8]> = Allocate {
         type_id: 1,
         key: &[],
         label: &[],

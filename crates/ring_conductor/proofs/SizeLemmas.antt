@@ -12,7 +12,9 @@ use Rattle.ring_counters.specs.declared.fault.IdFault.{IdFault}
 use Rattle.ring_counters.specs.Counter.{Counter, Reclaimed, unused_counter}
 use Rattle.ring_counters.specs.Registry.{Registry, allocation_of, count_of, counter_at, fresh_registry, id_refusal_of, ids_of, is_allocated, live_ids, live_of, new_counter, owned_ids, reclaimed_in, status_at, with_value}
 use Rattle.ring_protocol.specs.declared.fault.Bad.{Bad}
-use Rattle.ring_protocol.specs.Command.{Instruction, Allocate, Free, Set, AllocateOwned, Close}
+use Rattle.ring_protocol.specs.declared.command.Request.{Request}
+use Rattle.ring_protocol.specs.declared.command.Request.TheVariants.{Allocate, Free, Set, AllocateOwned, Close}
+use Rattle.ring_protocol.specs.Command.{Instruction}
 use Rattle.ring_protocol.specs.Reading.{command_of}
 use Rattle.ring_conductor.specs.Applied.{Outcome, allocated, done_unless, obeyed, obeyed_if_read}
 use Rattle.ring_conductor.specs.Fold.{Ledger, fold_of, served}
@@ -66,19 +68,20 @@ either : (b : Bool) (r : Registry) (x y : Outcome) → KeepsSize r x.registry �
 either true r x y first second = first
 either false r x y first second = second
 
-obeys : (now : ℕ) (r : Registry) (i : Instruction) → KeepsSize r (obeyed now r i).registry
-obeys now r (Allocate correlation type_id key label) =
+obeys : (now : ℕ) (r : Registry) (correlation : ℕ) (asked : Request (List ℕ))
+    → KeepsSize r (obeyed now r correlation asked).registry
+obeys now r correlation (Allocate type_id key label) =
     allocates r correlation (new_counter type_id key label correlation 0) (allocation_of r now key label)
-obeys now r (AllocateOwned correlation type_id owner key label) =
+obeys now r correlation (AllocateOwned type_id owner key label) =
     allocates r correlation (new_counter type_id key label correlation owner) (allocation_of r now key label)
-obeys now r (Free correlation id) =
+obeys now r correlation (Free id) =
     does (id_refusal_of r id) r correlation (reclaimed_in r now id) [] (reclaims r now id)
-obeys now r (Set correlation id value) =
+obeys now r correlation (Set id value) =
     does (id_refusal_of r id) r correlation (with_value r id value) _ (sets r id value)
-obeys now r (Close correlation owner) = either (owner == 0) r _ _ (same r) (all_reclaimed now (owned_ids r owner) r)
+obeys now r correlation (Close owner) = either (owner == 0) r _ _ (same r) (all_reclaimed now (owned_ids r owner) r)
 
 pub reads : (now : ℕ) (r : Registry) (result : Result Instruction Bad) → KeepsSize r (obeyed_if_read now r result).registry
-reads now r (Ok command) = obeys now r command
+reads now r (Ok command) = obeys now r command.correlation command.request
 reads now r (Err bad) = same r
 
 -- a fold keeps both

@@ -9,12 +9,11 @@ use Rattle.ring_table.specs.Services.{AreRisingBelow, once_below, times, times_d
 use Rattle.ring_rings.specs.Claiming.{Writes, record_behind}
 use Rattle.ring_rings.specs.Closing.{IsRefusedAs}
 use Rattle.ring_rings.specs.Reading.{messages_of}
-use Rattle.ring_protocol.specs.Command.{spelling_of, type_id_of}
-use Rattle.ring_conductor.specs.declared.client.Request.{Request}
+use Rattle.ring_protocol.specs.Command.{LentRequest as Request, asked, spelling_of, type_id_of}
 use Rattle.ring_conductor.specs.declared.finishing.fault.FinishFault.{FinishFault}
 use Rattle.ring_conductor.specs.Finishing.{finish_refusal_of}
 use Rattle.ring_conductor.specs.Account.{Account, account_of}
-use Rattle.ring_conductor.specs.Asking.{asked, drawn_in, Sends}
+use Rattle.ring_conductor.specs.Asking.{drawn_in, Sends}
 use Rattle.ring_conductor.specs.Fold.{Ledger, at_moment, fold_of}
 use Rattle.ring_conductor.specs.Whole.{committed, settled_message}
 use Rattle.ring_conductor.specs.Service.{account_in}

@@ -10,7 +10,9 @@ use Rattle.ring_counters.specs.Views.{value_write}
 use Rattle.ring_protocol.specs.declared.fault.Bad.{Bad}
 use Rattle.ring_protocol.specs.declared.reply.Reply.{Reply}
 use Rattle.ring_protocol.specs.declared.reply.Reply.TheVariants.{Allocated, Done, Refused, Closed}
-use Rattle.ring_protocol.specs.Command.{Instruction, Allocate, Free, Set, AllocateOwned, Close}
+use Rattle.ring_protocol.specs.declared.command.Request.{Request}
+use Rattle.ring_protocol.specs.declared.command.Request.TheVariants.{Allocate, Free, Set, AllocateOwned, Close}
+use Rattle.ring_protocol.specs.Command.{Instruction}
 use Rattle.ring_protocol.specs.Reading.{command_of}
 use Rattle.ring_counters.specs.Codes.{allocate_code, id_code}
 use Rattle.ring_protocol.specs.Codes.{bad_code, bad_correlation, bad_owner_code}
@@ -36,16 +38,16 @@ abbrev pub done_unless : Option IdFault → Registry → ℕ → Registry → Li
 done_unless None r correlation new writes = record { registry = new; writes = writes; reply = Done correlation }
 done_unless (Some fault) r correlation new writes = refused r correlation (id_code fault)
 
--- what a command does at a moment. The registration id of a counter is the correlation id of its command
-abbrev pub obeyed : ℕ → Registry → Instruction → Outcome
-obeyed now r (Allocate correlation type_id key label) =
+-- what a request does at a moment. The registration id of a counter is the correlation id of its command
+abbrev pub obeyed : ℕ → Registry → ℕ → Request (List ℕ) → Outcome
+obeyed now r correlation (Allocate type_id key label) =
     allocated r correlation (new_counter type_id key label correlation 0) (allocation_of r now key label)
-obeyed now r (AllocateOwned correlation type_id owner key label) =
+obeyed now r correlation (AllocateOwned type_id owner key label) =
     allocated r correlation (new_counter type_id key label correlation owner) (allocation_of r now key label)
-obeyed now r (Free correlation id) = done_unless (id_refusal_of r id) r correlation (reclaimed_in r now id) []
-obeyed now r (Set correlation id value) =
+obeyed now r correlation (Free id) = done_unless (id_refusal_of r id) r correlation (reclaimed_in r now id) []
+obeyed now r correlation (Set id value) =
     done_unless (id_refusal_of r id) r correlation (with_value r id value) (value_write id value ∷ [])
-obeyed now r (Close correlation owner) =
+obeyed now r correlation (Close owner) =
     if owner == 0 then refused r correlation bad_owner_code
     else record {
       registry = closed_in r now owner;
@@ -56,7 +58,7 @@ obeyed now r (Close correlation owner) =
 
 -- what was read is obeyed; what can't be read is refused
 abbrev pub obeyed_if_read : ℕ → Registry → Result Instruction Bad → Outcome
-obeyed_if_read now r (Ok command) = obeyed now r command
+obeyed_if_read now r (Ok command) = obeyed now r command.correlation command.request
 obeyed_if_read now r (Err bad) = refused r (bad_correlation bad) (bad_code bad)
 
 -- what a message does at a moment

@@ -17,14 +17,12 @@ use Rattle.ring_board.specs.Receiving.{GotCopy, GotLapped, GotNothing}
 use Rattle.ring_board.specs.Seats.{receiver_seat, IsReceiverOf}
 use Rattle.ring_board.specs.Views.{Sat}
 use Rattle.ring_protocol.specs.declared.reply.Reply.{Reply}
-use Rattle.ring_conductor.specs.declared.client.Request.{Request}
-use Rattle.ring_conductor.specs.declared.client.Request.TheVariants as of
 use Rattle.ring_conductor.specs.declared.client.Client.{Client}
 use Rattle.ring_conductor.specs.declared.client.Polled.{Polled}
 use Rattle.ring_conductor.specs.declared.client.Polled.TheVariants.{Answered, Another, NoReply, Nothing, Lapped}
 use Rattle.ring_conductor.specs.declared.client.SendFault.{SendFault}
 use Rattle.ring_conductor.specs.declared.client.SendFault.TheVariants.{TooLong, Refused}
-use Rattle.ring_protocol.specs.Command.{Instruction, Allocate, Free, Set, AllocateOwned, Close, HasTextLengths, spelling_of, type_id_of}
+use Rattle.ring_protocol.specs.Command.{LentRequest as Request, HasTextLengths, asked, content_of_request, spelling_of, type_id_of}
 use Rattle.ring_protocol.specs.Reply as reply
 
 abbrev pub producer_of : Client → Producer
@@ -61,17 +59,9 @@ abbrev pub IsSeatedAt : {K B : Type 0} {G : Ghosts B} → Bool → Ring K B G �
 IsSeatedAt many ring board c =
     IsProducerOf ring (producer_of c) × MayClaim many (producer_of c) × IsReceiverOf board (receiver_of c)
 
--- the command that asks for this, with a correlation id
-abbrev pub asked : Request → ℕ → Instruction
-asked (of.Allocate type_id key label) correlation = Allocate correlation type_id key.now label.now
-asked (of.Free id) correlation = Free correlation id
-asked (of.Set id value) correlation = Set correlation id value
-asked (of.AllocateOwned type_id owner key label) correlation = AllocateOwned correlation type_id owner key.now label.now
-asked (of.Close owner) correlation = Close correlation owner
-
 -- the command takes at most 520 bytes, whatever its correlation id
 pub record IsSendable (r : Request) : Type 0 where
-  pub texts : HasTextLengths (asked r 0)
+  pub texts : HasTextLengths (content_of_request r)
   pub room : length (spelling_of (asked r 0)) ≤ 520
 
 -- Sending ----------------------------------------------------------------------

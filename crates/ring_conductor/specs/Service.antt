@@ -6,15 +6,14 @@ use Rattle.ring_rings.specs.Ring.{message, received, sent}
 use Rattle.ring_board.specs.declared.board.CopyReceiver.{CopyReceiver}
 use Rattle.ring_board.specs.Board.{copied, lapped_count_of, new_copy, LapsOnce}
 use Rattle.ring_protocol.specs.declared.reply.Reply.{Reply}
-use Rattle.ring_protocol.specs.Command.{Instruction, spelling_of, type_id_of}
+use Rattle.ring_protocol.specs.Command.{Instruction, LentRequest as Request, asked, spelling_of, type_id_of}
 use Rattle.ring_protocol.specs.Reply.{correlation_id_of, Spells}
 use Rattle.ring_conductor.specs.declared.client.Client.{Client}
 use Rattle.ring_conductor.specs.declared.client.Polled.{Polled}
 use Rattle.ring_conductor.specs.declared.client.Polled.TheVariants.{Answered, Another, NoReply, Nothing, Lapped}
-use Rattle.ring_conductor.specs.declared.client.Request.{Request}
 use Rattle.ring_conductor.specs.declared.conductor.Conductor.{Conductor}
 use Rattle.ring_conductor.specs.Account.{Account, account_of, messages_in, reply_message}
-use Rattle.ring_conductor.specs.Asking.{asked, producer_of, receiver_of}
+use Rattle.ring_conductor.specs.Asking.{producer_of, receiver_of}
 use Rattle.ring_conductor.specs.Conducting.{consumer_of, ledger_of}
 use Rattle.ring_conductor.specs.Fold.{Ledger, at_moment}
 

@@ -17,7 +17,8 @@ use Rattle.ring_board.specs.Seats.{receiver_seat, receiver_view}
 use Rattle.ring_board.specs.Views.{as_joined, fewer, newcomer}
 use Rattle.ring_counters.specs.Manager.{registry_of, writes_of}
 use Rattle.ring_counters.specs.Registry.{fresh_registry}
-use Rattle.ring_protocol.specs.Command.{Instruction, Allocate, Set, spelling_of, type_id_of}
+use Rattle.ring_protocol.specs.declared.command.Request.TheVariants.{Allocate, Set}
+use Rattle.ring_protocol.specs.Command.{Instruction, spelling_of, type_id_of, with_id}
 use Rattle.ring_conductor.specs.declared.conductor.Work.{Work}
 use Rattle.ring_conductor.specs.declared.whole.Parties.{Parties}
 use Rattle.ring_conductor.specs.declared.whole.WholeRun.{WholeRun}
@@ -38,10 +39,10 @@ committed c = (record { type_id = type_id_of c; body = spelling_of c }, Stored C
 -- The two commands of the run, with their correlation ids. The first asks for a counter of type 1 with an empty key and
 -- the label `requests`, and the second sets the counter 0 to 7
 abbrev pub first_command : Instruction
-first_command = Allocate 0 (pos 1) [] (codes "requests")
+first_command = with_id 0 (Allocate (pos 1) [] (codes "requests"))
 
 abbrev pub second_command : Instruction
-second_command = Set 1 0 (pos 7)
+second_command = with_id 1 (Set 0 (pos 7))
 
 -- the ledger of the new conductor, with the client's receiver out
 abbrev pub opening_ledger : Ledger

@@ -1,13 +1,12 @@
 //! The client's side: commands go out, and replies come in.
 ghost use Rattle.ring_board.specs.Seats.{IsReceiverOf};
-ghost use Rattle.ring_protocol.specs.Command.{content_of};
 ghost use Rattle.ring_rings.specs.Claiming.{RefusesTry, Writes};
 ghost use Rattle.ring_rings.specs.Seats.{capacity_of, IsProducerOf, MayClaim, OpensNone};
 ghost use Rattle.ring_table.specs.ServiceSteps.{DrawsId, LoadsHeartbeat};
 ghost use Rattle.std.specs.Prelude.{◌≡◌, length, IfErr, IfOk, OnErr, OnOk};
 
 use ring_board::{Board, CopyReceiver, Lapped};
-use ring_protocol::{Command, LONGEST_COMMAND, Reply, decode_reply, encode_command};
+use ring_protocol::{LONGEST_COMMAND, Reply, Request, decode_reply, encode_request};
 use ring_rings::{Bodies, Kind, Producer, Ring, TryFault};
 use thiserror::Error;
 
@@ -46,78 +45,6 @@ pub enum Polled {
     /// Replies were overwritten before they were copied. What became of the commands in flight is unknown: each of
     /// them may have been applied, and its reply may have been among those.
     Lapped(Lapped),
-}
-
-/// What is asked of the conductor: a command without its correlation id.
-#[derive(Clone, Copy, Debug, PartialEq, Eq)]
-pub enum Request<'a> {
-    /// Makes a counter of this type.
-    Allocate {
-        type_id: i32,
-        key: &'a [u8],
-        label: &'a [u8],
-    },
-    /// Frees the counter with this id.
-    Free {
-        id: u32,
-    },
-    /// Sets the value of the counter with this id.
-    Set {
-        id: u32,
-        value: i64,
-    },
-    /// Makes a counter that belongs to this owner.
-    AllocateOwned {
-        type_id: i32,
-        owner: u64,
-        key: &'a [u8],
-        label: &'a [u8],
-    },
-    /// Frees each counter of this owner.
-    Close {
-        owner: u64,
-    },
-}
-
-impl<'a> Request<'a> {
-    ghost use Rattle.ring_conductor.specs.Asking.{asked};
-
-    /// The command that asks for this, with a correlation id.
-    pub fn with_correlation(self, correlation: u64) -> Command<'a>
-        ensures { content_of result ≡ asked self.entry correlation }
-    {
-        match self {
-            Request::Allocate {
-                type_id,
-                key,
-                label,
-            } => Command::Allocate {
-                correlation,
-                type_id,
-                key,
-                label,
-            },
-            Request::Free { id } => Command::Free { correlation, id },
-            Request::Set { id, value } => Command::Set {
-                correlation,
-                id,
-                value,
-            },
-            Request::AllocateOwned {
-                type_id,
-                owner,
-                key,
-                label,
-            } => Command::AllocateOwned {
-                correlation,
-                type_id,
-                owner,
-                key,
-                label,
-            },
-            Request::Close { owner } => Command::Close { correlation, owner },
-        }
-    }
 }
 
 impl Client {
@@ -184,7 +111,7 @@ impl Client {
         &mut self,
         ring: &Ring<K, B>,
         correlation: u64,
-        request: Request<'_>,
+        request: Request<&[u8]>,
     ) -> Result<(), SendFault>
         requires producer { IsProducerOf ring.now (producer_of self.old) }
         requires sole { MayClaim K.many (producer_of self.old) }
@@ -198,11 +125,10 @@ impl Client {
         ensures keeps { OpensNone ring.now (producer_of self.old) (producer_of self.new) }
         ensures receiver { receiver_of self.new ≡ receiver_of self.old }
     {
-        let command = request.with_correlation(correlation);
-        let Some(len) = encode_command(&command, self.buffer.as_mut_slice()) else {
+        let Some(len) = encode_request(correlation, request, self.buffer.as_mut_slice()) else {
             return Err(SendFault::TooLong);
         };
-        match ring.try_write(&mut self.producer, command.type_id(), &self.buffer[..len]) {
+        match ring.try_write(&mut self.producer, request.type_id(), &self.buffer[..len]) {
             Ok(()) => Ok(()),
             Err(reason) => Err(SendFault::Refused {
                 correlation,
@@ -220,7 +146,7 @@ impl Client {
     pub fn send<K: Kind, B: Bodies>(
         &mut self,
         ring: &Ring<K, B>,
-        request: Request<'_>,
+        request: Request<&[u8]>,
     ) -> Result<u64, SendFault>
         requires producer { IsProducerOf ring.now (producer_of self.old) }
         requires sole { MayClaim K.many (producer_of self.old) }
@@ -234,7 +160,7 @@ impl Client {
         ensures keeps { OpensNone ring.now (producer_of self.old) (producer_of self.new) }
         ensures receiver { receiver_of self.new ≡ receiver_of self.old }
     {
-        match request.with_correlation(0).encoded_len() {
+        match request.encoded_len() {
             Some(len) if len <= LONGEST_COMMAND => {}
             _ => return Err(SendFault::TooLong),
         }

@@ -3,11 +3,12 @@
 ghost use Rattle.std.specs.Prelude.{◌^◌, ◌≤◌, IfOk};
 ghost use Rattle.ring_conductor.specs.Whole.{Concludes};
 
-use crate::client::{Client, Polled, Request, SendFault};
+use crate::client::{Client, Polled, SendFault};
 use crate::conductor::{Conductor, Work};
 use crate::finishing::{Finished, finish};
 use ring_board::{Board, CopyReceiver};
 use ring_counters::CountersManager;
+use ring_protocol::Request;
 use ring_rings::{Bodies, InWords, ManyToOne, Ring};
 use std::alloc::Global;
 use std::snapshot::Snapshot;
@@ -96,7 +97,7 @@ pub fn whole_run_over<B: Bodies>(
     };
     let client = Client::new(producer, receiver);
     let mut both = Parties { conductor, client };
-    let allocate = Request::Allocate {
+    let allocate: Request<&[u8]> = Request::Allocate {
         type_id: 1,
         key: &[],
         label: b"requests",

@@ -84,7 +84,7 @@ fn each_request_is_the_command_with_the_drawn_id(rt: HostRuntime) {
 }
 
 /// A command to set, whose record takes 32 bytes of the ring.
-const SET: Request<'static> = Request::Set { id: 0, value: 1 };
+const SET: Request<&'static [u8]> = Request::Set { id: 0, value: 1 };
 
 const FULL: Said = Full(8, 256, 0);
 
@@ -194,14 +194,14 @@ fn a_client_loads_the_last_heartbeat(rt: HostRuntime) {
     goes::<ManyToOne>(&rt, rt.alloc(), (256, 256), &BEATS);
 }
 
-const TOO_LONG: Request<'static> = Request::AllocateOwned {
+const TOO_LONG: Request<&'static [u8]> = Request::AllocateOwned {
     type_id: 1,
     owner: 9,
     key: &[1; 112],
     label: &[b'l'; 381],
 };
 
-const LONGEST: Request<'static> = Request::AllocateOwned {
+const LONGEST: Request<&'static [u8]> = Request::AllocateOwned {
     type_id: 1,
     owner: 9,
     key: &[1; 112],
@@ -227,7 +227,7 @@ fn no_id_is_drawn_for_a_command_that_is_too_long(rt: HostRuntime) {
     goes::<ManyToOne>(&rt, rt.alloc(), (8192, 256), &LONG);
 }
 
-const FREE: Request<'static> = Request::Free { id: 0 };
+const FREE: Request<&'static [u8]> = Request::Free { id: 0 };
 
 /// A refusal takes 24 bytes of the board.
 static LAPPED: [(Call<'static>, Said); 15] = [

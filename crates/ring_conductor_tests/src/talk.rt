@@ -17,8 +17,8 @@ use std::process::Abort;
 /// A call of a client, or of its conductor.
 #[derive(Clone, Copy)]
 pub enum Call<'a> {
-    Send(Request<'a>),
-    SendAs(u64, Request<'a>),
+    Send(Request<&'a [u8]>),
+    SendAs(u64, Request<&'a [u8]>),
     Poll(u64),
     NextId,
     Heartbeat,
@@ -89,14 +89,14 @@ impl<K: Kind> Talk<K> {
         }
     }
 
-    fn send(&mut self, request: Request<'_>) -> Said {
+    fn send(&mut self, request: Request<&[u8]>) -> Said {
         match self.client.send(&self.ring, request) {
             Ok(correlation) => Said::Id(correlation),
             Err(fault) => refused(fault),
         }
     }
 
-    fn send_as(&mut self, correlation: u64, request: Request<'_>) -> Said {
+    fn send_as(&mut self, correlation: u64, request: Request<&[u8]>) -> Said {
         match self.client.send_as(&self.ring, correlation, request) {
             Ok(()) => Said::Sent,
             Err(fault) => refused(fault),

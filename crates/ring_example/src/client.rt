@@ -41,7 +41,7 @@ impl Caller {
 
     /// Sends a command, and waits while the ring is full. Returns its correlation id; `None` if the ring never takes
     /// it.
-    fn send<R: Wait>(&mut self, rt: &R, on: &Shared, request: Request<'_>) -> Option<u64>
+    fn send<R: Wait>(&mut self, rt: &R, on: &Shared, request: Request<&[u8]>) -> Option<u64>
         requires { IsCallerOf on.now self.old }
         ensures { IsCallerOf on.now self.new }
     {
@@ -110,7 +110,7 @@ impl Caller {
         requires { IsCallerOf on.now self.old }
         ensures { IsCallerOf on.now self.new }
     {
-        let allocate = Request::Allocate {
+        let allocate: Request<&[u8]> = Request::Allocate {
             type_id: 1,
             key: &[],
             label: self.label.as_bytes(),

@@ -15,4 +15,4 @@ pub use call::{Call, Line};
 pub use fault::LineFault;
 pub use lines::{Lines, MAX_INPUT};
 pub use moment::Moment;
-pub use service_call::{Request, ServiceCall};
+pub use service_call::ServiceCall;

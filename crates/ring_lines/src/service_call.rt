@@ -5,6 +5,7 @@ ghost use Rattle.std.specs.Prelude.{◌∷◌, IfOk, codes};
 use crate::fault::LineFault;
 use crate::lines::Words;
 use crate::moment::Moment;
+use ring_protocol::Request;
 use std::alloc::Global;
 
 /// A call of the command ring, of the conductor or of what it serves, as a line asks for it.
@@ -12,8 +13,9 @@ use std::alloc::Global;
 pub enum ServiceCall {
     /// `send TYPE HEX`
     Send { type_id: i32, body: Vec<u8> },
-    /// A command, which gets a correlation id.
-    Request(Request),
+    /// A command, which gets a correlation id: `allocate TYPE KEYHEX LABELHEX`, `free ID`, `set ID VALUE`,
+    /// `own OWNER TYPE KEYHEX LABELHEX` or `close OWNER`
+    Request(Request<Vec<u8>>),
     /// `work NOW LIMIT`
     Work { now: Moment, limit: u32 },
     /// `listen`
@@ -53,7 +55,12 @@ impl ServiceCall {
             _ if name == b"counters".as_slice() => Self::counters(words),
             _ if name == b"watch".as_slice() => Self::watch(words),
             _ if name == b"unwatch".as_slice() => Self::unwatch(words),
-            _ => Ok(ServiceCall::Request(Request::parse(alloc, name, words)?)),
+            _ if name == b"free".as_slice() => Self::free(words),
+            _ if name == b"set".as_slice() => Self::set(words),
+            _ if name == b"own".as_slice() => Self::own(alloc, words),
+            _ if name == b"close".as_slice() => Self::close(words),
+            _ if name == b"allocate".as_slice() => Self::allocate(alloc, words),
+            _ => Err(LineFault::Bad),
         }
     }
 
@@ -129,108 +136,59 @@ impl ServiceCall {
         words.finish()?;
         Ok(ServiceCall::Unwatch { number })
     }
-}
 
-/// A command before its correlation id is drawn.
-#[derive(Drop)]
-pub enum Request {
-    /// `allocate TYPE KEYHEX LABELHEX`
-    Allocate {
-        type_id: i32,
-        key: Vec<u8>,
-        label: Vec<u8>,
-    },
-    /// `free ID`
-    Free {
-        id: u32,
-    },
-    /// `set ID VALUE`
-    Set {
-        id: u32,
-        value: i64,
-    },
-    /// `own OWNER TYPE KEYHEX LABELHEX`
-    Own {
-        owner: u64,
-        type_id: i32,
-        key: Vec<u8>,
-        label: Vec<u8>,
-    },
-    /// `close OWNER`
-    Close {
-        owner: u64,
-    },
-}
-
-impl Request {
-    ghost use Rattle.ring_lines.specs.Requests.{AsksToSend};
-
-    /// Parses the words after the first one, which names the command.
-    pub(crate) fn parse(alloc: Global, name: &[u8], words: &mut Words) -> Result<Request, LineFault>
-        ensures { IfOk result (λ request. AsksToSend request (name.now ∷ words_of words.old.rest.now)) }
-    {
-        match name {
-            _ if name == b"free".as_slice() => Self::free(words),
-            _ if name == b"set".as_slice() => Self::set(words),
-            _ if name == b"own".as_slice() => Self::own(alloc, words),
-            _ if name == b"close".as_slice() => Self::close(words),
-            _ if name == b"allocate".as_slice() => Self::allocate(alloc, words),
-            _ => Err(LineFault::Bad),
-        }
-    }
-
-    fn allocate(alloc: Global, words: &mut Words) -> Result<Request, LineFault>
-        ensures { IfOk result (λ request. AsksToSend request (codes "allocate" ∷ words_of words.old.rest.now)) }
+    fn allocate(alloc: Global, words: &mut Words) -> Result<ServiceCall, LineFault>
+        ensures { IfOk result (λ call. AsksToServe call (codes "allocate" ∷ words_of words.old.rest.now)) }
     {
         let type_id = words.number()?;
         let key = words.bytes(alloc)?;
         let label = words.bytes(alloc)?;
         words.finish()?;
-        Ok(Request::Allocate {
+        Ok(ServiceCall::Request(Request::Allocate {
             type_id,
             key,
             label,
-        })
+        }))
     }
 
-    fn free(words: &mut Words) -> Result<Request, LineFault>
-        ensures { IfOk result (λ request. AsksToSend request (codes "free" ∷ words_of words.old.rest.now)) }
+    fn free(words: &mut Words) -> Result<ServiceCall, LineFault>
+        ensures { IfOk result (λ call. AsksToServe call (codes "free" ∷ words_of words.old.rest.now)) }
     {
         let id = words.number()?;
         words.finish()?;
-        Ok(Request::Free { id })
+        Ok(ServiceCall::Request(Request::Free { id }))
     }
 
-    fn set(words: &mut Words) -> Result<Request, LineFault>
-        ensures { IfOk result (λ request. AsksToSend request (codes "set" ∷ words_of words.old.rest.now)) }
+    fn set(words: &mut Words) -> Result<ServiceCall, LineFault>
+        ensures { IfOk result (λ call. AsksToServe call (codes "set" ∷ words_of words.old.rest.now)) }
     {
         let id = words.number()?;
         let value = words.number()?;
         words.finish()?;
-        Ok(Request::Set { id, value })
+        Ok(ServiceCall::Request(Request::Set { id, value }))
     }
 
-    fn own(alloc: Global, words: &mut Words) -> Result<Request, LineFault>
-        ensures { IfOk result (λ request. AsksToSend request (codes "own" ∷ words_of words.old.rest.now)) }
+    fn own(alloc: Global, words: &mut Words) -> Result<ServiceCall, LineFault>
+        ensures { IfOk result (λ call. AsksToServe call (codes "own" ∷ words_of words.old.rest.now)) }
     {
         let owner = words.number()?;
         let type_id = words.number()?;
         let key = words.bytes(alloc)?;
         let label = words.bytes(alloc)?;
         words.finish()?;
-        Ok(Request::Own {
-            owner,
+        Ok(ServiceCall::Request(Request::AllocateOwned {
             type_id,
+            owner,
             key,
             label,
-        })
+        }))
     }
 
-    fn close(words: &mut Words) -> Result<Request, LineFault>
-        ensures { IfOk result (λ request. AsksToSend request (codes "close" ∷ words_of words.old.rest.now)) }
+    fn close(words: &mut Words) -> Result<ServiceCall, LineFault>
+        ensures { IfOk result (λ call. AsksToServe call (codes "close" ∷ words_of words.old.rest.now)) }
     {
         let owner = words.number()?;
         words.finish()?;
-        Ok(Request::Close { owner })
+        Ok(ServiceCall::Request(Request::Close { owner }))
     }
 }

@@ -8,7 +8,7 @@ use Rattle.std.proofs.lemmas.List.Elements.{All-from_get_or}
 use Rattle.ring_protocol.specs.Field.{AreBytes, u32_field, u64_field, i32_field, i64_field, sized_field}
 use Rattle.ring_protocol.specs.declared.reply.Reply.{Reply}
 use Rattle.ring_protocol.specs.Reply as reply
-use Rattle.ring_protocol.specs.Command.{Instruction, Allocate, Free, Set, AllocateOwned, Close, type_id_of, spelling_of, HasSpelling, HasTextLengths}
+use Rattle.ring_protocol.specs.Command.{Instruction, Allocate, Free, Set, AllocateOwned, Close, fields_of, type_id_of, spelling_of, HasSpelling, HasTextLengths}
 use Rattle.ring_protocol.specs.Reading.{command_of, reply_of}
 use Rattle.ring_protocol.specs.Writing.{WritesText, Encodes, EncodesReply, over_start}
 use Rattle.ring_protocol.proofs.ReadCommands as commands
@@ -18,7 +18,7 @@ if_some : {A : Type 0} (o : Option A) (P : Type 0) → P → IfSome o (λ n. P)
 if_some None P p = tt
 if_some (Some x) P p = p
 
-pub encodes : (c : Instruction) (text old new : List ℕ) (result : Option ℕ) → HasTextLengths c → HasSpelling c
+pub encodes : (c : Instruction) (text old new : List ℕ) (result : Option ℕ) → HasTextLengths c.request → HasSpelling c
     → text ≡ spelling_of c → WritesText text old new result → Encodes c old new result
 encodes c text old new result short has e w =
     let written : WritesText (spelling_of c) old new result = subst (λ (t : List ℕ). WritesText t old new result) e w in
@@ -66,20 +66,21 @@ pub two_fields : (x y a b : List ℕ) → a ≡ x → b ≡ y → a ++ (b ++ [])
 two_fields x y a b p q = rw (p, q) (simp append-nil)
 
 pub free_text : (correlation id : ℕ) (a b : List ℕ) → a ≡ u64_field correlation → b ≡ u32_field id
-    → a ++ (b ++ []) ≡ spelling_of (Free correlation id)
+    → a ++ (b ++ []) ≡ u64_field correlation ++ fields_of (Free id)
 free_text correlation id a b p q = two_fields (u64_field correlation) (u32_field id) a b p q
 
 pub set_text : (correlation id : ℕ) (value : ℤ) (a b d : List ℕ) → a ≡ u64_field correlation → b ≡ u32_field id
-    → d ≡ i64_field value → a ++ (b ++ (d ++ [])) ≡ spelling_of (Set correlation id value)
-set_text correlation id value a b d p q r = rw (p, q, r) (simp (append_assoc, append-nil))
+    → d ≡ i64_field value → a ++ (b ++ (d ++ [])) ≡ u64_field correlation ++ fields_of (Set id value)
+set_text correlation id value a b d p q r = rw (p, q, r) (simp append-nil)
 
 pub close_text : (correlation owner : ℕ) (a b : List ℕ) → a ≡ u64_field correlation → b ≡ u64_field owner
-    → a ++ (b ++ []) ≡ spelling_of (Close correlation owner)
+    → a ++ (b ++ []) ≡ u64_field correlation ++ fields_of (Close owner)
 close_text correlation owner a b p q = two_fields (u64_field correlation) (u64_field owner) a b p q
 
 pub allocate_text : (correlation : ℕ) (type_id : ℤ) (key label a b n m : List ℕ) → a ≡ u64_field correlation
     → b ≡ i32_field type_id → n ≡ u32_field (length key) → m ≡ u32_field (length label)
-    → a ++ (b ++ (n ++ (key ++ (m ++ (label ++ []))))) ≡ spelling_of (Allocate correlation type_id key label)
+    → a ++ (b ++ (n ++ (key ++ (m ++ (label ++ [])))))
+    ≡ u64_field correlation ++ fields_of (Allocate type_id key label)
 unfolding sized_field
 allocate_text correlation type_id key label a b n m p q r s = rw (p, q, r, s) (simp (append_assoc, append-nil))
 
@@ -87,7 +88,7 @@ pub allocate_owned_text : (correlation : ℕ) (type_id : ℤ) (owner : ℕ) (key
     → a ≡ u64_field correlation → b ≡ i32_field type_id → d ≡ u64_field owner → n ≡ u32_field (length key)
     → m ≡ u32_field (length label)
     → a ++ (b ++ (d ++ (n ++ (key ++ (m ++ (label ++ []))))))
-    ≡ spelling_of (AllocateOwned correlation type_id owner key label)
+    ≡ u64_field correlation ++ fields_of (AllocateOwned type_id owner key label)
 unfolding sized_field
 allocate_owned_text correlation type_id owner key label a b d n m p q t r s =
     rw (p, q, t, r, s) (simp (append_assoc, append-nil))

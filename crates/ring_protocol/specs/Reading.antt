@@ -3,28 +3,31 @@ use Rattle.std.specs.Prelude.{ℕ, ℤ, pos, List, Option, Result, Err, if◌the
 use Rattle.std.specs.Ordering.{int_eq}
 use Rattle.ring_protocol.specs.declared.fault.Bad.{Bad}
 use Rattle.ring_protocol.specs.declared.fault.Bad.TheVariants.{UnknownType}
-use Rattle.ring_protocol.specs.Field.{◌⊗◌, whole, u32_at, u64_at, i32_at, i64_at, sized_at}
+use Rattle.ring_protocol.specs.Field.{Reader, ◌⊗◌, whole, u32_at, u64_at, i32_at, i64_at, sized_at}
 use Rattle.ring_protocol.specs.Bad.{correlation_of, or_malformed}
 use Rattle.ring_protocol.specs.declared.reply.Reply.{Reply}
 use Rattle.ring_protocol.specs.declared.reply.Reply.TheVariants.{Allocated, Done, Refused, Closed}
-use Rattle.ring_protocol.specs.Command.{Instruction, Allocate, Free, Set, AllocateOwned, Close}
+use Rattle.ring_protocol.specs.Command.{Instruction, Request, Allocate, Free, Set, AllocateOwned, Close, with_id}
+
+-- a correlation id and then these fields, of which the request is made
+abbrev pub asking : {V : Type 0} → (V → Request (List ℕ)) → Reader V → List ℕ → Option Instruction
+asking made fields body = whole (λ v. with_id v.0 (made v.1)) (u64_at ⊗ fields) body
 
 unfoldable pub allocate_of : List ℕ → Option Instruction
-allocate_of body = whole (λ v. Allocate v.0.0.0 v.0.0.1 v.0.1 v.1) (u64_at ⊗ i32_at ⊗ sized_at ⊗ sized_at) body
+allocate_of body = asking (λ v. Allocate v.0.0 v.0.1 v.1) (i32_at ⊗ sized_at ⊗ sized_at) body
 
 unfoldable pub free_of : List ℕ → Option Instruction
-free_of body = whole (λ v. Free v.0 v.1) (u64_at ⊗ u32_at) body
+free_of body = asking (λ id. Free id) u32_at body
 
 unfoldable pub set_of : List ℕ → Option Instruction
-set_of body = whole (λ v. Set v.0.0 v.0.1 v.1) (u64_at ⊗ u32_at ⊗ i64_at) body
+set_of body = asking (λ v. Set v.0 v.1) (u32_at ⊗ i64_at) body
 
 unfoldable pub allocate_owned_of : List ℕ → Option Instruction
 allocate_owned_of body =
-    whole (λ v. AllocateOwned v.0.0.0.0 v.0.0.0.1 v.0.0.1 v.0.1 v.1)
-    (u64_at ⊗ i32_at ⊗ u64_at ⊗ sized_at ⊗ sized_at) body
+    asking (λ v. AllocateOwned v.0.0.0 v.0.0.1 v.0.1 v.1) (i32_at ⊗ u64_at ⊗ sized_at ⊗ sized_at) body
 
 unfoldable pub close_of : List ℕ → Option Instruction
-close_of body = whole (λ v. Close v.0 v.1) (u64_at ⊗ u64_at) body
+close_of body = asking (λ owner. Close owner) u64_at body
 
 -- the command that a type id and a body spell, or what is wrong with them
 unfoldable pub command_of : ℤ → List ℕ → Result Instruction Bad

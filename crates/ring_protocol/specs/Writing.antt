@@ -18,7 +18,7 @@ pub record WritesText (text old new : List ℕ) (result : Option ℕ) : Type 0 w
 -- The encoding of a command is at the start of an output, if it fits and if lengths can hold those of the key and the
 -- label. Otherwise nothing was written.
 pub record Encodes (c : Instruction) (old new : List ℕ) (result : Option ℕ) : Type 0 where
-  pub fits : IsSome result ↔ (HasTextLengths c × (length (spelling_of c) ≤ length old))
+  pub fits : IsSome result ↔ (HasTextLengths c.request × (length (spelling_of c) ≤ length old))
   pub spelled : IfSome result (λ n. HasSpelling c)
   pub len : IfSome result (λ n. n ≡ length (spelling_of c))
   pub some : IfSome result (λ n. new ≡ over_start (spelling_of c) old)

@@ -1,6 +1,6 @@
-//! What a client asks of the conductor, and how it is spelled as bytes.
-ghost use Rattle.std.specs.Prelude.{◌≡◌, ◌+◌, ◌^◌, ◌<◌, ◌↔◌, length, IfSome, IsSome};
-ghost use Rattle.ring_protocol.specs.Command.{content_of, Allocate, Free, Set, AllocateOwned, Close};
+//! What a client sends to the conductor, and how it is spelled as bytes.
+ghost use Rattle.std.specs.Prelude.{◌≡◌, ◌+◌, ◌^◌, ◌<◌, ◌↔◌, ℕ, length, IfSome, IsSome};
+ghost use Rattle.ring_protocol.specs.Command.{Allocate, AllocateOwned, Close, Free, Set, asked, content_of, with_id};
 ghost use Rattle.ring_protocol.specs.Writing.{Encodes};
 
 pub mod decode;
@@ -29,8 +29,114 @@ pub mod type_ids {
 /// have.
 pub const LONGEST_COMMAND: usize = 520;
 
-/// A command. Its reply carries the same correlation id. A command that was decoded borrows its key and its label
-/// from the bytes.
+/// What is asked of the conductor: a command without its correlation id. Key and label are of type `T`: `&[u8]` in a
+/// request that is sent, and `Vec<u8>` in one that owns them.
+#[derive(Clone, Copy, Debug, PartialEq, Eq, Drop)]
+pub enum Request<T> {
+    /// Makes a counter of this type.
+    Allocate {
+        type_id: i32,
+        key: T,
+        label: T,
+    },
+    /// Frees the counter with this id.
+    Free {
+        id: u32,
+    },
+    /// Sets the value of the counter with this id.
+    Set {
+        id: u32,
+        value: i64,
+    },
+    /// Makes a counter that belongs to this owner.
+    AllocateOwned {
+        type_id: i32,
+        owner: u64,
+        key: T,
+        label: T,
+    },
+    /// Frees each counter of this owner.
+    Close {
+        owner: u64,
+    },
+}
+
+impl Request<Vec<u8>> {
+    ghost use Rattle.ring_protocol.specs.Command.{content_of_owned, content_of_request};
+
+    /// The same request, with a key and a label that it borrows from this one.
+    pub fn as_slices(&self) -> Request<&[u8]>
+        ensures { content_of_request result ≡ content_of_owned self.now }
+    {
+        match self {
+            Request::Allocate {
+                type_id,
+                key,
+                label,
+            } => Request::Allocate {
+                type_id: *type_id,
+                key: key.as_slice(),
+                label: label.as_slice(),
+            },
+            Request::Free { id } => Request::Free { id: *id },
+            Request::Set { id, value } => Request::Set {
+                id: *id,
+                value: *value,
+            },
+            Request::AllocateOwned {
+                type_id,
+                owner,
+                key,
+                label,
+            } => Request::AllocateOwned {
+                type_id: *type_id,
+                owner: *owner,
+                key: key.as_slice(),
+                label: label.as_slice(),
+            },
+            Request::Close { owner } => Request::Close { owner: *owner },
+        }
+    }
+}
+
+impl Request<&[u8]> {
+    ghost use Rattle.ring_protocol.specs.Command.{HasTextLengths, asked, content_of_request};
+    ghost use Rattle.ring_protocol.specs.Command.{request_type_id, spelling_of};
+
+    /// The type id of the message that spells the command.
+    pub fn type_id(&self) -> i32
+        ensures { result ≡ request_type_id (content_of_request self.now) }
+    {
+        match self {
+            Request::Allocate { .. } => type_ids::ALLOCATE,
+            Request::Free { .. } => type_ids::FREE,
+            Request::Set { .. } => type_ids::SET,
+            Request::AllocateOwned { .. } => type_ids::ALLOCATE_OWNED,
+            Request::Close { .. } => type_ids::CLOSE,
+        }
+    }
+
+    /// Returns the length in bytes of the encoding of the command, with any correlation id. It is at most
+    /// `LONGEST_COMMAND` if the key and the label are not too long for a counter. `None` if the key or the label is
+    /// longer than 2^32 - 1 bytes: such a command cannot be encoded.
+    pub fn encoded_len(&self) -> Option<usize>
+        ensures fits { IsSome result ↔ HasTextLengths (content_of_request self.now) }
+        ensures len { (correlation : ℕ) → IfSome result (λ n. n ≡ length (spelling_of (asked self.now correlation))) }
+    {
+        match self {
+            Request::Allocate { key, label, .. } => Some(12 + sized_len(key)? + sized_len(label)?),
+            Request::Free { .. } => Some(12),
+            Request::Set { .. } => Some(20),
+            Request::AllocateOwned { key, label, .. } => {
+                Some(20 + sized_len(key)? + sized_len(label)?)
+            }
+            Request::Close { .. } => Some(16),
+        }
+    }
+}
+
+/// A command: a request and its correlation id. Its reply carries the same correlation id. A command that was decoded
+/// borrows its key and its label from the bytes.
 #[derive(Clone, Copy, Debug, PartialEq, Eq)]
 pub enum Command<'a> {
     /// Makes a counter of this type. It has the correlation id as its registration id.
@@ -66,26 +172,45 @@ pub enum Command<'a> {
     },
 }
 
-impl Command<'_> {
-    ghost use Rattle.ring_protocol.specs.Command.{HasTextLengths, content_of, correlation_id_of};
-    ghost use Rattle.ring_protocol.specs.Command.{spelling_of, type_id_of};
+impl<'a> Command<'a> {
+    ghost use Rattle.ring_protocol.specs.Command.{HasTextLengths, spelling_of, type_id_of};
 
-    /// The type id of the message that spells the command.
-    pub fn type_id(&self) -> i32
-        ensures { result ≡ type_id_of (content_of self.now) }
+    /// What it asks for, without the correlation id.
+    pub fn request(&self) -> Request<&'a [u8]>
+        ensures { asked result (content_of self.now).correlation ≡ content_of self.now }
     {
-        match self {
-            Command::Allocate { .. } => type_ids::ALLOCATE,
-            Command::Free { .. } => type_ids::FREE,
-            Command::Set { .. } => type_ids::SET,
-            Command::AllocateOwned { .. } => type_ids::ALLOCATE_OWNED,
-            Command::Close { .. } => type_ids::CLOSE,
+        match *self {
+            Command::Allocate {
+                type_id,
+                key,
+                label,
+                ..
+            } => Request::Allocate {
+                type_id,
+                key,
+                label,
+            },
+            Command::Free { id, .. } => Request::Free { id },
+            Command::Set { id, value, .. } => Request::Set { id, value },
+            Command::AllocateOwned {
+                type_id,
+                owner,
+                key,
+                label,
+                ..
+            } => Request::AllocateOwned {
+                type_id,
+                owner,
+                key,
+                label,
+            },
+            Command::Close { owner, .. } => Request::Close { owner },
         }
     }
 
     /// The correlation id, which its reply carries too.
     pub fn correlation(&self) -> u64
-        ensures { result ≡ correlation_id_of (content_of self.now) }
+        ensures { result ≡ (content_of self.now).correlation }
     {
         match *self {
             Command::Allocate { correlation, .. } => correlation,
@@ -96,21 +221,20 @@ impl Command<'_> {
         }
     }
 
+    /// The type id of the message that spells the command.
+    pub fn type_id(&self) -> i32
+        ensures { result ≡ type_id_of (content_of self.now) }
+    {
+        self.request().type_id()
+    }
+
     /// Returns the length of its encoding in bytes, at most `LONGEST_COMMAND` if its key and its label are not too long
     /// for a counter. `None` if the key or the label is longer than 2^32 - 1 bytes: such a command cannot be encoded.
     pub fn encoded_len(&self) -> Option<usize>
-        ensures fits { IsSome result ↔ HasTextLengths (content_of self.now) }
+        ensures fits { IsSome result ↔ HasTextLengths (content_of self.now).request }
         ensures len { IfSome result (λ n. n ≡ length (spelling_of (content_of self.now))) }
     {
-        match self {
-            Command::Allocate { key, label, .. } => Some(12 + sized_len(key)? + sized_len(label)?),
-            Command::Free { .. } => Some(12),
-            Command::Set { .. } => Some(20),
-            Command::AllocateOwned { key, label, .. } => {
-                Some(20 + sized_len(key)? + sized_len(label)?)
-            }
-            Command::Close { .. } => Some(16),
-        }
+        self.request().encoded_len()
     }
 }
 
@@ -131,7 +255,7 @@ fn encode_allocate(
     key: &[u8],
     label: &[u8],
 ) -> Option<usize>
-    ensures { Encodes (Allocate correlation type_id key.now label.now) out.old out.new result }
+    ensures { Encodes (with_id correlation (Allocate type_id key.now label.now)) out.old out.new result }
 {
     write_fields(
         out,
@@ -147,13 +271,13 @@ fn encode_allocate(
 }
 
 fn encode_free(out: &mut [u8], correlation: u64, id: u32) -> Option<usize>
-    ensures { Encodes (Free correlation id) out.old out.new result }
+    ensures { Encodes (with_id correlation (Free id)) out.old out.new result }
 {
     write_fields(out, &[&correlation.to_le_bytes(), &id.to_le_bytes()])
 }
 
 fn encode_set(out: &mut [u8], correlation: u64, id: u32, value: i64) -> Option<usize>
-    ensures { Encodes (Set correlation id value) out.old out.new result }
+    ensures { Encodes (with_id correlation (Set id value)) out.old out.new result }
 {
     write_fields(
         out,
@@ -173,7 +297,7 @@ fn encode_allocate_owned(
     key: &[u8],
     label: &[u8],
 ) -> Option<usize>
-    ensures { Encodes (AllocateOwned correlation type_id owner key.now label.now) out.old out.new result }
+    ensures { Encodes (with_id correlation (AllocateOwned type_id owner key.now label.now)) out.old out.new result }
 {
     write_fields(
         out,
@@ -190,39 +314,43 @@ fn encode_allocate_owned(
 }
 
 fn encode_close(out: &mut [u8], correlation: u64, owner: u64) -> Option<usize>
-    ensures { Encodes (Close correlation owner) out.old out.new result }
+    ensures { Encodes (with_id correlation (Close owner)) out.old out.new result }
 {
     write_fields(out, &[&correlation.to_le_bytes(), &owner.to_le_bytes()])
 }
 
-/// Encodes the command at the start of the output, and returns the number of bytes. The rest of the output is
-/// unchanged.
+/// Encodes the command that asks for this, with a correlation id, at the start of the output, and returns the number of
+/// bytes. The rest of the output is unchanged.
+///
+/// Returns `None`, and writes nothing, if the encoding does not fit, or if the key or the label is longer than 2^32 - 1
+/// bytes.
+pub fn encode_request(correlation: u64, request: Request<&[u8]>, out: &mut [u8]) -> Option<usize>
+    ensures { Encodes (asked request.entry correlation) out.old out.new result }
+{
+    match request {
+        Request::Allocate {
+            type_id,
+            key,
+            label,
+        } => encode_allocate(out, correlation, type_id, key, label),
+        Request::Free { id } => encode_free(out, correlation, id),
+        Request::Set { id, value } => encode_set(out, correlation, id, value),
+        Request::AllocateOwned {
+            type_id,
+            owner,
+            key,
+            label,
+        } => encode_allocate_owned(out, correlation, type_id, owner, key, label),
+        Request::Close { owner } => encode_close(out, correlation, owner),
+    }
+}
+
+/// Encodes the command at the start of the output, as `encode_request` does.
 ///
 /// Returns `None`, and writes nothing, if the encoding does not fit, or if the key or the label is longer than 2^32 - 1
 /// bytes.
 pub fn encode_command(command: &Command, out: &mut [u8]) -> Option<usize>
     ensures { Encodes (content_of command.now) out.old out.new result }
 {
-    match *command {
-        Command::Allocate {
-            correlation,
-            type_id,
-            key,
-            label,
-        } => { encode_allocate(out, correlation, type_id, key, label) }
-        Command::Free { correlation, id } => encode_free(out, correlation, id),
-        Command::Set {
-            correlation,
-            id,
-            value,
-        } => encode_set(out, correlation, id, value),
-        Command::AllocateOwned {
-            correlation,
-            type_id,
-            owner,
-            key,
-            label,
-        } => { encode_allocate_owned(out, correlation, type_id, owner, key, label) }
-        Command::Close { correlation, owner } => encode_close(out, correlation, owner),
-    }
+    encode_request(command.correlation(), command.request(), out)
 }

@@ -20,7 +20,7 @@ pub fn one_reply()
 
 /// A command whose key and label a counter may have is spelled by at most `LONGEST_COMMAND` bytes.
 pub fn longest_command()
-    ensures { (c : Instruction) → HasLawfulTexts c → length (spelling_of c) ≤ 520 }
+    ensures { (c : Instruction) → HasLawfulTexts c.request → length (spelling_of c) ≤ 520 }
 {}
 
 /// A command that was encoded is decoded again, and the bytes of a command that was decoded are encoded again.

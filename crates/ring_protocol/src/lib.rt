@@ -15,7 +15,9 @@ mod reply;
 
 pub use codes::{RefusalCode, UnknownCode};
 pub use command::decode::decode_command;
-pub use command::{Command, LONGEST_COMMAND, encode_command, type_ids as command_type_ids};
+pub use command::{
+    Command, LONGEST_COMMAND, Request, encode_command, encode_request, type_ids as command_type_ids,
+};
 pub use fault::Bad;
 pub use laws::{command_round_trip, longest_command, one_command, one_reply, reply_round_trip};
 pub use reply::decode::decode_reply;

@@ -1,6 +1,5 @@
 mod EndLemmas
 mod FaultLemmas
 mod PrinterLemmas
-mod RequestLemmas
 mod RunLemmas
 mod ServiceLemmas

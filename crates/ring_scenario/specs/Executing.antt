@@ -5,6 +5,7 @@ use Rattle.ring_layout.specs.declared.message.ClaimState.TheVariants.{Aborted, C
 use Rattle.ring_table.specs.ServiceSteps.{DrawsId, LoadsHeartbeat}
 use Rattle.ring_words.specs.declared.positions.Positions.{Positions}
 use Rattle.ring_rings.specs.Joining.{LoadsPositions}
+use Rattle.ring_protocol.specs.Command.{content_of_owned}
 use Rattle.ring_storm.specs.Storming.{IsPlan, IsReportOf}
 use Rattle.ring_storm.specs.declared.plan.StormFault.{StormFault}
 use Rattle.ring_storm.specs.declared.plan.StormFault.TheVariants.{BadPlan}
@@ -19,19 +20,19 @@ use Rattle.ring_standalone.specs.Held.{IsFree, held_in}
 use Rattle.ring_standalone.specs.Standalone.{Standalone, beaten_view, with_numbered_claims, with_reader, with_view}
 use Rattle.ring_scenario.specs.declared.runner.Runner.{Runner}
 use Rattle.ring_scenario.specs.declared.service.CommandService.{CommandService}
-use Rattle.ring_scenario.specs.Instructions.{FitsRoom}
 use Rattle.ring_scenario.specs.BoardLines.{LeavesLine, ReceivesLine, SubscribesLine, TransmitsLine}
 use Rattle.ring_scenario.specs.RefusalTexts.{storm_refused}
 use Rattle.ring_scenario.specs.RingLines.{ClaimsLine, ControlsLine, PutsLine, ReadsLine, WritesLine}
 use Rattle.ring_scenario.specs.SeatLines.{HearsLine, ListensLine, PeeksLine, UnwatchesLine, WatchesLine}
 use Rattle.ring_scenario.specs.ServiceLines.{CountsLine, RequestsLine, SendsLine, WorksLine, owner_text}
 use Rattle.ring_scenario.specs.ServiceTexts.{storm_text}
+use Rattle.ring_scenario.specs.Serving.{FitsRoom}
 use Rattle.ring_scenario.specs.Texts.{answer_text, number_text, ok_text, positions_text}
 
 -- a line of the conductor's side made its call, and the text is what the call returned
 abbrev pub Serves : ServiceCall → CommandService → CommandService → List ℕ → Type 0
 Serves (asks.Send type_id body) old new text = SendsLine type_id body.items old new text
-Serves (asks.Request request) old new text = RequestsLine request old new text
+Serves (asks.Request request) old new text = RequestsLine (content_of_owned request) old new text
 Serves (asks.Work now limit) old new text = WorksLine now.ms limit old new text
 Serves asks.Listen old new text = ListensLine old new text
 Serves (asks.Hear number) old new text = HearsLine number old new text
@@ -43,7 +44,7 @@ Serves (asks.Unwatch number) old new text = UnwatchesLine number old new text
 
 -- a line of the conductor's side cannot be executed: nothing is held under its number, or its command has no room
 abbrev pub CannotServe : ServiceCall → CommandService → Type 0
-CannotServe (asks.Request request) s = ¬ FitsRoom request
+CannotServe (asks.Request request) s = ¬ FitsRoom (content_of_owned request)
 CannotServe (asks.Hear number) s = IsFree (held_in s.listeners) number
 CannotServe (asks.Peek number id) s = IsFree (held_in s.watchers) number
 CannotServe (asks.Unwatch number) s = IsFree (held_in s.watchers) number

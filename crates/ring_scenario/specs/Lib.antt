@@ -2,7 +2,6 @@ pub mod BoardLines
 pub mod Closing
 pub mod Executing
 pub mod Faults
-pub mod Instructions
 pub mod Keeping
 pub mod Making
 pub mod Printing

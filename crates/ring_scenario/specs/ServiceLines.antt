@@ -9,13 +9,12 @@ use Rattle.ring_counters.specs.declared.fault.OutOfMemory.{OutOfMemory}
 use Rattle.ring_counters.specs.declared.info.CounterInfo.{CounterInfo}
 use Rattle.ring_conductor.specs.declared.conductor.Work.{Work}
 use Rattle.ring_conductor.specs.Conducting.{Works, ledger_of, manager_in, ring_view}
-use Rattle.ring_lines.specs.declared.service_call.Request.{Request}
+use Rattle.ring_protocol.specs.declared.command.Request.{Request}
 use Rattle.ring_standalone.specs.Claims.{RefusesAfter, WritesAfter}
-use Rattle.ring_scenario.specs.Instructions.{FitsRoom}
 use Rattle.ring_scenario.specs.Keeping.{KeepsButConductor, KeepsButProducer}
 use Rattle.ring_scenario.specs.RefusalTexts.{claim_refused, id_refused, memory_refused}
 use Rattle.ring_scenario.specs.ServiceTexts.{counters_text, work_text}
-use Rattle.ring_scenario.specs.Serving.{RefusesRequest, SendsRequest}
+use Rattle.ring_scenario.specs.Serving.{FitsRoom, RefusesRequest, SendsRequest}
 use Rattle.ring_scenario.specs.Texts.{answer_text, done_text, number_text}
 use Rattle.ring_scenario.specs.declared.service.CommandService.{CommandService}
 
@@ -30,7 +29,7 @@ pub record SendsLine (type_id : ℤ) (body : List ℕ) (old new : CommandService
   pub prints : text ≡ done_text claim_refused sent
 
 -- a command was sent, or refused
-pub record RequestsLine (request : Request) (old new : CommandService) (text : List ℕ) : Type 0 where
+pub record RequestsLine (request : Request (List ℕ)) (old new : CommandService) (text : List ℕ) : Type 0 where
   pub sent : Result ℕ ClaimFault
   pub fits : FitsRoom request
   pub written : IfOk sent (λ correlation.

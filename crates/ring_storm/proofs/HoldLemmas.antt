@@ -15,7 +15,8 @@ use Rattle.ring_counters.specs.Registry.{Registry, count_of, counter_at, given, 
 use Rattle.ring_counters.specs.Views.{value_write}
 use Rattle.ring_protocol.specs.declared.reply.Reply.{Reply}
 use Rattle.ring_protocol.specs.declared.reply.Reply.TheVariants as told
-use Rattle.ring_protocol.specs.Command.{Allocate, Instruction, Set}
+use Rattle.ring_protocol.specs.declared.command.Request.TheVariants.{Allocate, Set}
+use Rattle.ring_protocol.specs.Command.{Instruction, with_id}
 use Rattle.ring_protocol.specs.Command as command
 use Rattle.ring_protocol.specs.Reply as reply
 use Rattle.ring_protocol.proofs.ReadCommands.{spelled_again}
@@ -184,20 +185,20 @@ module _ (clients : ℕ) (cs : List Counter) (p q p' q' : ℕ → ℕ) (holds : 
 -- One command --------------------------------------------------------------------------
 
 is_first : (client counter number correlation : ℕ) → number ≡ 1
-    → turn_of client counter number correlation ≡ Allocate correlation (pos 1) [] (label_of client)
+    → turn_of client counter number correlation ≡ with_id correlation (Allocate (pos 1) [] (label_of client))
 is_first client counter number correlation e =
-    ap (λ b. cond b (Allocate correlation (pos 1) [] (label_of client)) (Set correlation counter (pos number)))
+    ap (λ b. with_id correlation (cond b (Allocate (pos 1) [] (label_of client)) (Set counter (pos number))))
     (eq-eqb number 1 e)
 
 is_later : (client counter number correlation : ℕ) → (number ≡ 1 → ⊥)
-    → turn_of client counter number correlation ≡ Set correlation counter (pos number)
+    → turn_of client counter number correlation ≡ with_id correlation (Set counter (pos number))
 is_later client counter number correlation e =
-    ap (λ b. cond b (Allocate correlation (pos 1) [] (label_of client)) (Set correlation counter (pos number)))
+    ap (λ b. with_id correlation (cond b (Allocate (pos 1) [] (label_of client)) (Set counter (pos number))))
     (ne_eqb number 1 e)
 
 -- it is read as it was meant
 does : (now : ℕ) (r : Registry) (m : Message) (c d : Instruction) → c ≡ d → command.Spells m.type_id m.body c
-    → applied now r m ≡ obeyed now r d
+    → applied now r m ≡ obeyed now r d.correlation d.request
 does now r m c d e says =
     ap (obeyed_if_read now r) (spelled_again m.type_id m.body d (subst (command.Spells m.type_id m.body) e says))
 
@@ -248,7 +249,7 @@ module _ (clients : ℕ) (few : clients ≤ 64) (all : List Message) (once : (x 
       let asks = is_first client (q client) (suc (p client)) step.correlation number in
       let new = new_counter (pos 1) [] (label_of client) step.correlation 0 in
       let o = does now r c.message (turn_of client (q client) (suc (p client)) step.correlation)
-      (Allocate step.correlation (pos 1) [] (label_of client)) asks step.says
+      (with_id step.correlation (Allocate (pos 1) [] (label_of client))) asks step.says
       ∙ ap (allocated r step.correlation new) (gives clients live r alive now (label_of client)
       (lawful_label client (omega arith))) in
       subst Does (sym o) (by (unused_id r) refl (subst (λ (x : Outcome). Has (reply_message x.reply) all) o answered))
@@ -295,7 +296,7 @@ module _ (clients : ℕ) (few : clients ≤ 64) (all : List Message) (once : (x 
       let less = inside r.counters (q client) own.live in
       let sets = is_later client (q client) (suc (p client)) step.correlation (λ e. omega arith) in
       let o = does now r c.message (turn_of client (q client) (suc (p client)) step.correlation)
-      (Set step.correlation (q client) (pos (suc (p client)))) sets step.says
+      (with_id step.correlation (Set (q client) (pos (suc (p client))))) sets step.says
       ∙ ap (λ refusal. done_unless refusal r step.correlation (with_value r (q client) (pos (suc (p client))))
       (value_write (q client) (pos (suc (p client))) ∷ [])) (accepted r (q client) less own.live) in
       let told = told_is all once client (suc (p client)) (q client) c step (told.Done step.correlation) known refl

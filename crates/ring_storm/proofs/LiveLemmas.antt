@@ -34,7 +34,8 @@ use Rattle.ring_counters.proofs.QueueLemmas.{count_less, count_more, count_same,
 use Rattle.ring_protocol.specs.declared.reply.Reply.{Reply}
 use Rattle.ring_protocol.specs.declared.reply.Reply.TheVariants as told
 use Rattle.ring_protocol.specs.Bad.{or_malformed}
-use Rattle.ring_protocol.specs.Command.{Instruction, Allocate, Set, HasSpelling, spelling_of, type_id_of}
+use Rattle.ring_protocol.specs.declared.command.Request.TheVariants.{Allocate, Set}
+use Rattle.ring_protocol.specs.Command.{Instruction, HasSpelling, spelling_of, type_id_of, with_id}
 use Rattle.ring_protocol.specs.Field.{◌>>=◌, ◌⊗◌, i64_at, u32_at, u64_at}
 use Rattle.ring_protocol.specs.Reading.{command_of, set_of}
 use Rattle.ring_protocol.specs.Reply as reply
@@ -146,7 +147,7 @@ module _ (count live : ℕ) (r : Registry) (h : HasLive count r live) where
 
   -- the command for a counter with a valid label is served, as long as there is one
   one_more : (now correlation : ℕ) (label : List ℕ) → text_refusal_of [] label ≡ None → live < count
-      → HasLive count (obeyed now r (Allocate correlation (pos 1) [] label)).registry (live + 1)
+      → HasLive count (obeyed now r correlation (Allocate (pos 1) [] label)).registry (live + 1)
   one_more now correlation label text room =
       let c = new_counter (pos 1) [] label correlation 0 in
       let found = gives now label text in
@@ -170,17 +171,17 @@ module _ (count live : ℕ) (r : Registry) (h : HasLive count r live) where
   -- a command to set a counter leaves the number, served or not
   none_more : (now : ℕ) (body : List ℕ) → HasLive count (obeyed_if_read now r (command_of (pos 3) body)).registry live
   unfolding command_of set_of
-  none_more now body = by ((u64_at ⊗ u32_at ⊗ i64_at) body)
+  none_more now body = by ((u64_at ⊗ (u32_at ⊗ i64_at)) body)
     where
-      of_rest : (b : Bool) (v : (ℕ × ℕ) × ℤ)
+      of_rest : (b : Bool) (v : ℕ × (ℕ × ℤ))
           → HasLive count (obeyed_if_read now r
-          (or_malformed body (if b then Some (Set v.0.0 v.0.1 v.1) else None))).registry live
-      of_rest true v = sets v.0.0 v.0.1 v.1 (id_refusal_of r v.0.1) refl
+          (or_malformed body (if b then Some (with_id v.0 (Set v.1.0 v.1.1)) else None))).registry live
+      of_rest true v = sets v.0 v.1.0 v.1.1 (id_refusal_of r v.1.0) refl
       of_rest false v = h
 
-      by : (o : Option (((ℕ × ℕ) × ℤ) × List ℕ))
+      by : (o : Option ((ℕ × (ℕ × ℤ)) × List ℕ))
           → HasLive count (obeyed_if_read now r (or_malformed body
-          (o >>= λ v. if length v.1 == 0 then Some (Set v.0.0.0 v.0.0.1 v.0.1) else None))).registry live
+          (o >>= λ v. if length v.1 == 0 then Some (with_id v.0.0 (Set v.0.1.0 v.0.1.1)) else None))).registry live
       by (Some v) = of_rest (length v.1 == 0) v.0
       by None = h
 
@@ -190,7 +191,7 @@ module _ (count live : ℕ) (r : Registry) (h : HasLive count r live) where
 abbrev pub IsAsked : Message → ℕ → Type 0
 IsAsked m asked = ((asked ≡ 0) × (m.type_id ≡ pos 3))
     ⊎ ((asked ≡ 1) × (correlation : ℕ) × (label : List ℕ) × (text_refusal_of [] label ≡ None)
-    × (command_of m.type_id m.body ≡ Ok (Allocate correlation (pos 1) [] label)))
+    × (command_of m.type_id m.body ≡ Ok (with_id correlation (Allocate (pos 1) [] label))))
 
 -- the claims are committed, and ask for this many counters
 abbrev pub Ask : List StagedClaim → ℕ → Type 0
@@ -246,17 +247,17 @@ module _ (client : ℕ) (few : client < 64) where
 
   -- the command that allocates has a spelling
   pub is_spelled : (correlation : ℕ) → correlation < 2 ^ 64
-      → HasSpelling (Allocate correlation (pos 1) [] (label_of client))
+      → HasSpelling (with_id correlation (Allocate (pos 1) [] (label_of client)))
   is_spelled correlation low =
       let label = label_of client in
       let bytes = All-weaker (λ b. b < 128) (λ b. b < 256) (λ b ascii. omega arith) label ascii_label in
       let short = short_label in
-      (low, record { sfits = omega arith }, (All-nil (λ b. b < 256), omega arith), (bytes, omega arith))
+      (low, (record { sfits = omega arith }, (All-nil (λ b. b < 256), omega arith), (bytes, omega arith)))
 
   -- it is read as it was meant
   read_again : (correlation : ℕ) → correlation < 2 ^ 64
-      → let c = Allocate correlation (pos 1) [] (label_of client) in command_of (type_id_of c) (spelling_of c) ≡ Ok c
-  read_again correlation low = command_again (Allocate correlation (pos 1) [] (label_of client))
+      → let c = with_id correlation (Allocate (pos 1) [] (label_of client)) in command_of (type_id_of c) (spelling_of c) ≡ Ok c
+  read_again correlation low = command_again (with_id correlation (Allocate (pos 1) [] (label_of client)))
       (is_spelled correlation low)
 
   abbrev asked_at : ℕ → ℕ
@@ -273,8 +274,8 @@ module _ (client : ℕ) (few : client < 64) where
       low = subst (λ n. n < 2 ^ 64) turn.heard.answers (known_correlation turn.told turn.heard.spells.has_spelling)
 
       by : (b : Bool) → turn.sent.claim.message
-          ≡ spelled (if b then Allocate (turn.draw % 2 ^ 64) (pos 1) [] (label_of client)
-          else Set (turn.draw % 2 ^ 64) old.counter (pos number)) → IsAsked turn.sent.claim.message (cond b 1 0)
+          ≡ spelled (with_id (turn.draw % 2 ^ 64) (if b then Allocate (pos 1) [] (label_of client)
+          else Set old.counter (pos number))) → IsAsked turn.sent.claim.message (cond b 1 0)
       by true e = inr (
         refl,
         turn.draw % 2 ^ 64,

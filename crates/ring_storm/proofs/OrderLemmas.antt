@@ -15,7 +15,7 @@ use Rattle.ring_board.specs.declared.shared.view.Taken.{Taken}
 use Rattle.ring_board.specs.Runs.{AreAllRuns}
 use Rattle.ring_protocol.specs.declared.reply.Reply.{Reply}
 use Rattle.ring_protocol.specs.declared.reply.Reply.TheVariants as told
-use Rattle.ring_protocol.specs.Command.{Allocate, Set}
+use Rattle.ring_protocol.specs.declared.command.Request.TheVariants.{Allocate, Set}
 use Rattle.ring_protocol.specs.Command as command
 use Rattle.ring_protocol.specs.Reply as reply
 use Rattle.ring_conductor.specs.Account.{messages_in}
@@ -96,10 +96,10 @@ module _ (client : ℕ) (few : client < 64) where
       known : turn.draw % 2 ^ 64 < 2 ^ 64
       known = subst (λ n. n < 2 ^ 64) turn.heard.answers (known_correlation turn.told turn.heard.spells.has_spelling)
 
-      by : (b : Bool) → command.HasSpelling (if b then Allocate (turn.draw % 2 ^ 64) (pos 1) [] (label_of client)
-          else Set (turn.draw % 2 ^ 64) old.counter (pos number))
+      by : (b : Bool) → command.HasSpelling (command.with_id (turn.draw % 2 ^ 64)
+          (if b then Allocate (pos 1) [] (label_of client) else Set old.counter (pos number)))
       by true = is_spelled client few (turn.draw % 2 ^ 64) known
-      by false = (known, low, record { sfits = omega arith })
+      by false = (known, (low, record { sfits = omega arith }))
 
   pub turn_says_in : (n : ℕ) (d : ClientHistory) → n ≤ 9999 → (h : AreTurns client (suc n) d)
       → let m = h.2.sent.claim.message in

@@ -18,9 +18,8 @@ use Rattle.ring_rings.specs.Joining.{Joins}
 use Rattle.ring_rings.proofs.RisingLemmas.{rising_more}
 use Rattle.ring_conductor.specs.declared.client.SendFault.{SendFault}
 use Rattle.ring_conductor.specs.declared.client.SendFault.TheVariants as fault
-use Rattle.ring_conductor.specs.declared.client.Request.{Request}
-use Rattle.ring_conductor.specs.Asking.{asked, drawn_in, IsSendable, RefusesAs, SendsAs}
-use Rattle.ring_protocol.specs.Command.{spelling_of, type_id_of}
+use Rattle.ring_conductor.specs.Asking.{drawn_in, IsSendable, RefusesAs, SendsAs}
+use Rattle.ring_protocol.specs.Command.{LentRequest as Request, asked, spelling_of, type_id_of}
 
 -- the places of the claims rise, and they end at or below the greatest end seen
 abbrev pub Risen : View → Type 0

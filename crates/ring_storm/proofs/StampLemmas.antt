@@ -21,9 +21,11 @@ use Rattle.ring_counters.specs.Views.{value_write}
 use Rattle.ring_protocol.specs.declared.reply.Reply.{Reply}
 use Rattle.ring_protocol.specs.declared.reply.Reply.TheVariants as told
 use Rattle.ring_protocol.specs.Bad.{correlation_of}
-use Rattle.ring_protocol.specs.Command.{Instruction, Allocate, AllocateOwned, Close, Free, Set}
+use Rattle.ring_protocol.specs.declared.command.Request.{Request}
+use Rattle.ring_protocol.specs.declared.command.Request.TheVariants.{Allocate, AllocateOwned, Close, Free, Set}
+use Rattle.ring_protocol.specs.Command.{Instruction}
 use Rattle.ring_protocol.specs.Command as command
-use Rattle.ring_protocol.specs.Field.{i32_field, i64_field, sized_field, u32_field, u64_at, u64_field}
+use Rattle.ring_protocol.specs.Field.{i32_field, u32_field, u64_at, u64_field}
 use Rattle.ring_protocol.specs.Reply as reply
 use Rattle.ring_protocol.proofs.ReadCommands.{spelled_again}
 use Rattle.ring_protocol.proofs.Readers.{u64_reader}
@@ -66,25 +68,9 @@ begins n rest low =
     by true front behind e = absurd cc
     by false front behind e = read_one front n behind rest e
 
-begins_two : (n : ℕ) (a b : List ℕ) → n < 2 ^ 64 → correlation_of (u64_field n ++ a ++ b) ≡ n
-begins_two n a b low = ap correlation_of (append_assoc (u64_field n) a b) ∙ begins n (a ++ b) low
-
-begins_three : (n : ℕ) (a b c : List ℕ) → n < 2 ^ 64 → correlation_of (u64_field n ++ a ++ b ++ c) ≡ n
-begins_three n a b c low = ap correlation_of (append_assoc (u64_field n ++ a) b c) ∙ begins_two n a (b ++ c) low
-
-begins_four : (n : ℕ) (a b c d : List ℕ) → n < 2 ^ 64 → correlation_of (u64_field n ++ a ++ b ++ c ++ d) ≡ n
-begins_four n a b c d low =
-    ap correlation_of (append_assoc (u64_field n ++ a ++ b) c d) ∙ begins_three n a b (c ++ d) low
-
-pub command_begins : (c : Instruction) → command.correlation_id_of c < 2 ^ 64
-    → correlation_of (command.spelling_of c) ≡ command.correlation_id_of c
-command_begins (Allocate correlation type_id key label) low =
-    begins_three correlation (i32_field type_id) (sized_field key) (sized_field label) low
-command_begins (Free correlation id) low = begins correlation (u32_field id) low
-command_begins (Set correlation id value) low = begins_two correlation (u32_field id) (i64_field value) low
-command_begins (AllocateOwned correlation type_id owner key label) low =
-    begins_four correlation (i32_field type_id) (u64_field owner) (sized_field key) (sized_field label) low
-command_begins (Close correlation owner) low = begins correlation (u64_field owner) low
+pub command_begins : (c : Instruction) → c.correlation < 2 ^ 64
+    → correlation_of (command.spelling_of c) ≡ c.correlation
+command_begins c low = begins c.correlation (command.fields_of c.request) low
 
 pub reply_begins : (r : Reply) → reply.correlation_id_of r < 2 ^ 64
     → correlation_of (reply.spelling_of r) ≡ reply.correlation_id_of r
@@ -93,13 +79,6 @@ reply_begins (told.Done correlation) low =
     ap correlation_of (sym (append-nil (u64_field correlation))) ∙ begins correlation [] low
 reply_begins (told.Refused correlation code) low = begins correlation (i32_field code) low
 reply_begins (told.Closed correlation freed) low = begins correlation (u32_field freed) low
-
-pub known_command : (c : Instruction) → command.HasSpelling c → command.correlation_id_of c < 2 ^ 64
-known_command (Allocate correlation type_id key label) h = h.0
-known_command (Free correlation id) h = h.0
-known_command (Set correlation id value) h = h.0
-known_command (AllocateOwned correlation type_id owner key label) h = h.0
-known_command (Close correlation owner) h = h.0
 
 -- Each reply belongs to its command ---------------------------------------------------
 
@@ -113,16 +92,16 @@ done_answers : (refusal : Option IdFault) (r : Registry) (correlation : ℕ) (ne
 done_answers None r correlation new writes = refl
 done_answers (Some fault) r correlation new writes = refl
 
-answers : (now : ℕ) (r : Registry) (c : Instruction)
-    → reply.correlation_id_of (obeyed now r c).reply ≡ command.correlation_id_of c
-answers now r (Allocate correlation type_id key label) =
+answers : (now : ℕ) (r : Registry) (correlation : ℕ) (asked : Request (List ℕ))
+    → reply.correlation_id_of (obeyed now r correlation asked).reply ≡ correlation
+answers now r correlation (Allocate type_id key label) =
     allocated_answers r correlation (new_counter type_id key label correlation 0) (allocation_of r now key label)
-answers now r (AllocateOwned correlation type_id owner key label) =
+answers now r correlation (AllocateOwned type_id owner key label) =
     allocated_answers r correlation (new_counter type_id key label correlation owner) (allocation_of r now key label)
-answers now r (Free correlation id) = done_answers (id_refusal_of r id) r correlation (reclaimed_in r now id) []
-answers now r (Set correlation id value) =
+answers now r correlation (Free id) = done_answers (id_refusal_of r id) r correlation (reclaimed_in r now id) []
+answers now r correlation (Set id value) =
     done_answers (id_refusal_of r id) r correlation (with_value r id value) (value_write id value ∷ [])
-answers now r (Close correlation owner) = by (owner == 0)
+answers now r correlation (Close owner) = by (owner == 0)
   where
     by : (b : Bool)
         → reply.correlation_id_of (if b then refused r correlation bad_owner_code else
@@ -142,9 +121,9 @@ IsSaid c = (c.stage ≡ Stored Committed) × (i : Instruction) × command.Spells
 reply_stamped : (now : ℕ) (r : Registry) (m : Message) (c : Instruction) → command.Spells m.type_id m.body c
     → stamp (reply_message (applied now r m).reply) ≡ stamp m
 reply_stamped now r m c said =
-    let low = known_command c said.has_spelling in
-    let same = answers now r c in
-    let reply_is = reply_begins (obeyed now r c).reply (omega arith) in
+    let low = said.has_spelling.0 in
+    let same = answers now r c.correlation c.request in
+    let reply_is = reply_begins (obeyed now r c.correlation c.request).reply (omega arith) in
     let command_is = command_begins c low in
     ap (λ x. stamp (reply_message (obeyed_if_read now r x).reply)) (spelled_again m.type_id m.body c said)
     ∙ (reply_is ∙ (same ∙ (sym command_is ∙ ap correlation_of said.spelled)))

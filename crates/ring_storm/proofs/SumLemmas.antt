@@ -18,12 +18,10 @@ use Rattle.ring_board.specs.Runs.{AreAllRuns}
 use Rattle.ring_counters.specs.declared.values.view.ValueWrite.{ValueWrite}
 use Rattle.ring_counters.specs.Counter.{Counter, unused_counter}
 use Rattle.ring_counters.specs.Registry.{Registry, count_of, counter_at, fresh_registry, ids_of, live_ids, live_of, value_at}
-use Rattle.ring_protocol.specs.Command.{Allocate, Set}
-use Rattle.ring_protocol.specs.Command as command
 use Rattle.ring_conductor.specs.Account.{Account, IsFoldOf, account_of, fresh_account, messages_in, untimed}
 use Rattle.ring_storm.specs.Storming.{sum_of, with_value_of, HasOwnCounter}
 use Rattle.ring_conductor.specs.Asking.{drawn_in}
-use Rattle.ring_storm.specs.Turns.{AreAllTurns, AreTurns, ClientHistory, label_of, last_set, turn_of}
+use Rattle.ring_storm.specs.Turns.{AreAllTurns, AreTurns, ClientHistory, last_set, turn_of}
 use Rattle.ring_layout.proofs.Sums.{total-append}
 use Rattle.ring_conductor.proofs.DrawLemmas.{all_drawn, drawn_below, draws_in, one_at_most}
 use Rattle.ring_storm.proofs.HoldLemmas.{Ends, Holds, all_done}
@@ -31,18 +29,9 @@ use Rattle.ring_storm.proofs.LiveLemmas.{HasLive, all_ask, fresh, is_live, live_
 use Rattle.ring_storm.proofs.OrderLemmas.{Has, at_first, runs_heard, turn_says_in}
 use Rattle.ring_storm.proofs.ReducedLemmas.{drawn_reduced, none_reduced, reduced, reduced-append}
 use Rattle.ring_storm.proofs.TurnLemmas.{drew_all}
-use Rattle.ring_storm.proofs.StampLemmas.{Each, IsSaid, all_stamped, command_begins, each_behind, each_interleaved, known_command, messages_by, messages_by-append, stamp, stamped, stamped_interleaved, stamps, stamps-append}
+use Rattle.ring_storm.proofs.StampLemmas.{Each, IsSaid, all_stamped, command_begins, each_behind, each_interleaved, messages_by, messages_by-append, stamp, stamped, stamped_interleaved, stamps, stamps-append}
 
 -- Correlation ids ------------------------------------------------------------------------
-
-turn_correlation : (client counter number correlation : ℕ)
-    → command.correlation_id_of (turn_of client counter number correlation) ≡ correlation
-turn_correlation client counter number correlation = by (number == 1)
-  where
-    by : (b : Bool) → command.correlation_id_of (if b then Allocate correlation (pos 1) [] (label_of client)
-        else Set correlation counter (pos number)) ≡ correlation
-    by true = refl
-    by false = refl
 
 module _ (client : ℕ) (few : client < 64) where
   -- a client's claims have its draws for correlation ids, one each
@@ -55,8 +44,7 @@ module _ (client : ℕ) (few : client < 64) where
       let c = turn_of client before.counter (suc n) (turn.draw % 2 ^ 64) in
       let here : stamp turn.sent.claim.message ≡ turn.draw % 2 ^ 64 =
       ap (λ (b : List ℕ). stamp (record { type_id = pos 0; body = b })) (sym says.spelled)
-      ∙ (command_begins c (known_command c says.has_spelling)
-      ∙ turn_correlation client before.counter (suc n) (turn.draw % 2 ^ 64)) in
+      ∙ command_begins c says.has_spelling.0 in
       let rest = own_stamped n before (omega arith) h.1 in
       ap (λ l. stamps (messages_by l)) turn.sent.added
       ∙ (ap stamps (messages_by-append before.claims (turn.sent.claim ∷ []))

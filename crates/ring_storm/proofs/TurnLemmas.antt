@@ -16,9 +16,8 @@ use Rattle.ring_conductor.specs.declared.client.Polled.{Polled}
 use Rattle.ring_conductor.specs.declared.client.Polled.TheVariants.{Answered, Another, NoReply, Nothing, Lapped}
 use Rattle.ring_conductor.specs.declared.client.SendFault.{SendFault}
 use Rattle.ring_conductor.specs.declared.client.SendFault.TheVariants as fault
-use Rattle.ring_conductor.specs.declared.client.Request.{Request}
-use Rattle.ring_conductor.specs.Asking.{asked, IsHeard, IsSendable, RefusesAs, SendsAs}
-use Rattle.ring_protocol.specs.Command.{Instruction, spelling_of, type_id_of}
+use Rattle.ring_conductor.specs.Asking.{IsHeard, IsSendable, RefusesAs, SendsAs}
+use Rattle.ring_protocol.specs.Command.{LentRequest as Request, Instruction, asked, spelling_of, type_id_of}
 use Rattle.ring_storm.specs.Turns.{Adds, AreAllTurns, AreAnswered, AreTurns, ClientHistory, Extends, Lengthens, Turns}
 
 -- Longer lists -------------------------------------------------------------------

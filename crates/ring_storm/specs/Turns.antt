@@ -15,21 +15,22 @@ use Rattle.ring_protocol.specs.declared.reply.Reply.{Reply}
 use Rattle.ring_protocol.specs.declared.reply.Reply.TheVariants.{Allocated, Done, Refused, Closed}
 use Rattle.ring_conductor.specs.declared.client.Client.{Client}
 use Rattle.ring_conductor.specs.Asking.{draws_of, producer_of, receiver_of}
-use Rattle.ring_protocol.specs.Command.{Instruction, Allocate, Set, spelling_of, type_id_of}
+use Rattle.ring_protocol.specs.declared.command.Request.{Request}
+use Rattle.ring_protocol.specs.declared.command.Request.TheVariants.{Allocate, Set}
+use Rattle.ring_protocol.specs.Command.{Instruction, spelling_of, type_id_of, with_id}
 use Rattle.ring_protocol.specs.Reply as reply
 
 -- the label of a client's counter: `c` and the client's number in decimal digits, without a leading zero
 abbrev pub label_of : ℕ → List ℕ
 label_of client = codes "c" ++ decimal client
 
--- the command with this number that asks for a counter with this label, or sets the counter with this id to the number
-abbrev pub numbered : List ℕ → ℕ → ℕ → ℕ → Instruction
-numbered label counter number correlation =
-    if number == 1 then Allocate correlation (pos 1) [] label else Set correlation counter (pos number)
+-- the request with this number, for a counter with this label, or to set the counter with this id to the number
+abbrev pub numbered : List ℕ → ℕ → ℕ → Request (List ℕ)
+numbered label counter number = if number == 1 then Allocate (pos 1) [] label else Set counter (pos number)
 
 -- a client's command: its first allocates a counter with its label, each further one sets a counter to its number
 abbrev pub turn_of : ℕ → ℕ → ℕ → ℕ → Instruction
-turn_of client counter number correlation = numbered (label_of client) counter number correlation
+turn_of client counter number correlation = with_id correlation (numbered (label_of client) counter number)
 
 -- the last number that a client sets by this many commands: none by the first alone, and its counter has 0
 abbrev pub last_set : ℕ → ℕ

@@ -3,7 +3,8 @@ ghost use Rattle.std.specs.Prelude.{◌≡◌, ℕ, ◌+◌, ◌%◌, ◌^◌, �
 ghost use Rattle.std.specs.Prelude.{IfNone, IfSome, OnSome};
 ghost use Rattle.std.specs.Bool.{OnFalse, OnTrue};
 ghost use Rattle.ring_board.specs.Seats.{IsReceiverOf};
-ghost use Rattle.ring_conductor.specs.Asking.{asked, producer_of, receiver_of};
+ghost use Rattle.ring_protocol.specs.Command.{asked, content_of_request};
+ghost use Rattle.ring_conductor.specs.Asking.{producer_of, receiver_of};
 ghost use Rattle.ring_storm.specs.Storming.{HasWorked, IsClientAt, IsClientSeat, IsNew, history_of, sent_by};
 ghost use Rattle.ring_storm.specs.Turns.{Adds, ClientHistory, Extends, IsAnswered, Lengthens, Turns};
 ghost use Rattle.ring_storm.specs.Turns.{claims_by, copies_by, draws_by, label_of, numbered};
@@ -36,8 +37,8 @@ fn label_of(client: u32) -> ([u8; 3], usize)
 
 /// What a client asks by its command with this number: the first one allocates a counter with the label, each further
 /// one sets that counter to the command's number.
-fn request_of(label: &[u8], counter: u32, number: u32) -> Request<'_>
-    ensures { (correlation : ℕ) → asked result correlation ≡ numbered label.now counter number correlation }
+fn request_of(label: &[u8], counter: u32, number: u32) -> Request<&[u8]>
+    ensures { content_of_request result ≡ numbered label.now counter number }
 {
     if number == 1 {
         Request::Allocate {
@@ -58,7 +59,7 @@ fn try_send<B: Bodies>(
     ring: &Ring<ManyToOne, B>,
     client: &mut Client,
     correlation: u64,
-    request: Request<'_>,
+    request: Request<&[u8]>,
 ) -> bool
     requires { IsClientSeat ring.now (producer_of client.old) }
     ensures seat { IsClientSeat ring.now (producer_of client.new) }
@@ -88,7 +89,7 @@ impl<G: Gate, B: Bodies> Shared<'_, G, B> {
     }
 
     /// Draws a correlation id, waits until the command with it is sent, and returns the id.
-    fn send(&self, client: &mut Client, request: Request<'_>) -> Option<u64>
+    fn send(&self, client: &mut Client, request: Request<&[u8]>) -> Option<u64>
         requires { IsClientSeat self.now.ring.now (producer_of client.old) }
         ensures seat { IsClientSeat self.now.ring.now (producer_of client.new) }
         ensures sent { IfSome result (λ correlation.

@@ -2,7 +2,8 @@
 use Rattle.std.specs.Prelude.{◌≡◌, ℕ, pos, List, [], ◌∷◌, codes}
 use Rattle.ring_layout.specs.declared.message.Message.{Message}
 use Rattle.ring_rings.specs.Ring.{IsWhole}
-use Rattle.ring_protocol.specs.Command.{Allocate}
+use Rattle.ring_protocol.specs.declared.command.Request.TheVariants.{Allocate}
+use Rattle.ring_protocol.specs.Command.{with_id}
 use Rattle.ring_protocol.specs.Reply.{correlation_id_of}
 use Rattle.ring_conductor.specs.Account.{account_of, fresh_account, reply_message}
 use Rattle.ring_conductor.specs.Fold.{at_moment}
@@ -11,7 +12,7 @@ use Rattle.ring_uses.specs.declared.reply.Answer.{Answer}
 
 -- the command that asks for a counter of type 1, with an empty key and the label `requests`
 abbrev pub request_with : ℕ → Message
-request_with correlation = command_message (Allocate correlation (pos 1) [] (codes "requests"))
+request_with correlation = command_message (with_id correlation (Allocate (pos 1) [] (codes "requests")))
 
 -- the replies to these messages, each taken at the moment 0, if four counters are fresh
 abbrev pub replies_to : List Message → List Message

@@ -33,7 +33,7 @@ pub fn ask(alloc: Global) -> anyhow::Result<Answer>
     let mut conductor = Conductor::new(consumer, transmitter, counters);
     let receiver = conductor.subscribe(alloc, &board)?;
     let mut client = Client::new(producer, receiver);
-    let request = Request::Allocate {
+    let request: Request<&[u8]> = Request::Allocate {
         type_id: 1,
         key: &[],
         label: b"requests",

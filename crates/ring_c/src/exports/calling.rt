@@ -1,5 +1,5 @@
 //! What handles of clients do.
-ghost use Rattle.ring_conductor.specs.declared.client.Request.TheVariants.{Allocate, AllocateOwned, Close, Free, Set};
+ghost use Rattle.ring_protocol.specs.declared.command.Request.TheVariants.{Allocate, AllocateOwned, Close, Free, Set};
 ghost use Rattle.ring_handles.specs.Calling.{poll_out, ClientBeat, Polled, WasSent};
 ghost use Rattle.ring_handles.specs.Kinds.{a_client};
 ghost use Rattle.ring_c.specs.Told.{Yields};

@@ -12,7 +12,8 @@ ghost use Rattle.ring_layout.specs.Places.{max_position, end_after};
 ghost use Rattle.ring_rings.specs.Seats.{consumer_view, taken_of};
 ghost use Rattle.std.specs.Prelude.{◌≡◌, ◌^◌, ◌≤◌, [], length};
 ghost use Rattle.ring_counters.specs.Manager.{registry_of, IsManagerOf};
-ghost use Rattle.ring_protocol.specs.Command.{content_of, Free as FreeOf, Set as SetOf, Close as CloseOf};
+ghost use Rattle.ring_protocol.specs.Command.{content_of};
+ghost use Rattle.ring_protocol.specs.declared.command.Request.TheVariants.{Free as FreeOf, Set as SetOf, Close as CloseOf};
 ghost use Rattle.ring_protocol.specs.declared.reply.Reply.TheVariants.{Refused};
 ghost use Rattle.ring_conductor.specs.Applied.{applied, obeyed};
 ghost use Rattle.ring_conductor.specs.Applying.{Applies, allocates};
@@ -221,7 +222,7 @@ fn allocate(
 
 fn free(counters: &mut CountersManager, now: u64, correlation: u64, id: u32) -> Reply
     requires { now ≤ 2 ^ 62 }
-    ensures { Applies (obeyed now (registry_of counters.old) (FreeOf correlation id))
+    ensures { Applies (obeyed now (registry_of counters.old) correlation (FreeOf id))
         counters.old counters.new result }
 {
     match counters.free(now, id) {
@@ -238,7 +239,7 @@ fn set(
     value: i64,
 ) -> Reply
     requires { IsManagerOf values.now counters.old }
-    ensures { Applies (obeyed 0 (registry_of counters.old) (SetOf correlation id value))
+    ensures { Applies (obeyed 0 (registry_of counters.old) correlation (SetOf id value))
         counters.old counters.new result }
 {
     match counters.set(values, id, value) {
@@ -249,7 +250,7 @@ fn set(
 
 fn close(counters: &mut CountersManager, now: u64, correlation: u64, owner: u64) -> Reply
     requires { now ≤ 2 ^ 62 }
-    ensures { Applies (obeyed now (registry_of counters.old) (CloseOf correlation owner))
+    ensures { Applies (obeyed now (registry_of counters.old) correlation (CloseOf owner))
         counters.old counters.new result }
 {
     match counters.close_owner(now, owner) {
@@ -267,8 +268,8 @@ fn obey(
 ) -> Reply
     requires values { IsManagerOf values.now counters.old }
     requires now { now ≤ 2 ^ 62 }
-    ensures { Applies (obeyed now (registry_of counters.old) (content_of command.entry))
-        counters.old counters.new result }
+    ensures { let c = content_of command.entry in
+        Applies (obeyed now (registry_of counters.old) c.correlation c.request) counters.old counters.new result }
 {
     match command {
         Command::Allocate {

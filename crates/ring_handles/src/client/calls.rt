@@ -39,7 +39,7 @@ fn number_in(reply: Reply) -> i64
 
 impl ClientSide {
     /// Makes one try to send a command, and reports its correlation id.
-    pub fn send(&mut self, request: Request<'_>, id: &mut u64) -> i32
+    pub fn send(&mut self, request: Request<&[u8]>, id: &mut u64) -> i32
         ensures { WasSent request.entry id.old id.new self.old self.new result }
     {
         match self.client.send(&self.shared.ring, request) {

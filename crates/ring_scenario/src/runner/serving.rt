@@ -1,21 +1,20 @@
 //! The calls of the conductor's side: what they print, and how commands go into the ring.
 ghost use Rattle.std.specs.Prelude.{◌≡◌, IfErr, IfOk, string_bytes, ◌↔◌, length, IfNone, IfSome, IsSome, OnOk};
-ghost use Rattle.ring_protocol.specs.Command.{content_of};
+ghost use Rattle.ring_protocol.specs.Command.{content_of_request};
 ghost use Rattle.ring_rings.specs.Seats.{capacity_of, view_of, IsProducerOf, OpensNone};
 ghost use Rattle.ring_standalone.specs.Claims.{RefusesAfter, WritesAfter};
 ghost use Rattle.ring_standalone.specs.Held.{IsFree, held_in};
-ghost use Rattle.ring_scenario.specs.Instructions.{FitsRoom, instruction_of};
 ghost use Rattle.ring_scenario.specs.ServiceTexts.{counter_text, counters_text, work_stop_text};
 ghost use Rattle.ring_scenario.specs.Keeping.{KeepsButProducer};
-ghost use Rattle.ring_scenario.specs.Serving.{RefusesRequest, SendsRequest};
+ghost use Rattle.ring_scenario.specs.Serving.{FitsRoom, RefusesRequest, SendsRequest};
 
 use crate::printer::hex_word;
 use crate::refusal::Refusal;
 use crate::runner::Runner;
 use crate::service::CommandService;
-use ring_conductor::{Command, Work, WorkStop, encode_command};
+use ring_conductor::{Request, Work, WorkStop, encode_request};
 use ring_counters::CounterInfo;
-use ring_lines::{LineFault, Moment, Request, ServiceCall};
+use ring_lines::{LineFault, Moment, ServiceCall};
 use ring_rings::{ClaimFault, ManyToOneRing, Producer};
 use std::alloc::{AllocError, Global};
 use std::sync::Wait;
@@ -38,7 +37,7 @@ impl Runner {
         self.serves = true;
         let text = match call {
             ServiceCall::Send { type_id, body } => self.send(rt, type_id, body.as_slice())?,
-            ServiceCall::Request(request) => self.request(rt, &request)?,
+            ServiceCall::Request(request) => self.request(rt, request.as_slices())?,
             ServiceCall::Work { now, limit } => self.work(now, limit)?,
             ServiceCall::Listen => self.listen()?,
             ServiceCall::Hear { number } => self.hear(number)?,
@@ -63,11 +62,11 @@ impl Runner {
         self.done(sent)
     }
 
-    fn request<R: Wait>(&mut self, rt: &R, request: &Request) -> Result<String, LineFault>
-        ensures line { IfOk result (λ text.
-            RequestsLine request.now self.old.service self.new.service (string_bytes text)) }
+    fn request<R: Wait>(&mut self, rt: &R, request: Request<&[u8]>) -> Result<String, LineFault>
+        ensures line { IfOk result (λ text. RequestsLine (content_of_request request.entry) self.old.service
+            self.new.service (string_bytes text)) }
         ensures rest { KeepsOthers self.old self.new }
-        ensures bad { IfErr result (λ fault. fault ≡ LineFault.Bad → ¬ FitsRoom request.now) }
+        ensures bad { IfErr result (λ fault. fault ≡ LineFault.Bad → ¬ FitsRoom (content_of_request request.entry)) }
     {
         let Some(sent) = self.service.request(rt, request) else {
             return Err(LineFault::Bad);
@@ -204,26 +203,27 @@ fn send_request<R: Wait>(
     rt: &R,
     ring: &ManyToOneRing,
     producer: &mut Producer,
-    request: &Request,
+    request: Request<&[u8]>,
 ) -> Option<Result<u64, ClaimFault>>
     requires { IsProducerOf ring.now producer.old }
     ensures producer { IsProducerOf ring.now producer.new }
-    ensures fits { IsSome result ↔ FitsRoom request.now }
-    ensures sent { IfSome result (λ answer. IfOk answer (λ correlation.
-        SendsRequest (capacity_of ring.now) request.now (view_of producer.old) correlation (view_of producer.new))) }
-    ensures refused { IfSome result (λ answer. IfErr answer (λ fault.
-        RefusesRequest (capacity_of ring.now) request.now (view_of producer.old) fault (view_of producer.new))) }
+    ensures fits { IsSome result ↔ FitsRoom (content_of_request request.entry) }
+    ensures sent { IfSome result (λ answer. IfOk answer (λ correlation. SendsRequest (capacity_of ring.now)
+        (content_of_request request.entry) (view_of producer.old) correlation (view_of producer.new))) }
+    ensures refused { IfSome result (λ answer. IfErr answer (λ fault. RefusesRequest (capacity_of ring.now)
+        (content_of_request request.entry) (view_of producer.old) fault (view_of producer.new))) }
     ensures none { IfNone result (producer.new ≡ producer.old) }
     ensures keeps { OpensNone ring.now producer.old producer.new }
 {
+    if request.encoded_len()? > MAX_COMMAND {
+        return None;
+    }
     let mut body = [0; MAX_COMMAND];
-    encode_command(&command(request, 0), &mut body)?;
     let correlation = ring.next_correlation_id(producer);
-    let command = command(request, correlation);
-    let Some(len) = encode_command(&command, &mut body) else {
+    let Some(len) = encode_request(correlation, request, &mut body) else {
         unreachable!()
     };
-    match write_message(rt, ring, producer, command.type_id(), &body[..len]) {
+    match write_message(rt, ring, producer, request.type_id(), &body[..len]) {
         Ok(()) => Some(Ok(correlation)),
         Err(fault) => Some(Err(fault)),
     }
@@ -245,59 +245,21 @@ impl CommandService {
     /// drawn, even if the ring refuses the command as `ManyToOneRing::write` does.
     ///
     /// Returns `None` if the command takes more than 4,096 bytes; nothing has changed then.
-    pub fn request<R: Wait>(&mut self, rt: &R, request: &Request) -> Option<Result<u64, ClaimFault>>
-        ensures fits { IsSome result ↔ FitsRoom request.now }
+    pub fn request<R: Wait>(
+        &mut self,
+        rt: &R,
+        request: Request<&[u8]>,
+    ) -> Option<Result<u64, ClaimFault>>
+        ensures fits { IsSome result ↔ FitsRoom (content_of_request request.entry) }
         ensures sent { IfSome result (λ answer. IfOk answer (λ correlation. SendsRequest
-            (capacity_of self.old.ring) request.now (view_of self.old.producer) correlation
+            (capacity_of self.old.ring) (content_of_request request.entry) (view_of self.old.producer) correlation
             (view_of self.new.producer))) }
         ensures refused { IfSome result (λ answer. IfErr answer (λ fault. RefusesRequest
-            (capacity_of self.old.ring) request.now (view_of self.old.producer) fault (view_of self.new.producer))) }
+            (capacity_of self.old.ring) (content_of_request request.entry) (view_of self.old.producer) fault
+            (view_of self.new.producer))) }
         ensures none { IfNone result (self.new.producer ≡ self.old.producer) }
         ensures rest { KeepsButProducer self.old self.new }
     {
         send_request(rt, &self.ring, &mut self.producer, request)
-    }
-}
-
-/// The command with this correlation id.
-fn command(request: &Request, correlation: u64) -> Command<'_>
-    ensures { content_of result ≡ instruction_of request.now correlation }
-{
-    match request {
-        Request::Allocate {
-            type_id,
-            key,
-            label,
-        } => Command::Allocate {
-            correlation,
-            type_id: *type_id,
-            key,
-            label,
-        },
-        Request::Free { id } => Command::Free {
-            correlation,
-            id: *id,
-        },
-        Request::Set { id, value } => Command::Set {
-            correlation,
-            id: *id,
-            value: *value,
-        },
-        Request::Own {
-            owner,
-            type_id,
-            key,
-            label,
-        } => Command::AllocateOwned {
-            correlation,
-            type_id: *type_id,
-            owner: *owner,
-            key,
-            label,
-        },
-        Request::Close { owner } => Command::Close {
-            correlation,
-            owner: *owner,
-        },
     }
 }

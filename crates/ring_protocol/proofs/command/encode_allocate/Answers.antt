@@ -1,5 +1,5 @@
 use Rattle.std.proofs.Common.{arith, refl}
-use Rattle.ring_protocol.specs.Command.{Allocate}
+use Rattle.ring_protocol.specs.Command.{Allocate, with_id}
 use Rattle.ring_protocol.specs.Field.{IsSized}
 use Rattle.ring_protocol.proofs.Written.{encodes, are_bytes, is_u64, is_i32, allocate_text}
 use Rattle.ring_protocol.proofs.command.encode_allocate.Goals as goal
@@ -13,9 +13,9 @@ returns c =
       c.in_ok-len_field-2.ensures.fits.0
           refl,
     ) in
-    encodes (Allocate c.args.correlation c.args.type_id c.args.key.now c.args.label.now) _ _ _ _
+    encodes (with_id c.args.correlation (Allocate c.args.type_id c.args.key.now c.args.label.now)) _ _ _ _
     (key.1, label.1)
-    (c.ranges.correlation.fits, c.ranges.type_id, key, label)
+    (c.ranges.correlation.fits, (c.ranges.type_id, key, label))
     (allocate_text c.args.correlation c.args.type_id c.args.key.now c.args.label.now _ _ _ _
     (is_u64 _ _ c.to_le_bytes.ensures) (is_i32 _ _ c.ranges.type_id c.to_le_bytes-2.ensures)
     c.in_ok-len_field.ensures.len c.in_ok-len_field-2.ensures.len)

@@ -1,38 +1,37 @@
 use Rattle.std.proofs.Common.{◌∙◌, refl, ap, length}
 use Rattle.ring_rings.specs.Claiming.{RefusesTry, Writes}
-use Rattle.ring_conductor.proofs.AskingLemmas.{too_long, encoded, spelled, of_type, written_as, refused_as}
+use Rattle.ring_protocol.proofs.Written.{command_bytes}
+use Rattle.ring_conductor.proofs.AskingLemmas.{too_long, encoded, of_type, written_as, refused_as}
 use Rattle.ring_conductor.proofs.ServiceLemmas.{sends_command}
 use Rattle.ring_conductor.proofs.client.Client.send_as.Goals as goal
 
 pub returns-in_default-clause-refused : goal.returns-in_default-clause-refused
-returns-in_default-clause-refused g c =
-    let is = c.with_correlation-command.ensures in (
-      too_long c.args.request c.args.correlation _ _ _ _ is
-          (ap length c.as_mut_slice.ensures.value ∙ c.args.self.now.wide) c.encode_command.ensures c.in_default.is,
-      refl,
-    )
+returns-in_default-clause-refused g c = (
+  too_long c.args.request c.args.correlation _ _ _ (ap length c.as_mut_slice.ensures.value ∙ c.args.self.now.wide)
+      c.encode_request.ensures c.in_default.is,
+  refl,
+)
 
 pub returns-in-Ok-clause-sent : goal.returns-in-Ok-clause-sent
-returns-in-Ok-clause-sent g c =
-    let is = c.with_correlation-command.ensures in let r = c.args.request in let a = c.args.correlation in (
-      encoded r a _ _ _ _ is (ap length c.as_mut_slice.ensures.value ∙ c.args.self.now.wide) c.in-Some.ensures,
-      written_as (Writes g.K.Kind.many) _ _ _ _ _ _ _ (of_type _ _ _ is c.type_id.ensures)
-          (spelled _ _ _ _ _ is c.in-Some.ensures) c.in-Ok.ensures.written,
-    )
+returns-in-Ok-clause-sent g c = (
+  encoded c.args.request c.args.correlation _ _ _ (ap length c.as_mut_slice.ensures.value ∙ c.args.self.now.wide)
+      c.in-Some.ensures,
+  written_as (Writes g.K.Kind.many) _ _ _ _ _ _ _ (of_type _ _ c.type_id.ensures)
+      (command_bytes _ _ _ _ c.in-Some.ensures) c.in-Ok.ensures.written,
+)
 
 pub returns-in-Err-clause-refused : goal.returns-in-Err-clause-refused
-returns-in-Err-clause-refused g c =
-    let is = c.with_correlation-command.ensures in let r = c.args.request in let a = c.args.correlation in (
-      encoded r a _ _ _ _ is (ap length c.as_mut_slice.ensures.value ∙ c.args.self.now.wide) c.in-Some.ensures,
-      refl,
-      refused_as (RefusesTry g.K.Kind.many) _ _ _ _ _ _ _ _ (of_type _ _ _ is c.type_id.ensures)
-          (ap length (spelled _ _ _ _ _ is c.in-Some.ensures)) c.in-Err.ensures.refused,
-    )
+returns-in-Err-clause-refused g c = (
+  encoded c.args.request c.args.correlation _ _ _ (ap length c.as_mut_slice.ensures.value ∙ c.args.self.now.wide)
+      c.in-Some.ensures,
+  refl,
+  refused_as (RefusesTry g.K.Kind.many) _ _ _ _ _ _ _ _ (of_type _ _ c.type_id.ensures)
+      (ap length (command_bytes _ _ _ _ c.in-Some.ensures)) c.in-Err.ensures.refused,
+)
 
 pub returns-in-Ok-clause-sends : goal.returns-in-Ok-clause-sends
-returns-in-Ok-clause-sends g c =
-    let is = c.with_correlation-command.ensures in (
-      sends_command _ _ _ _ _ (of_type _ _ _ is c.type_id.ensures) (spelled _ _ _ _ _ is c.in-Some.ensures)
-          c.in-Ok.ensures.sent.0,
-      tt,
-    )
+returns-in-Ok-clause-sends g c = (
+  sends_command _ _ _ _ _ (of_type _ _ c.type_id.ensures) (command_bytes _ _ _ _ c.in-Some.ensures)
+      c.in-Ok.ensures.sent.0,
+  tt,
+)
