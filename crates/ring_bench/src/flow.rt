@@ -1,5 +1,5 @@
 //! Messages from producers to the consumer, each on a thread of its own.
-ghost use Rattle.std.specs.Prelude.{◌≡◌, All, IfOk, IsTrue};
+ghost use Rattle.std.specs.Prelude.{◌≡◌, All, IfOk};
 ghost use Rattle.std.specs.Thread.{IsSync};
 ghost use Rattle.ring_rings.specs.Seats.{IsConsumerOf, IsProducerOf, MayClaim};
 

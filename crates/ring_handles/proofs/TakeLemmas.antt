@@ -1,5 +1,5 @@
 -- A controlled read of one message that is taken and not copied.
-use Rattle.std.proofs.Common.{◌≡◌, ◌+◌, ◌⊎◌, inl, inr, ℕ, List, [], ◌∷◌, ◌++◌, ℤ, pos, arith, sym, ap, ◌∙◌, subst}
+use Rattle.std.proofs.Common.{◌≡◌, ◌+◌, inl, inr, ℕ, List, [], ◌∷◌, ◌++◌, ℤ, pos, arith, sym, ap, ◌∙◌, subst}
 use Rattle.ring_layout.specs.declared.message.Message.{Message}
 use Rattle.ring_words.specs.declared.read.action.Action.{Action}
 use Rattle.ring_words.specs.declared.read.action.Action.TheVariants.{Abort, Break}

@@ -1,6 +1,5 @@
 -- Two producers put together.
-use Rattle.std.proofs.Common.{◌≡◌, ℕ, suc, ◌+◌, ◌^◌, ◌<◌, ◌≤◌, List, [], ◌∷◌, ◌++◌, length, max, refl, sym, ap, ◌∙◌, subst, arith}
-use Rattle.ring_layout.specs.Layout.{tail_index}
+use Rattle.std.proofs.Common.{◌≡◌, ℕ, suc, ◌+◌, ◌^◌, ◌<◌, ◌≤◌, List, [], ◌∷◌, length, refl, sym, ap, ◌∙◌, subst, arith}
 use Rattle.ring_table.specs.declared.claim.StagedClaim.{StagedClaim}
 use Rattle.ring_table.specs.declared.view.View.{View}
 use Rattle.ring_table.specs.Staged.{AreRising, AreStored, claim_end}
@@ -9,7 +8,6 @@ use Rattle.ring_table.specs.OpenClaims.{open_count}
 use Rattle.ring_table.specs.Views.{with_producer_of}
 use Rattle.ring_table.specs.ProducerSteps.{EndBelow, LoadsTail}
 use Rattle.ring_table.proofs.LawLemmas.{open_count-interleaved}
-use Rattle.ring_rings.specs.Joining.{Joins}
 use Rattle.ring_rings.specs.Matching.{Matches}
 use Rattle.ring_rings.proofs.CountLemmas.{open_few, stored_interleaved}
 

@@ -1,13 +1,11 @@
 -- What a write or a refused try leaves of a producer's view.
-use Rattle.std.proofs.Common.{Bool, true, false, Result, Ok, Err, OnOk, IfErr, ◌≡◌, ◌∙◌, ℕ, ℤ, List, [], ◌∷◌, ◌++◌, length, refl, ap, inl, inr, arith}
+use Rattle.std.proofs.Common.{Bool, ◌≡◌, ◌∙◌, ℕ, ℤ, List, [], ◌∷◌, ◌++◌, refl, ap, inl, inr, arith}
 use Rattle.ring_words.specs.declared.fault.ClaimFault.{ClaimFault}
 use Rattle.ring_table.specs.declared.claim.StagedClaim.{StagedClaim}
 use Rattle.ring_table.specs.declared.view.View.{View}
 use Rattle.ring_table.specs.OpenClaims.{open_count}
 use Rattle.ring_table.specs.Views.{with_claim}
-use Rattle.ring_rings.specs.Claiming.{Refuses, RefusesTry, Writes, looked, record_behind}
-use Rattle.ring_rings.specs.declared.fault.TryFault.{TryFault}
-use Rattle.ring_rings.specs.declared.fault.TryFault.TheVariants.{Refused, Contended}
+use Rattle.ring_rings.specs.Claiming.{Refuses, looked}
 use Rattle.ring_rings.proofs.CountLemmas.{open_count-more}
 
 -- shares and claims stay

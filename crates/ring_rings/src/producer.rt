@@ -8,7 +8,7 @@ pub(crate) mod settle;
 pub(crate) mod try_once;
 pub(crate) mod wait;
 
-ghost use Rattle.std.specs.Prelude.{◌≡◌, IfOk, OnErr};
+ghost use Rattle.std.specs.Prelude.{◌≡◌};
 ghost use Rattle.ring_rings.specs.Seats.{open_claims_of, shares_of};
 
 use crate::ring::Producer;

@@ -1,5 +1,5 @@
 //! A ring, its producers and its consumer.
-ghost use Rattle.std.specs.Prelude.{◌≡◌, ℕ, ◌%◌, ◌/◌, ◌^◌, ◌<◌, ◌≤◌, [], vec_len, true, false};
+ghost use Rattle.std.specs.Prelude.{◌≡◌, ◌%◌, ◌/◌, ◌<◌, ◌≤◌, [], vec_len, true, false};
 ghost use Rattle.ring_layout.specs.Places.{IsCapacity, max_position};
 ghost use Rattle.ring_layout.specs.Layout.{ring_words};
 ghost use Rattle.ring_rings.specs.Matching.{Matches, matches_prop};

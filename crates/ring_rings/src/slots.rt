@@ -1,17 +1,9 @@
 //! The steps of a ring whose bodies lie in slots, which one seat at a time reads and writes as plain memory. Headers and
 //! the trailer are words.
-ghost use Rattle.std.specs.Prelude.{◌≡◌, ℕ, ◌+◌, ◌/◌, ◌%◌, ◌≤◌, ◌<◌, List, [], ◌∷◌, ◌++◌, length};
-ghost use Rattle.ring_layout.specs.History.{IsMessage};
-ghost use Rattle.ring_layout.specs.Places.{max_position};
-ghost use Rattle.ring_table.specs.declared.claim.PlacedMessage.{PlacedMessage};
-ghost use Rattle.ring_table.specs.declared.claim.StagedClaim.{StagedClaim};
-ghost use Rattle.ring_table.specs.Changes.{blank, recorded};
-ghost use Rattle.ring_table.specs.ProducerSteps.{HasClaimAt};
-ghost use Rattle.ring_table.specs.Seats.{IsSameSeat, IsSeatOf};
-ghost use Rattle.ring_table.specs.SlotSteps.{IsOpenOf};
-ghost use Rattle.ring_table.specs.Views.{cleared_to, with_claims, with_consumer};
-ghost use Rattle.ring_rings.specs.Bodies.{HasPaddedLast, IsPaddedLast, PutsBytes};
-ghost use Rattle.ring_rings.specs.ReadingSteps.{CopiesBody, HasBodyAt, HasGotLast, HasLastAt, IsReaderSeatOf, OnlyLoads};
+ghost use Rattle.std.specs.Prelude.{◌≡◌, ◌+◌, ◌/◌, ◌%◌, ◌≤◌, ◌<◌};
+ghost use Rattle.ring_table.specs.Seats.{IsSameSeat};
+ghost use Rattle.ring_table.specs.Views.{cleared_to, with_consumer};
+ghost use Rattle.ring_rings.specs.ReadingSteps.{IsReaderSeatOf};
 
 use crate::bodies::Bodies;
 use atomic_table::Closed;

@@ -1,12 +1,12 @@
 //! What a conductor needs of a ring, whatever its kind.
-ghost use Rattle.std.specs.Prelude.{◌≡◌, ◌⊎◌, ℕ, ◌+◌, ◌≤◌, IfOk};
+ghost use Rattle.std.specs.Prelude.{◌≡◌, ◌⊎◌, ℕ, IfOk};
 ghost use Rattle.ring_table.specs.Views.{with_beat};
 ghost use Rattle.ring_rings.specs.declared.ring.Consumer.{Consumer as TheConsumer};
 ghost use Rattle.ring_rings.specs.declared.ring.Producer.{Producer as TheProducer};
 ghost use Rattle.ring_rings.specs.Closing.{close_refusal_of, kept_open, HandsOut, IsRefusedAs, Serves};
 ghost use Rattle.ring_rings.specs.Reading.{Controls, EndsAt};
 ghost use Rattle.ring_rings.specs.Ring.{received, sent, IsWhole, Leaves, Receives};
-ghost use Rattle.ring_rings.specs.Seats.{capacity_of, consumer_view, head_of, open_claims_of, shares_of, start_of};
+ghost use Rattle.ring_rings.specs.Seats.{capacity_of, consumer_view, open_claims_of, shares_of, start_of};
 ghost use Rattle.ring_rings.specs.Seats.{view_of, IsConsumerOf, IsProducerOf, IsSameConsumer};
 
 use crate::bodies::Bodies;

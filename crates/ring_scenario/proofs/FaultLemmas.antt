@@ -1,14 +1,10 @@
 -- Which faults come from a line.
-use Rattle.std.proofs.Common.{◌≡◌, ◌≢◌, ℕ, Bool, true, false, if◌then◌else◌, None, Some, refl, sym, subst}
-use Rattle.ring_counters.specs.Registry.{make_refusal_of}
-use Rattle.std.specs.Prelude.{is_none}
+use Rattle.std.proofs.Common.{◌≡◌, ℕ, sym, subst}
 use Rattle.ring_lines.specs.declared.fault.LineFault.{LineFault}
 use Rattle.ring_lines.specs.declared.fault.LineFault.TheVariants as line
 use Rattle.ring_scenario.specs.declared.fault.RunFault.{RunFault}
 use Rattle.ring_scenario.specs.declared.fault.RunFault.TheVariants.{BadCapacity, OutOfMemory, BadCount, BadLine, InputUnread, InputTooLong, OutputUnwritten}
-use Rattle.ring_scenario.specs.declared.options.Options.{Options}
-use Rattle.ring_scenario.specs.Faults.{IsOfWriting, OfLine, fault_at}
-use Rattle.ring_scenario.specs.Sizes.{are_capacities, size_fault_of}
+use Rattle.ring_scenario.specs.Faults.{OfLine, fault_at}
 
 pub of_line_weaker : (P Q : ℕ → Type 0) → ((n : ℕ) → P n → Q n) → (fault : RunFault) → OfLine P fault → OfLine Q fault
 of_line_weaker P Q f BadCapacity h = tt

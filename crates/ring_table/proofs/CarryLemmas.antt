@@ -6,7 +6,7 @@ use native.Mathlib.Decide.{ℕ_discrete}
 use lib.ListN.{get_elem?}
 use Rattle.std.proofs.lemmas.Bool.{false≢true}
 use Rattle.atomic_table.specs.Table.{State, carried_after, keeps, Allows, Splits, Joins}
-use Rattle.ring_table.specs.Staged.{Bodies, in_words, elsewhere, StagedClaim, Stage, IsStored, AreRising}
+use Rattle.ring_table.specs.Staged.{Bodies, in_words, elsewhere, StagedClaim, IsStored, AreRising}
 use Rattle.ring_table.specs.Changes.{changed, changed_at, fresh_stage}
 use Rattle.ring_table.specs.Owners.{insert_claim, interleaved}
 use Rattle.ring_table.specs.Views.{View, without_consumer, consumer_alone, with_consumer_of, without_share, producer_alone, with_producer_of, with_claims, with_claim, spent}
@@ -17,7 +17,7 @@ use Rattle.ring_table.proofs.ListLemmas.{at_more}
 use Rattle.ring_table.proofs.HistoryLemmas.{changed_at_place, changed_at_other}
 use Rattle.ring_table.proofs.LawLemmas.{above_at}
 use Rattle.ring_table.proofs.LoadLemmas.{Ok}
-use Rattle.ring_table.proofs.ShelfLemmas.{IsAsWas, HasWas, Carries, CarriesOn, CarriesIn, CarriesBoth, stepped_shelf, parted_shelf, met_shelf}
+use Rattle.ring_table.proofs.ShelfLemmas.{IsAsWas, HasWas, CarriesOn, CarriesIn, stepped_shelf, parted_shelf, met_shelf}
 
 -- ---- views
 

@@ -1,5 +1,5 @@
 -- A closed ring whose bodies lie in slots: its parts, and the words that are made of them.
-use Rattle.std.proofs.Common.{◌≡◌, ℕ, zero, suc, ◌+◌, ◌-◌, ◌*◌, ◌≤◌, ◌<◌, ◌⊎◌, List, [], ◌∷◌, cond, true, sym, ap, ◌∙◌, subst, ⊎_elim, le-ltb, arith}
+use Rattle.std.proofs.Common.{◌≡◌, ℕ, zero, suc, ◌+◌, ◌-◌, ◌*◌, ◌≤◌, ◌<◌, ◌⊎◌, List, [], ◌∷◌, cond, sym, ap, ◌∙◌, subst, ⊎_elim, le-ltb, arith}
 use mathlib.Core.Option.{Option, some, some-injective, some-ne-none}
 use mathlib.Core.Logic.{dite}
 use native.Mathlib.Decide.{ℕ_discrete}
@@ -7,10 +7,8 @@ use lib.ListN.{get_elem?}
 use Rattle.std.proofs.lemmas.Bool.{cases_lt}
 use Rattle.ring_layout.specs.Layout.{ring_words, tail_index, head_cache_index, head_index, correlation_index, heartbeat_index}
 use Rattle.ring_layout.specs.Places.{IsCapacity, index}
-use Rattle.ring_layout.specs.Refusals.{all_shares}
 use Rattle.ring_table.specs.Staged.{in_words, elsewhere, StagedClaim, PlacedMessage, staged_end, staged_word_at}
 use Rattle.ring_table.specs.Owners.{OwnedHistory, all_of}
-use Rattle.ring_table.specs.OpenClaims.{open_count}
 use Rattle.ring_table.specs.Passing.{IsSettled, AreSettled}
 use Rattle.ring_table.specs.Views.{View}
 use Rattle.ring_table.specs.ProducerSteps.{HasClaim}

@@ -11,7 +11,7 @@ use Rattle.ring_layout.proofs.WordBytes.{from_le_bytes-same, byte_of_word, byte_
 use Rattle.ring_table.specs.Ranges.{numbered, values_of}
 use Rattle.ring_table.proofs.RangeLemmas.{first_of_some, turned_on, values_numbered}
 use Rattle.ring_table.specs.Staged.{body_word}
-use Rattle.ring_table.specs.SlotSteps.{AreWordsOf, HasBody, HasSlots, words_of}
+use Rattle.ring_table.specs.SlotSteps.{AreWordsOf, HasBody, words_of}
 use Rattle.ring_layout.specs.History.{overwritten}
 use Rattle.std.proofs.Common.{append_assoc}
 use Rattle.ring_table.specs.Filling.{Begins, Copying, Filling}

@@ -27,7 +27,7 @@ pub use laws::{
     stored_claims_show_one_picture,
 };
 pub use mode::{InSlots, InWords, Mode};
-pub use picture::{show_slots, copy_words};
+pub use picture::{copy_words, show_slots};
 pub use putting::put_slots;
 pub use rule::RingRule;
 pub use steps::consumer::{

@@ -1,12 +1,9 @@
 -- What a branch of a read knows by its test.
-use Rattle.std.proofs.Common.{◌≡◌, ◌≢◌, ℕ, ◌-◌, ◌%◌, ◌<◌, refl, ap, sym, ◌∙◌, arith, inl, inr, ℤ, FitsSigned, to_z, of_z, nat_lt, ◌&&◌, ◌==◌, false}
+use Rattle.std.proofs.Common.{◌≡◌, ◌≢◌, ℕ, ◌-◌, ◌%◌, ◌<◌, ap, sym, ◌∙◌, arith, inl, inr, ℤ, FitsSigned, to_z, of_z, nat_lt, ◌&&◌, ◌==◌, false}
 use Rattle.std.specs.Int.{w32}
 use Rattle.std.proofs.lemmas.Int.{to_z-of_z}
 use Rattle.std.proofs.lemmas.Bool.{and_cases, ltb-false, eqb-false}
-use Rattle.ring_words.specs.declared.read.action.Action.{Action}
 use Rattle.ring_layout.specs.Headers.{padding_type}
-use Rattle.ring_words.specs.Controlled.{GoesOn}
-use Rattle.ring_words.specs.declared.read.action.Action.TheVariants.{Abort, Break, Commit, Continue}
 
 -- what the test for the end of the buffer says
 pub inside_from : (C start head : ℕ) → (nat_lt start head && (head % C == 0)) ≡ false → start < head → head % C ≢ 0

@@ -10,7 +10,7 @@ ghost use Rattle.ring_layout.specs.History.{span};
 ghost use Rattle.ring_layout.specs.Lists.{Begins};
 ghost use Rattle.ring_layout.specs.Places.{max_position, end_after};
 ghost use Rattle.ring_rings.specs.Seats.{consumer_view, taken_of};
-ghost use Rattle.std.specs.Prelude.{◌≡◌, ◌^◌, ◌≤◌, [], length};
+ghost use Rattle.std.specs.Prelude.{◌≡◌, ◌^◌, ◌≤◌, []};
 ghost use Rattle.ring_counters.specs.Manager.{registry_of, IsManagerOf};
 ghost use Rattle.ring_protocol.specs.Command.{content_of};
 ghost use Rattle.ring_protocol.specs.declared.command.Request.TheVariants.{Free as FreeOf, Set as SetOf, Close as CloseOf};

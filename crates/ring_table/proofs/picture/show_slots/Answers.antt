@@ -2,7 +2,7 @@ use Rattle.std.proofs.Common.{◌≡◌, ℕ, ◌-◌, ◌*◌, List, length, sy
 use Rattle.std.specs.Slots.{slots_items}
 use Rattle.ring_layout.specs.Layout.{ring_words}
 use Rattle.ring_table.specs.declared.view.Key.{Key}
-use Rattle.ring_table.specs.Closed.{IsClosed, IsLeft}
+use Rattle.ring_table.specs.Closed.{IsClosed}
 use Rattle.ring_table.specs.Rule.{Kept}
 use Rattle.ring_table.specs.Shelf.{IsShelf}
 use Rattle.ring_table.specs.Staged.{elsewhere}
