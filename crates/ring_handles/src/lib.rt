@@ -3,7 +3,8 @@
 //!
 //! - `handle`, `held`, `loose`: what such a program keeps, and what it can be. `identity`: what distinguishes two
 //!   rings. `code`: what calls return. `opening`: what is made for handles.
-//! - `producer`, `claims`, `open_claims`, `consumer`, `copying`, `taking`, `batch`, `closing`, `ring`: handles of a ring.
+//! - `producer`, `claims`, `open_claims`, `consumer`, `copying`, `taking`, `batch`, `closing`, `ring`: handles of a
+//!   ring.
 //! - `boards`, `raw`, `board_ending`: handles of a broadcast buffer. `counters`, `counting`, `reading`: of counters and
 //!   their readers.
 //! - `conductor`, `client`, `lending`, `finishing`: a conductor, its clients, and what it lends.

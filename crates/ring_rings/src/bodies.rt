@@ -40,8 +40,8 @@ pub trait Bodies: Mode {
         ensures seat { IfOk result (λ t. t.1.table_id ≡ t.0.shared.table_id) }
         ensures view { IfOk result (λ t. t.1.me ≡ (first_view key, [])) };
 
-    /// Stores the header of a claim of `len` bytes, its length negated. The claim is open from then on, with zeros for its
-    /// bytes.
+    /// Stores the header of a claim of `len` bytes, its length negated. The claim is open from then on, with zeros for
+    /// its bytes.
     fn store_claimed_header(
         words: &SharedRing<Self>,
         producer: &mut RingSeat,
@@ -53,7 +53,8 @@ pub trait Bodies: Mode {
         requires message { IsMessage capacity (blank wanted.type_id wanted.len) }
         requires claim { HasClaimAt producer.old.me.0 place (NeedsHeader wanted.len) }
         ensures seat { IsSameSeat producer.old producer.new }
-        ensures view { producer.new.me.0 ≡ with_changed place (with_header wanted.type_id wanted.len) producer.old.me.0 }
+        ensures view { producer.new.me.0
+            ≡ with_changed place (with_header wanted.type_id wanted.len) producer.old.me.0 }
         ensures rising { AreRising producer.old.me.0.producer.claims };
 
     /// Stores the header and the whole body of the newest claim, and commits it.

@@ -26,8 +26,8 @@ pub struct Ring<K, B: Bodies = InWords> {
     pub(crate) capacity: u32,
     pub(crate) kind: PhantomData<K>,
     ghost key: { table.shared.key.capacity ≡ capacity },
-    ghost wide: { (table.shared.table_id.words ≡ ring_words capacity) × (table.shared.table_id.slots ≡ B.slots_for capacity)
-        × (vec_len room ≡ ring_words capacity) },
+    ghost wide: { (table.shared.table_id.words ≡ ring_words capacity)
+        × (table.shared.table_id.slots ≡ B.slots_for capacity) × (vec_len room ≡ ring_words capacity) },
     ghost lawful: { IsCapacity capacity },
 }
 
@@ -47,8 +47,8 @@ pub type PlainRing<K> = Ring<K, InSlots>;
 
 /// A ring with one producer whose bodies lie in plain memory.
 ///
-/// It has the calls of a `OneToOneRing`, and a body costs about what copying it costs. It takes the memory of its buffer
-/// once more, since headers and bodies lie apart, and has the format of a ring only once it is closed.
+/// It has the calls of a `OneToOneRing`, and a body costs about what copying it costs. It takes the memory of its
+/// buffer once more, since headers and bodies lie apart, and has the format of a ring only once it is closed.
 pub type PlainOneToOneRing = PlainRing<OneToOne>;
 
 /// A ring with any number of producers whose bodies lie in plain memory, as in a `PlainOneToOneRing`.

@@ -1,5 +1,5 @@
-//! The steps of a ring whose bodies lie in slots, which one seat at a time reads and writes as plain memory. Headers and
-//! the trailer are words.
+//! The steps of a ring whose bodies lie in slots, which one seat at a time reads and writes as plain memory. Headers
+//! and the trailer are words.
 ghost use Rattle.std.specs.Prelude.{◌≡◌, ◌+◌, ◌/◌, ◌%◌, ◌≤◌, ◌<◌};
 ghost use Rattle.ring_table.specs.Seats.{IsSameSeat};
 ghost use Rattle.ring_table.specs.Views.{cleared_to, with_consumer};
@@ -15,8 +15,8 @@ use ring_table::{
 };
 use std::alloc::{AllocError, Global};
 
-/// Clears what the read has passed from the position `at` on: a message's record that ends at or below `to`, or otherwise one
-/// word. Returns where that ends.
+/// Clears what the read has passed from the position `at` on: a message's record that ends at or below `to`, or
+/// otherwise one word. Returns the end of that.
 #[inline(always)]
 fn clear_next(
     slots: &SharedRing<InSlots>,
