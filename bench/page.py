@@ -3,9 +3,10 @@
 
   bench/page.py                        docs/PERFORMANCE.md, its pictures, bench/RESULTS.md and the rows in README.md
   bench/page.py --check                writes nothing: says what would change, with status 1 if anything would
-  bench/page.py --keep RUN SET.. [--twins TEXT]
-                                       first keeps sets of `bench/run --json SET` as the run RUN: `sets`, or `queues` or
-                                       `felter` if other queues or the calls of felter.h were measured apart
+  bench/page.py --keep RUN FILE.. [--twins TEXT]
+                                       first keeps the sets of `bench/run --json FILE` as the run RUN: `sets`, or
+                                       `queues` or `felter` if other queues or the calls of felter.h were measured
+                                       apart. Three gated sets are needed; a row that one of them has not is left out
   bench/page.py --forget RUN           first drops what was kept as queues or felter
 """
 import argparse
@@ -18,8 +19,8 @@ sys.dont_write_bytecode = True
 sys.path.insert(0, os.path.dirname(os.path.abspath(__file__)))
 import pictures
 import results
-from rows import (C_LENGTH_ROWS, C_ROWS, CURVES, FORM_ROWS, LENGTH_ROWS, OTHER_ROWS, PERCENTILES, README_ROWS, SECTIONS,
-                  USER_QUEUES, USER_ROWS, twin_of)
+from rows import (BROADCAST_ROWS, C_LENGTH_ROWS, C_ROWS, CURVES, FORM_ROWS, LENGTH_ROWS, OTHER_ROWS, README_QUEUES,
+                  RATIOS, README_ROWS, SECTIONS, USER_QUEUES, USER_ROWS, twin_of)
 
 TOP = os.path.dirname(os.path.dirname(os.path.abspath(__file__)))
 NONE = "–"
@@ -29,6 +30,12 @@ def number(value):
     if value is None:
         return NONE
     return f"{value:,.0f}" if value >= 1000 else f"{value:.3g}"
+
+
+def nanos(run, *key):
+    """A figure in nanoseconds, with the least and the greatest median of a set."""
+    spread = run.spread(*key)
+    return number(run.ns(*key)) + (f" ({number(spread[0])}–{number(spread[1])})" if spread else "")
 
 
 def times(found):
@@ -49,16 +56,34 @@ def table(head, lines):
         yield "| " + " | ".join(cells) + " |"
 
 
+def used_columns(head, lines):
+    """A table without the columns that have no figure in any line."""
+    kept = [k for k in range(len(head)) if k == 0 or any(cells[k] != NONE for cells in lines)]
+    return table([head[k] for k in kept], [[cells[k] for k in kept] for cells in lines])
+
+
+def gated(it):
+    """How sets were gated, or that they were not."""
+    if not it.get("gated"):
+        return " The sets were not gated by the speed of the processors, so rows may be off by a third or more."
+    best, two = ", ".join(f"{best:.3f}" for best in it["best"]), it["processors"][:2]
+    shares = any(set(two) <= set(core) for core in it["shared_cores"])
+    where = "which share a core" if shares else "on cores of their own"
+    return (f" Two threads had the processors {two[0]} and {two[1]}, {where}. An add took {best} ns at best in each "
+            f"set, and at most {it['margin']:.0%} more beside each "
+            f"measurement; {sum(it['repeated'])} tries did not count.")
+
+
 def about(run, what):
     it = run.about
     others = ", ".join(f"{median:g} and {worst:g}" for median, worst in it["others"])
     steal = ", ".join(f"{median:g} and {worst:g}" for median, worst in it["steal"])
     sets = f"{it['sets']} sets" if it["sets"] > 1 else "one set"
     fifo = ", with `--fifo`" if it["fifo"] else ""
-    words = (f"{what}: {it['cpu']}, {it['cores']} processors, a virtual machine, Linux {it['kernel']}; {sets} of "
-             f"{it['reps']} rounds{fifo}; twins: {it['twins']}. Processors that other programs used in each set, "
-             f"median and worst: {others}; that the host took: {steal}.")
-    return textwrap.fill(words, 120).split("\n")
+    said = (f"{what}: {it['cpu']}, {it['cores']} processors, a virtual machine, Linux {it['kernel']}; {sets} of "
+             f"{it['reps']} rounds{fifo}; twins: {it['twins']}. Other programs used this many processors, in the "
+             f"median and at worst, set by set: {others}. The host took this many: {steal}." + gated(it))
+    return textwrap.fill(said, 120).split("\n")
 
 
 def measured(run, rows):
@@ -77,7 +102,7 @@ def user_cells(runs, row):
     label, point, ours, queues = row
     workload, size, threads, metric = point
     twin = twin_of(ours) + "-ar"
-    cells = [label, number(runs["sets"].ns(workload, ours, size, threads, metric)),
+    cells = [label, nanos(runs["sets"], workload, ours, size, threads, metric),
              times(runs["sets"].against(twin, workload, ours, size, threads, metric))]
     in_words = ours.replace("plain", "ours")
     found = in_words != ours and runs["sets"].against(twin, workload, in_words, size, threads, metric)
@@ -94,8 +119,29 @@ def users(runs):
     if "queues" in runs:
         yield from about(runs["queues"], "Queues")
         yield ""
-    yield from table(["times `ar`", "ours, ns", "ours", "bodies in words", *(title for _, title in USER_QUEUES)],
-                     [user_cells(runs, row) for row in USER_ROWS])
+    head = ["times `ar`", "ours, ns", "ours", "ours, bodies in words", *(title for _, title in USER_QUEUES)]
+    lines = [user_cells(runs, row) for row in USER_ROWS]
+    if all(cells[head.index("rtrb's way")] == NONE for cells in lines):
+        yield "rtrb was not measured."
+    else:
+        yield "`rtrb's way` is a twin in C that does what rtrb does. rtrb itself was not measured."
+    yield ""
+    yield from used_columns(head, lines)
+
+
+def broadcast_cells(runs, row):
+    """A contender of a broadcast: its time, and which part of what was transmitted a receiver copied."""
+    label, who, size = row
+    key = ("broadcast", who, size, 2, "ns")
+    run = next((it for it in (runs["sets"], runs.get("queues")) if it and it.ns(*key) is not None), runs["sets"])
+    copied = run.ns("broadcast", who, size, 2, "copied")
+    return [label, nanos(run, *key), *(times(run.against(f"board-{twin}", *key)) for twin in ("sc", "ar")),
+            NONE if copied is None else f"{copied:.2f}"]
+
+
+def broadcasts(runs):
+    lines = [broadcast_cells(runs, row) for row in BROADCAST_ROWS]
+    yield from table(["", "ns", "times `sc`", "times `ar`", "copied"], [it for it in lines if it[1] != NONE])
 
 
 def by_length(run, rows):
@@ -109,7 +155,7 @@ def forms(runs):
     yield from table(["", "8 bytes", "32", "128", "1,024"], by_length(runs["sets"], FORM_ROWS))
 
 
-def limit(runs):
+def words(runs):
     run = runs["sets"]
     rows = [(label, workload, ours, twin_of(ours) + "-sc", sizes) for label, workload, ours, sizes in LENGTH_ROWS]
     yield from table(["times `sc`", "8 bytes", "32", "128", "1,024"], by_length(run, rows))
@@ -117,7 +163,7 @@ def limit(runs):
     lines = []
     for label, workload, ours, size, threads, metric in OTHER_ROWS:
         key = (workload, ours, size, threads, metric)
-        lines.append([label, number(run.ns(*key)), *(times(run.against(f"{twin_of(ours)}-{twin}", *key))
+        lines.append([label, nanos(run, *key), *(times(run.against(f"{twin_of(ours)}-{twin}", *key))
                                                      for twin in ("sc", "ar"))])
     yield from table(["", "ours, ns", "times `sc`", "times `ar`"], lines)
 
@@ -135,11 +181,15 @@ def readme(runs):
         workload, size, threads, metric = point
         twin = twin_of(ours) + "-ar"
         key = (workload, ours, size, threads, metric)
-        cells = [label, number(runs["sets"].ns(*key)), times(runs["sets"].against(twin, *key))]
-        for queue in queues:
-            cells.append(times(of_queue(runs, twin, (workload, queue, size, threads, metric))))
+        if workload == "broadcast":
+            parts = [runs["sets"].ns(workload, who, size, threads, "copied") for who in (ours, twin)]
+            label += "; a receiver copied {:.2f} of the messages (with `ar` {:.2f})".format(*parts)
+        cells = [label, nanos(runs["sets"], *key), times(runs["sets"].against(twin, *key))]
+        for name, _ in README_QUEUES:
+            keys = [(workload, queue, size, threads, metric) for queue in queues.get(name, ())]
+            cells.append(times(of_queue(runs, twin, *keys)))
         lines.append(cells)
-    yield from table(["", "ns", "ours / `ar`", "Rust's queue / `ar`", "Java's queue / `ar`"], lines)
+    yield from table(["", "ours, ns", "ours", *(title for _, title in README_QUEUES)], lines)
 
 
 def all_rows(runs):
@@ -187,19 +237,20 @@ def c_cells(run, row):
             *(set_by_set(run.against(other, *key)) for other in others)]
 
 
-def ratio_picture(runs):
+def ratio_picture(runs, title, twins, contenders):
+    """The rows of these contenders, section by section, against these twins."""
     sections = []
-    for title, rows in SECTIONS:
+    for heading, rows in SECTIONS:
         drawn = []
         for label, workload, ours, size, threads, metric in measured(runs["sets"], rows):
             key, bars = (workload, ours, size, threads, metric), []
-            for twin in ("sc", "ar"):
+            for twin in twins if ours.startswith(contenders) else ():
                 found = runs["sets"].against(f"{twin_of(ours)}-{twin}", *key)
                 if found:
                     bars.append((twin, statistics.median(found["sets"]), found["low"], found["high"]))
-            drawn.append((label, bars))
-        sections.append((title, drawn))
-    return pictures.ratios(sections, (("sc", "ours / sc"), ("ar", "ours / ar")))
+            drawn += [(label, bars)] if bars else []
+        sections += [(heading, drawn)] if drawn else []
+    return pictures.ratios(sections, [(twin, f"ours / {twin}") for twin in twins], title)
 
 
 def curve(run, title, below, ticks, lines):
@@ -217,12 +268,14 @@ def curve(run, title, below, ticks, lines):
 def made(runs):
     """Each file that is written whole, and what comes between two marks of a page: {path: text or [(mark, lines)]}."""
     files = {"bench/RESULTS.md": "\n".join(all_rows(runs)) + "\n",
-             "docs/performance/ratios.svg": ratio_picture(runs),
-             "docs/PERFORMANCE.md": [("users", users(runs)), ("forms", forms(runs)), ("limit", limit(runs)),
-                                     ("c", from_c(runs))],
+             "docs/PERFORMANCE.md": [("users", users(runs)), ("forms", forms(runs)), ("words", words(runs)),
+                                     ("broadcast", broadcasts(runs)), ("c", from_c(runs))],
              "README.md": [("performance", readme(runs))]}
-    for name, panels in CURVES.items():
-        files[f"docs/performance/{name}.svg"] = pictures.curves([curve(runs["sets"], *panel) for panel in panels])
+    for name, picture in RATIOS.items():
+        files[f"docs/performance/{name}.svg"] = ratio_picture(runs, *picture)
+    for name, (about, panels) in CURVES.items():
+        drawn = [curve(runs["sets"], *panel) for panel in panels]
+        files[f"docs/performance/{name}.svg"] = pictures.curves(drawn, about)
     return files
 
 
@@ -253,7 +306,12 @@ def main():
     options = ask.parse_args()
     runs = results.load()
     if options.keep:
-        runs[options.keep[0]] = results.run_of_sets(options.keep[1:], options.twins)
+        try:
+            runs[options.keep[0]], lost = results.run_of_sets(options.keep[1:], options.twins)
+        except results.Refused as why:
+            sys.exit(f"bench/page.py: not kept: {why}")
+        for key in lost:
+            print("left out, since one set has no figure of it:", *key)
     for name in options.forget:
         runs.pop(name, None)
     if options.keep or options.forget:

@@ -21,6 +21,8 @@ COMMAND = 20  # bytes of the command Set
 LENGTHS = (8, 16, 32, 64, 128, 256, 512, 1024, 2048, 4096)
 PRODUCERS = (2, 3, 4, 6, 8)
 CLIENTS = (1, 2, 4, 8, 16, 32, 64)
+# Why a row has no figure.
+WHY = {"slow": "a processor was slow in each try", "others": "other programs used too much in each try"}
 # The figures of trips are percentiles of one list, and those of counters four jobs.
 PERCENTILES = (("p50", 50), ("p90", 90), ("p99", 99), ("p999", 99.9), ("p9999", 99.99))
 
@@ -43,6 +45,13 @@ def points(quick):
     yield Point("counters", 8, 4096, 2, 10)
     for threads in (1, 4) if quick else CLIENTS:
         yield Point("storm", COMMAND, STORM_RING, threads, 30)
+
+
+def threads_of(point):
+    """The threads that run at once: those of the point, and the consumer, transmitter or conductor."""
+    if point.workload in ("batches", "sparse"):
+        return 1
+    return 2 if point.workload in ("pair", "trips") else point.threads + 1
 
 
 def label(key):

@@ -1,13 +1,18 @@
 """What was measured and is kept, in results.json: of each run where and how, and a row for each figure.
 
-A row has the median over the sets in nanoseconds, and against each twin the ratio set by set, with the least and the
-greatest of all rounds."""
+A row has the median over the sets in nanoseconds, the median of each set, and against each twin the ratio set by set,
+with the least and the greatest of all rounds. A run has three gated sets or more."""
 import json
 import os
 import statistics
 
 FILE = os.path.join(os.path.dirname(os.path.abspath(__file__)), "results.json")
 TWINS = ("-ar", "-sc", "-pb")
+SETS = 3  # that a figure needs
+
+
+class Refused(Exception):
+    """Sets that are no figures, and why."""
 
 
 class Run:
@@ -21,6 +26,11 @@ class Run:
         """The median of a figure, or None."""
         row = self.found.get(key)
         return row and row["ns"]
+
+    def spread(self, *key):
+        """The least and the greatest median of a set, or None if they are not known."""
+        row = self.found.get(key)
+        return (min(row["sets"]), max(row["sets"])) if row and "sets" in row else None
 
     def against(self, twin, *key):
         """What a figure is against a twin, or None: its ratios set by set, and those of all rounds."""
@@ -54,11 +64,11 @@ def ratios(sets, key, other):
 
 
 def against_twins(sets, key):
-    """A figure against each twin, and against ours, at the same point."""
+    """A figure against each twin, and against ours, at the same point; that of a twin against `ar` alone."""
     workload, contender, size, threads, metric = key
-    found = {}
+    found, endings = {}, ("-ar",) if contender.endswith(TWINS) else TWINS
     for other in {it[1] for values in sets for it in values if it[0] == workload}:
-        if other == contender or not other.endswith(TWINS) and not other.startswith(("ours", "plain")):
+        if other == contender or not other.endswith(endings) and not other.startswith(("ours", "plain")):
             continue
         every = ratios(sets, key, (workload, other, size, threads, metric))
         rounds = [ratio for it in every for ratio in it]
@@ -68,24 +78,54 @@ def against_twins(sets, key):
     return dict(sorted(found.items()))
 
 
-def run_of_sets(paths, twins):
-    """The run that sets of `bench/run --json` came to; `twins` says which twins they were measured with."""
-    about, sets = [], []
+def faults_of(abouts):
+    """Why sets are no figures, a line for each reason."""
+    if len(abouts) < SETS:
+        yield f"there are {len(abouts)} sets, and a figure needs {SETS}"
+    counts = {count for it in abouts if it["gated"] for count in it["best"]}
+    best = {count: min(it["best"][count] for it in abouts if it["gated"] and count in it["best"]) for count in counts}
+    for number, it in enumerate(abouts, 1):
+        if not it["gated"]:
+            yield f"set {number} is not gated"
+            continue
+        for count, nanos in sorted(it["best"].items()):
+            if nanos > best[count] * (1 + it["margin"]):
+                yield (f"set {number} ran slower: an add took {nanos:.3f} ns at best on {count} processors, and "
+                       f"{best[count]:.3f} in another set")
+
+
+def read_sets(paths):
+    """The sets of files that `bench/run --json` wrote. Raises `Refused` if they are no figures."""
+    sets = []
     for path in paths:
         with open(path, encoding="utf-8") as file:
-            read = json.load(file)
-        about.append(read["about"])
-        sets.append({(it["workload"], it["contender"], it["size"], it["threads"], it["metric"]): it["values"]
-                     for it in read["results"]})
-    rows = []
-    for key in sorted({key for values in sets for key in values}):
-        medians = [statistics.median(values[key]) for values in sets if key in values]
-        is_twin = key[1].endswith(TWINS)
+            sets += json.load(file)["sets"]
+    faults = list(faults_of([it["about"] for it in sets]))
+    if faults:
+        raise Refused("; ".join(faults))
+    return sets
+
+
+def about_sets(abouts, twins):
+    """How sets were taken; `twins` says which twins they were measured with."""
+    first = abouts[0]
+    same = ("cpu", "cores", "kernel", "reps", "fifo", "gated", "margin", "processors", "shared_cores")
+    return {**{name: first[name] for name in same},
+            "sets": len(abouts), "twins": twins, "best": [round(min(it["best"].values()), 3) for it in abouts],
+            "repeated": [it["repeated"] for it in abouts],
+            "others": [[it["others_median"], it["others_worst"]] for it in abouts],
+            "steal": [[it["steal_median"], it["steal_worst"]] for it in abouts]}
+
+
+def run_of_sets(paths, twins):
+    """The run that sets came to, and the keys of rows that some set has not, which are no figures."""
+    read = read_sets(paths)
+    sets = [{(it["workload"], it["contender"], it["size"], it["threads"], it["metric"]): it["values"]
+             for it in one["results"]} for one in read]
+    every = {key for values in sets for key in values}
+    rows, lost = [], sorted(key for key in every if any(key not in values for values in sets))
+    for key in sorted(every - set(lost)):
+        medians = [float(f"{statistics.median(values[key]):.4g}") for values in sets]
         rows.append(dict(zip(("workload", "contender", "size", "threads", "metric"), key),
-                         ns=float(f"{statistics.median(medians):.4g}"),
-                         against={} if is_twin else against_twins(sets, key)))
-    first = about[0]
-    return Run({"cpu": first["cpu"], "cores": first["cores"], "kernel": first["kernel"], "sets": len(sets),
-                "reps": first["reps"], "fifo": first["fifo"], "twins": twins,
-                "others": [[it["others_median"], it["others_worst"]] for it in about],
-                "steal": [[it["steal_median"], it["steal_worst"]] for it in about]}, rows)
+                         ns=statistics.median(medians), sets=medians, against=against_twins(sets, key)))
+    return Run(about_sets([it["about"] for it in read], twins), rows), lost

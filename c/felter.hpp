@@ -1,20 +1,28 @@
-// felter for C++17: handles that free themselves and only move, bodies as views, and codes or results as answers.
-// felter.h says what each call does; a method has its name, and answers its code. With C++20, views are std::span too.
+// felter for C++17. Handles free themselves and can be moved but not copied. Bodies are views of bytes, which convert
+// to std::span from C++20 on. A method has the name of a call of felter.h, which says what the call does. A method
+// returns a code, or a result with a value or a code. A board is a broadcast buffer.
 //
 //     auto ring = felter::many_to_one(65536).value();
 //     ring.producer.write(7, "hello").value();
 //     std::array<std::uint8_t, 64> room;
 //     if (auto message = ring.consumer.read(room)) use(message->type_id, message->body);
 //
-// The rules of felter.h hold: one thread at a time uses a handle. This header is tested and not proved.
+// The rules of felter.h hold here too: for example, one thread at a time uses a handle. This header is tested and not
+// proved.
 #ifndef FELTER_HPP
 #define FELTER_HPP
 
 #include "felter_result.hpp"
 
+#if __cplusplus >= 201703L
+
+#include "felter_ends.hpp"
+
+#include <algorithm>
+
 namespace felter {
 
-// The bytes of a buffer, and those of the longest message.
+// The capacity of a ring or a board, and the length of its longest message, in bytes.
 struct sizes {
     std::uint32_t capacity, longest;
 };
@@ -31,7 +39,8 @@ struct positions {
 
 class producer;
 
-// Room for one message. It is aborted at its end unless it was committed. Its producer outlives it, and is not moved.
+// Room for one message. The destructor aborts the claim unless it was committed. The producer must live longer than the
+// claim, and must not be moved meanwhile.
 class claim {
 public:
     claim(claim &&from) noexcept : raw_(std::exchange(from.raw_, nullptr)), number_(from.number_) {}
@@ -56,10 +65,22 @@ private:
     std::uint64_t number_;
 };
 
-class producer : public owner<felter_producer> {
+// How many messages of a batch were written, and the code of the first message that was refused.
+struct written {
+    std::uint32_t count;
+    felter::code why;
+};
+
+class producer : public detail::end_of<felter_producer> {
 public:
     result<felter::sizes> sizes() { return detail::sizes_of(raw()->handle); }
     code write(std::int32_t type_id, bytes body) { return felter_write(raw(), type_id, body.data(), body.size()); }
+    // Writes messages that are laid out as felter_read_batch leaves them, up to the first one that is refused.
+    felter::written write_batch(bytes records) {
+        std::uint32_t count = 0;
+        const std::int32_t why = felter_write_batch(raw(), records.data(), records.size(), &count);
+        return {count, why};
+    }
     result<felter::claim> claim(std::int32_t type_id, std::size_t len) {
         std::uint64_t number = 0;
         const std::int32_t why = felter_claim(raw(), type_id, len, &number);
@@ -67,12 +88,34 @@ public:
         return felter::claim(raw(), number);
     }
     result<producer> split() {
-        return detail::made<producer>([&](felter_producer *it) { return felter_split(raw(), it); });
+        return other<producer>(true, [&](felter_producer *it) { return felter_split(raw(), it); });
     }
-    code join(producer &other) { return felter_join(raw(), other.raw()); }
+    code join(producer &other) { return other.given(felter_join(raw(), other.raw())); }
     result<felter::positions> positions() {
         return detail::out<felter::positions>(
             [&](felter::positions *it) { return felter_positions(raw(), &it->head, &it->tail); });
+    }
+    // How many bytes of the ring are claimed and not yet read. The call loads the positions once.
+    result<std::uint64_t> used() {
+        const auto its = sizes();
+        const auto at = positions();
+        if (!its) return its.code();
+        if (!at) return at.code();
+        // (the head is loaded first, so the tail may be more than a capacity above it by then)
+        return std::min<std::uint64_t>((*at).tail - (*at).head, (*its).capacity);
+    }
+    // How many bytes are free. A message also takes some of these bytes for its header, and for padding.
+    result<std::uint64_t> available() {
+        const auto its = sizes();
+        const auto claimed = used();
+        if (!claimed) return claimed.code();
+        return (*its).capacity - *claimed;
+    }
+    // Whether everything that was claimed was read.
+    result<bool> is_empty() {
+        const auto claimed = used();
+        if (!claimed) return claimed.code();
+        return *claimed == 0;
     }
     result<std::uint64_t> next_id() {
         return detail::out<std::uint64_t>([&](std::uint64_t *it) { return felter_next_id(raw(), it); });
@@ -85,34 +128,46 @@ public:
     }
 };
 
-class consumer : public owner<felter_consumer> {
+// What a consumer finds next (enum felter_found), and the head, in bytes.
+struct standing {
+    std::int32_t found;
+    std::uint64_t head;
+};
+
+class consumer : public detail::end_of<felter_consumer> {
 public:
     result<felter::sizes> sizes() { return detail::sizes_of(raw()->handle); }
-    // Reads the next message into a buffer.
+    // Reads the next message into a buffer, and takes it from the ring.
     result<message> read(buffer into) { return copied(felter_read, into); }
-    // The same, and leaves it in the ring.
+    // Copies the next message into a buffer, and leaves it in the ring.
     result<message> peek(buffer into) { return copied(felter_peek, into); }
-    // Takes the next message, and copies nothing.
+    // Takes the next message from the ring, and copies nothing.
     code take() { return felter_take(raw()); }
-    // Reads up to `limit` messages into a buffer, calls f with each, and says how many there were.
-    template <class F>
-    result<std::uint32_t> read_batch(std::uint32_t limit, buffer into, F f) {
+    // Reads up to `limit` messages into a buffer. The batch shows them one after another, and is valid as long as the
+    // buffer: for (auto message : *batch).
+    result<batch> read_batch(std::uint32_t limit, buffer into) {
         std::uint32_t count = 0;
         std::size_t used = 0;
         const std::int32_t why = felter_read_batch(raw(), limit, &count, &used, into.data(), into.size());
-        const char *at = static_cast<const char *>(into.data());
-        for (std::uint32_t i = 0; i < count; i++) {
-            felter_record record;
-            __builtin_memcpy(&record, at, sizeof record);
-            f(message{static_cast<std::int32_t>(record.type_id), {at + sizeof record, record.len}});
-            at += FELTER_SPAN(record.len);
-        }
-        return detail::answer(why, count);
+        return detail::answer(why, batch(into.data(), count));
+    }
+    // Reads up to `limit` messages into a buffer, and calls f with each. If f throws, the messages after that one are
+    // lost: they were taken from the ring, and f is not called with them. To keep them, use the batch above.
+    template <class F>
+    result<std::uint32_t> read_batch(std::uint32_t limit, buffer into, F f) {
+        auto found = read_batch(limit, into);
+        if (!found) return found.code();
+        for (message it : *found) f(it);
+        return found->size();
+    }
+    result<felter::standing> standing(producer &of) {
+        return detail::out<felter::standing>(
+            [&](felter::standing *it) { return felter_standing(of.raw(), raw(), &it->found, &it->head); });
     }
     code set_heartbeat(std::uint64_t value) { return felter_set_heartbeat(raw(), value); }
-    code close(producer &last) { return felter_close(raw(), last.raw()); }
+    code close(producer &last) { return last.given(felter_close(raw(), last.raw())); }
     result<std::uint64_t> finish() {
-        return detail::out<std::uint64_t>([&](std::uint64_t *it) { return felter_finish(raw(), it); });
+        return given(detail::out<std::uint64_t>([&](std::uint64_t *it) { return felter_finish(raw(), it); }));
     }
 
 private:
@@ -126,41 +181,48 @@ private:
     }
 };
 
-// A ring's first producer and its consumer.
+// The first producer of a ring, and its consumer.
 struct ring {
     felter::producer producer;
     felter::consumer consumer;
 };
 
-inline result<ring> many_to_one(std::uint32_t capacity, std::uint64_t start = 0) {
+namespace detail {
+template <class Call>
+result<ring> ring_by(Call call, std::uint32_t capacity, std::uint64_t start) {
     ring made;
-    const std::int32_t why = felter_many_to_one_new_at(capacity, start, made.producer.raw(), made.consumer.raw());
-    return detail::answer(why, std::move(made));
+    if (!made.producer.begin(true) || !made.consumer.follow(made.producer, false)) return code(FELTER_OUT_OF_MEMORY);
+    const std::int32_t why = call(capacity, start, made.producer.raw(), made.consumer.raw());
+    return answer(why, std::move(made));
+}
+} // namespace detail
+
+inline result<ring> many_to_one(std::uint32_t capacity, std::uint64_t start = 0) {
+    return detail::ring_by(felter_many_to_one_new_at, capacity, start);
 }
 
 inline result<ring> one_to_one(std::uint32_t capacity, std::uint64_t start = 0) {
-    ring made;
-    const std::int32_t why = felter_one_to_one_new_at(capacity, start, made.producer.raw(), made.consumer.raw());
-    return detail::answer(why, std::move(made));
+    return detail::ring_by(felter_one_to_one_new_at, capacity, start);
 }
 
-// Where a receiver was when it was lapped, and the intent that showed it.
+// The place of a receiver when it was lapped, and the intent that showed it.
 struct lap {
     std::uint64_t place, intent;
 };
 
-class receiver : public owner<felter_receiver> {
+class receiver : public detail::end_of<felter_receiver> {
 public:
     result<felter::sizes> sizes() { return detail::sizes_of(raw()->handle); }
     result<std::uint64_t> place() {
         return detail::out<std::uint64_t>([&](std::uint64_t *it) { return felter_receiver_place(raw(), it); });
     }
-    // How it was lapped last.
+    // How the receiver was lapped last.
     result<felter::lap> lap() {
         return detail::out<felter::lap>(
             [&](felter::lap *it) { return felter_receiver_lap(raw(), &it->place, &it->intent); });
     }
-    // Copies the next message into a buffer of an eighth of the capacity. FELTER_LAPPED: lapped_count says how often.
+    // Copies the next message into a buffer of at least an eighth of the capacity. After FELTER_LAPPED, lapped_count
+    // says how often the receiver was lapped.
     result<message> receive(buffer into) {
         message found{};
         std::size_t len = 0;
@@ -174,13 +236,13 @@ public:
     }
 };
 
-// What a raw receiver says of a record, whose body it has not read.
+// What a raw receiver returns of a record: its type id, and the length of its body, which is not yet copied.
 struct raw_record {
     std::int32_t type_id;
     std::size_t len;
 };
 
-class raw_receiver : public owner<felter_raw_receiver> {
+class raw_receiver : public detail::end_of<felter_raw_receiver> {
 public:
     result<felter::sizes> sizes() { return detail::sizes_of(raw()->handle); }
     result<std::uint64_t> place() {
@@ -202,10 +264,10 @@ public:
     }
 };
 
-class transmitter : public owner<felter_transmitter> {
+class transmitter : public detail::end_of<felter_transmitter> {
 public:
     static result<transmitter> make(std::uint32_t capacity, std::uint64_t start = 0) {
-        return detail::made<transmitter>(
+        return detail::first<transmitter>(
             [&](felter_transmitter *it) { return felter_board_new_at(capacity, start, it); });
     }
     result<felter::sizes> sizes() { return detail::sizes_of(raw()->handle); }
@@ -213,175 +275,21 @@ public:
         return felter_transmit(raw(), type_id, body.data(), body.size());
     }
     result<receiver> subscribe() {
-        return detail::made<receiver>([&](felter_receiver *it) { return felter_subscribe(raw(), it); });
+        return other<receiver>(false, [&](felter_receiver *it) { return felter_subscribe(raw(), it); });
     }
     result<raw_receiver> subscribe_raw() {
-        return detail::made<raw_receiver>([&](felter_raw_receiver *it) { return felter_subscribe_raw(raw(), it); });
+        return other<raw_receiver>(false, [&](felter_raw_receiver *it) { return felter_subscribe_raw(raw(), it); });
     }
-    code join(receiver &back) { return felter_board_join(raw(), back.raw()); }
-    code join(raw_receiver &back) { return felter_board_join_raw(raw(), back.raw()); }
+    code join(receiver &back) { return back.given(felter_board_join(raw(), back.raw())); }
+    code join(raw_receiver &back) { return back.given(felter_board_join_raw(raw(), back.raw())); }
     result<std::uint64_t> close() {
-        return detail::out<std::uint64_t>([&](std::uint64_t *it) { return felter_board_close(raw(), it); });
-    }
-};
-
-class reader : public owner<felter_reader> {
-public:
-    result<std::int64_t> value(std::uint32_t id) {
-        return detail::out<std::int64_t>([&](std::int64_t *it) { return felter_reader_value(raw(), id, it); });
-    }
-};
-
-class counters : public owner<felter_counters> {
-public:
-    static result<counters> make(std::uint32_t count, std::uint32_t reuse_ms = 0) {
-        return detail::made<counters>([&](felter_counters *it) { return felter_counters_new(count, reuse_ms, it); });
-    }
-    result<std::uint32_t> allocate(std::uint64_t now, std::int32_t type_id, bytes key, bytes label,
-                                   std::uint64_t registration = 0, std::uint64_t owner = 0) {
-        return detail::out<std::uint32_t>([&](std::uint32_t *it) {
-            return felter_counter_allocate_owned(raw(), now, type_id, key.data(), key.size(), label.data(),
-                                                 label.size(), registration, owner, it);
-        });
-    }
-    code release(std::uint64_t now, std::uint32_t id) { return felter_counter_free(raw(), now, id); }
-    code set(std::uint32_t id, std::int64_t value) { return felter_counter_set(raw(), id, value); }
-    result<std::int64_t> add(std::uint32_t id, std::int64_t delta) {
-        return detail::out<std::int64_t>([&](std::int64_t *it) { return felter_counter_add(raw(), id, delta, it); });
-    }
-    result<std::int64_t> value(std::uint32_t id) {
-        return detail::out<std::int64_t>([&](std::int64_t *it) { return felter_counter_value(raw(), id, it); });
-    }
-    result<std::uint32_t> find(std::int32_t type_id, std::uint64_t registration) {
-        return detail::out<std::uint32_t>(
-            [&](std::uint32_t *it) { return felter_counter_find(raw(), type_id, registration, it); });
-    }
-    result<std::uint32_t> propose_max(std::uint32_t id, std::int64_t value) {
-        return detail::out<std::uint32_t>(
-            [&](std::uint32_t *it) { return felter_counter_propose_max(raw(), id, value, it); });
-    }
-    result<std::int32_t> type_id(std::uint32_t id) {
-        return detail::out<std::int32_t>([&](std::int32_t *it) { return felter_counter_type_id(raw(), id, it); });
-    }
-    result<std::uint64_t> registration(std::uint32_t id) {
-        return detail::out<std::uint64_t>(
-            [&](std::uint64_t *it) { return felter_counter_registration(raw(), id, it); });
-    }
-    result<std::uint64_t> owner(std::uint32_t id) {
-        return detail::out<std::uint64_t>([&](std::uint64_t *it) { return felter_counter_owner(raw(), id, it); });
-    }
-    result<std::int32_t> state(std::uint32_t id) {
-        return detail::out<std::int32_t>([&](std::int32_t *it) { return felter_counter_state(raw(), id, it); });
-    }
-    result<std::uint64_t> deadline(std::uint32_t id) {
-        return detail::out<std::uint64_t>([&](std::uint64_t *it) { return felter_counter_deadline(raw(), id, it); });
-    }
-    result<std::uint32_t> close_owner(std::uint64_t now, std::uint64_t owner) {
-        return detail::out<std::uint32_t>(
-            [&](std::uint32_t *it) { return felter_counters_close_owner(raw(), now, owner, it); });
-    }
-    result<felter::reader> reader() {
-        return detail::made<felter::reader>([&](felter_reader *it) { return felter_counters_reader(raw(), it); });
-    }
-    code join(felter::reader &back) { return felter_counters_join(raw(), back.raw()); }
-};
-
-struct reply {
-    std::int32_t kind; // enum felter_reply
-    std::int64_t number;
-};
-
-class client : public owner<felter_client> {
-public:
-    result<std::uint64_t> allocate(std::int32_t type_id, bytes key, bytes label, std::uint64_t owner = 0) {
-        return detail::out<std::uint64_t>([&](std::uint64_t *it) {
-            return owner ? felter_send_allocate_owned(raw(), type_id, owner, key.data(), key.size(), label.data(),
-                                                      label.size(), it)
-                         : felter_send_allocate(raw(), type_id, key.data(), key.size(), label.data(), label.size(), it);
-        });
-    }
-    result<std::uint64_t> release(std::uint32_t counter) {
-        return detail::out<std::uint64_t>([&](std::uint64_t *it) { return felter_send_free(raw(), counter, it); });
-    }
-    result<std::uint64_t> set(std::uint32_t counter, std::int64_t value) {
-        return detail::out<std::uint64_t>(
-            [&](std::uint64_t *it) { return felter_send_set(raw(), counter, value, it); });
-    }
-    result<std::uint64_t> close_owner(std::uint64_t owner) {
-        return detail::out<std::uint64_t>([&](std::uint64_t *it) { return felter_send_close_owner(raw(), owner, it); });
-    }
-    result<reply> poll(std::uint64_t correlation) {
-        std::uint64_t lapped = 0;
-        return detail::out<reply>(
-            [&](reply *it) { return felter_poll(raw(), correlation, &it->kind, &it->number, &lapped); });
-    }
-    result<std::uint64_t> heartbeat() {
-        return detail::out<std::uint64_t>([&](std::uint64_t *it) { return felter_client_heartbeat(raw(), it); });
-    }
-};
-
-struct work {
-    std::uint64_t messages;
-    std::int32_t stopped; // enum felter_stop
-};
-
-struct finished {
-    std::uint64_t received, left;
-};
-
-class conductor : public owner<felter_conductor> {
-public:
-    static result<conductor> make(std::uint32_t capacity, std::uint32_t replies, std::uint32_t counters,
-                                  std::uint32_t reuse_ms = 0) {
-        return detail::made<conductor>(
-            [&](felter_conductor *it) { return felter_conductor_new(capacity, replies, counters, reuse_ms, it); });
-    }
-    result<felter::client> client() {
-        return detail::made<felter::client>([&](felter_client *it) { return felter_conductor_client(raw(), it); });
-    }
-    result<felter::work> work(std::uint64_t now, std::uint32_t limit = UINT32_MAX) {
-        return detail::out<felter::work>(
-            [&](felter::work *it) { return felter_conductor_work(raw(), now, limit, &it->messages, &it->stopped); });
-    }
-    code set_heartbeat(std::uint64_t value) { return felter_conductor_set_heartbeat(raw(), value); }
-    result<std::int64_t> value(std::uint32_t id) {
-        return detail::out<std::int64_t>([&](std::int64_t *it) { return felter_conductor_value(raw(), id, it); });
-    }
-    result<std::uint32_t> find(std::int32_t type_id, std::uint64_t registration) {
-        return detail::out<std::uint32_t>(
-            [&](std::uint32_t *it) { return felter_conductor_find(raw(), type_id, registration, it); });
-    }
-    result<std::int32_t> type_id(std::uint32_t id) {
-        return detail::out<std::int32_t>([&](std::int32_t *it) { return felter_conductor_type_id(raw(), id, it); });
-    }
-    result<std::uint64_t> registration(std::uint32_t id) {
-        return detail::out<std::uint64_t>(
-            [&](std::uint64_t *it) { return felter_conductor_registration(raw(), id, it); });
-    }
-    result<std::uint64_t> owner(std::uint32_t id) {
-        return detail::out<std::uint64_t>([&](std::uint64_t *it) { return felter_conductor_owner(raw(), id, it); });
-    }
-    result<std::int32_t> state(std::uint32_t id) {
-        return detail::out<std::int32_t>([&](std::int32_t *it) { return felter_conductor_state(raw(), id, it); });
-    }
-    result<std::uint64_t> deadline(std::uint32_t id) {
-        return detail::out<std::uint64_t>([&](std::uint64_t *it) { return felter_conductor_deadline(raw(), id, it); });
-    }
-    result<receiver> subscribe() {
-        return detail::made<receiver>([&](felter_receiver *it) { return felter_conductor_subscribe(raw(), it); });
-    }
-    result<felter::reader> reader() {
-        return detail::made<felter::reader>([&](felter_reader *it) { return felter_conductor_reader(raw(), it); });
-    }
-    code join(felter::client &back) { return felter_conductor_join(raw(), back.raw()); }
-    code join(receiver &back) { return felter_conductor_join_receiver(raw(), back.raw()); }
-    code join(felter::reader &back) { return felter_conductor_join_reader(raw(), back.raw()); }
-    result<finished> finish() {
-        return detail::out<finished>(
-            [&](finished *it) { return felter_conductor_finish(raw(), &it->received, &it->left); });
+        return given(detail::out<std::uint64_t>([&](std::uint64_t *it) { return felter_board_close(raw(), it); }));
     }
 };
 
 } // namespace felter
 
+#include "felter_service.hpp"
+
+#endif // of C++17
 #endif

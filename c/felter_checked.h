@@ -1,23 +1,23 @@
-/* What a build with -DFELTER_CHECKED looks at before each call: that no pointer is NULL, that the handle was made and
- * not yet freed, also by a copy of it, and that no other call uses it. felter.h includes this. */
+/* A build with -DFELTER_CHECKED tests three things before each call. No pointer is NULL. The handle was made and not
+ * freed, also not by a copy of the handle. No other call uses the handle. felter.h includes this file. */
 #ifndef FELTER_CHECKED_H
 #define FELTER_CHECKED_H
 
 #include <stdio.h>
 #include <stdlib.h>
 
-/* What handles own at present, by address, how many handles got each. It is a count since a call on one thread can
- * free what a call on another thread makes again at once, at the same address. */
+/* An object that handles own now: its address, and how many handles own an object there. The number can be 2, because
+ * one thread can free an object while another thread makes a new one at the same address. */
 struct felter_owned {
     void *at;
     long count;
     struct felter_owned *next;
 };
 
-/* A handle that a call uses now. */
+/* A handle that a call is using. */
 struct felter_use {
     felter_handle *handle;
-    void *at; /* what it owned before the call */
+    void *at; /* the object that the handle owned before the call */
     struct felter_use *next;
 };
 
@@ -44,7 +44,7 @@ static inline void felter_unlock(void) {
     __atomic_clear(&felter_check_lock, __ATOMIC_RELEASE);
 }
 
-/* Where what is owned at an address is linked, or where the list of its bucket ends. */
+/* Returns the link to the object at an address, or the end of the list of its bucket. */
 static inline struct felter_owned **felter_find_owned(void *at) {
     struct felter_owned **it = &felter_all_owned[(uintptr_t)at / 16 % FELTER_BUCKETS];
     while (*it && (*it)->at != at) it = &(*it)->next;

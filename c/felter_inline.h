@@ -1,7 +1,7 @@
-/* Written by c/bindings from felter.h: change that, and run it again.
+/* Written by c/bindings from felter.h. To change this file, change felter.h and run c/bindings.
  *
- * A program includes felter.h alone, which includes this. Each name of a function of the library is a macro that names
- * a function here, which looks for pointers that are NULL before it calls. */
+ * A program includes felter.h, which includes this file. Each function of the library has a function here, which tests
+ * for NULL pointers before it calls the library. The name of the first one is a macro for the second one. */
 #ifndef FELTER_INLINE_H
 #define FELTER_INLINE_H
 
@@ -20,11 +20,12 @@ static inline int32_t felter_refuse(const char *call, int32_t code) {
 #define FELTER_LEAVE2() (void)0
 #endif
 
-/* How many numbers were drawn. It is weak, so that all files of a program, in C and in C++, share one. A shared library
- * that includes this header can have one of its own, as where dlopen loads it, and both give the same numbers then. */
+/* How many numbers were drawn. The variable is weak, so all files of a program share it, in C and in C++. But a shared
+ * library that includes this header can have a variable of its own, for example if dlopen loads the library. Then the
+ * program and the library draw the same numbers. */
 __attribute__((weak)) uint64_t felter_numbers_drawn = 0;
 
-/* Draws the number of what is made next: 1, 2, 3, .. by any threads. */
+/* Draws the number of the next structure: 1, 2, 3, .. by any threads. */
 static inline uint64_t felter_next_number(void) {
     return __atomic_add_fetch(&felter_numbers_drawn, 1, __ATOMIC_RELAXED);
 }
@@ -40,12 +41,12 @@ static inline const char *felter_text(int32_t code) {
     case 6: return "the record would end above 2^62";
     case 7: return "the ring is full";
     case 8: return "another producer was faster";
-    case 9: return "the bytes do not lie inside the claim";
+    case 9: return "the bytes are not inside the claim";
     case 10: return "a claim of the producer is open";
-    case 11: return "a producer or a client was not taken back";
+    case 11: return "a producer or a client is still in a handle";
     case 12: return "one share is left, and is needed";
     case 13: return "the transmitter overtook the receiver";
-    case 14: return "a receiver was not taken back";
+    case 14: return "a receiver is still in a handle";
     case 15: return "the number of counters is 0 or above 4096";
     case 16: return "the key has more than 112 bytes";
     case 17: return "the label has more than 380 bytes";
@@ -974,8 +975,12 @@ FELTER_GUARD int32_t felter_conductor_new(uint32_t capacity, uint32_t replies, u
 FELTER_GUARD int32_t felter_write_batch(felter_producer *producer, const void *records, size_t bytes,
                                         uint32_t *written) {
     const uint8_t *at = (const uint8_t *)records;
+    uint32_t shares = 0;
+    if (!producer) return felter_refuse("felter_write_batch", FELTER_NO_HANDLE);
     if (!written || (!records && bytes)) return felter_refuse("felter_write_batch", FELTER_NULL_POINTER);
     *written = 0;
+    /* (nothing is written, so no write tests the handle) */
+    if (bytes == 0) return felter_guarded_shares(producer, &shares);
     while (bytes > 0) {
         felter_record record;
         int32_t code;
@@ -1002,7 +1007,7 @@ FELTER_GUARD int32_t felter_standing(felter_producer *producer, felter_consumer 
     if (!found || !head) return felter_refuse("felter_standing", FELTER_NULL_POINTER);
     code = felter_guarded_positions(producer, &first, &claimed);
     if (code != FELTER_OK) return code;
-    /* A message has no room, and stays. */
+    /* (no message has room in this buffer, so a message stays) */
     why = felter_guarded_read_batch(consumer, 1, &count, &used, NULL, 0);
     if (why != FELTER_NO_MESSAGE && why != FELTER_SHORT_BUFFER) return why;
     code = felter_guarded_positions(producer, &last, &tail);

@@ -1,9 +1,15 @@
-// What the methods of felter.hpp take and answer: codes, results, views of bytes, and handles that free themselves.
+// What the methods of felter.hpp take and return: codes, results, views of bytes, and handles that free themselves.
 #ifndef FELTER_RESULT_HPP
 #define FELTER_RESULT_HPP
 
+#if __cplusplus < 201703L
+#error "felter.hpp needs C++17: compile with -std=c++17 or later (felter.h needs C++11)"
+#else
+
 #include "felter.h"
 
+#include <cstddef>
+#include <iterator>
 #include <optional>
 #include <stdexcept>
 #include <string>
@@ -19,18 +25,18 @@
 
 namespace felter {
 
-// Why a call did not succeed, as enum felter_code; it is also the answer of a call that has no value.
+// Why a call did not succeed (enum felter_code). It is also the result of a call that returns no value.
 class [[nodiscard]] code {
 public:
     constexpr code(std::int32_t number = FELTER_OK) noexcept : number_(number) {}
     constexpr explicit operator bool() const noexcept { return number_ == FELTER_OK; }
     constexpr std::int32_t number() const noexcept { return number_; }
     const char *text() const noexcept { return felter_text(number_); }
-    // Whether the same call may succeed later: the ring was full, another producer was faster, or nothing was there.
+    // Whether the same call may succeed later: the ring was full, another producer was faster, or no message was there.
     constexpr bool is_passing() const noexcept {
         return number_ == FELTER_INSUFFICIENT_CAPACITY || number_ == FELTER_CONTENDED || number_ == FELTER_NO_MESSAGE;
     }
-    // Throws felter::error unless it is FELTER_OK.
+    // Throws felter::error unless the code is FELTER_OK.
     void value() const;
     friend constexpr bool operator==(code one, code two) noexcept { return one.number_ == two.number_; }
     friend constexpr bool operator!=(code one, code two) noexcept { return one.number_ != two.number_; }
@@ -53,7 +59,7 @@ inline void code::value() const {
     if (number_ != FELTER_OK) throw error(*this);
 }
 
-// A value, or the code that tells why there is none.
+// A value, or the code that says why there is none.
 template <class T>
 class [[nodiscard]] result {
 public:
@@ -62,8 +68,9 @@ public:
     explicit operator bool() const noexcept { return value_.has_value(); }
     felter::code code() const noexcept { return why_; }
     T &operator*() & noexcept { return *value_; }
+    const T &operator*() const & noexcept { return *value_; }
     T *operator->() noexcept { return &*value_; }
-    // The value; throws felter::error if there is none.
+    // The value. Throws felter::error if there is none.
     T &value() & { return why_.value(), *value_; }
     T &&value() && { return why_.value(), std::move(*value_); }
 
@@ -72,7 +79,7 @@ private:
     felter::code why_;
 };
 
-// Bytes that somebody else owns: Byte is const void or void. They come from any container or text of bytes.
+// Bytes that another object owns. A view is made from any container or text of bytes. Byte is const void or void.
 template <class Byte>
 class view {
     template <class C>
@@ -85,10 +92,10 @@ public:
     constexpr view(Byte *data, std::size_t size) noexcept : data_(data), size_(size) {}
     template <class C, class = if_bytes<C>>
     constexpr view(C &&from) noexcept : data_(from.data()), size_(from.size()) {}
-    // A text in quotes, without its end.
+    // A text in quotes, without the 0 at its end.
     template <std::size_t N, class B = Byte, class = std::enable_if_t<std::is_const_v<B>>>
     constexpr view(const char (&text)[N]) noexcept : data_(text), size_(N - 1) {}
-    // An array that can be written is none: pass {array, size}.
+    // An array that can be written is not taken for a text: pass {array, size}.
     template <std::size_t N, class B = Byte, class = std::enable_if_t<std::is_const_v<B>>>
     view(char (&array)[N]) = delete;
 
@@ -114,7 +121,56 @@ struct message {
     bytes body;
 };
 
-// A handle that frees what it owns at its end. It moves, and what it was moved from is empty.
+// Messages, one after another in a buffer of the caller.
+class batch {
+public:
+    class iterator {
+    public:
+        using iterator_category = std::input_iterator_tag;
+        using value_type = message;
+        using difference_type = std::ptrdiff_t;
+        using pointer = void;
+        using reference = message;
+        iterator(const char *at, std::uint32_t left) noexcept : at_(at), left_(left) {}
+        message operator*() const noexcept {
+            const felter_record record = head();
+            return {static_cast<std::int32_t>(record.type_id), {at_ + sizeof record, record.len}};
+        }
+        iterator &operator++() noexcept {
+            at_ += FELTER_SPAN(head().len);
+            left_--;
+            return *this;
+        }
+        iterator operator++(int) noexcept {
+            iterator before = *this;
+            ++*this;
+            return before;
+        }
+        bool operator==(const iterator &other) const noexcept { return left_ == other.left_; }
+        bool operator!=(const iterator &other) const noexcept { return left_ != other.left_; }
+
+    private:
+        felter_record head() const noexcept {
+            felter_record record;
+            __builtin_memcpy(&record, at_, sizeof record);
+            return record;
+        }
+        const char *at_;
+        std::uint32_t left_;
+    };
+
+    batch() noexcept = default;
+    batch(const void *at, std::uint32_t count) noexcept : at_(static_cast<const char *>(at)), count_(count) {}
+    iterator begin() const noexcept { return {at_, count_}; }
+    iterator end() const noexcept { return {nullptr, 0}; }
+    std::uint32_t size() const noexcept { return count_; }
+
+private:
+    const char *at_ = nullptr;
+    std::uint32_t count_ = 0;
+};
+
+// A handle whose destructor frees what the handle owns. It can be moved, and is empty afterwards.
 template <class Raw>
 class owner {
 public:
@@ -128,7 +184,7 @@ public:
         return *this;
     }
     ~owner() { felter_free(&raw_.handle); }
-    // For a call of felter.h.
+    // The handle, for a call of felter.h.
     Raw *raw() noexcept { return &raw_; }
 
 private:
@@ -142,7 +198,7 @@ result<T> answer(std::int32_t number, T value) {
     return value;
 }
 
-// What a call put into a last argument.
+// The value that a call writes through its last argument.
 template <class T, class Call>
 result<T> out(Call call) {
     T value{};
@@ -160,4 +216,5 @@ result<Kind> made(Call call) {
 
 } // namespace felter
 
+#endif // of C++17
 #endif

@@ -1,31 +1,48 @@
-/* felter_wait: calls that wait, by trying again with pauses, and doorbells for epoll. It is beside the proved library,
- * whose calls never wait, and needs Linux and POSIX (-D_POSIX_C_SOURCE=200809L, or a compiler's default).
+/* felter_wait: calls that wait, requests, and doorbells for epoll. The calls of the proved library never wait. The
+ * calls of this header make calls of the library. They are tested and not proved. This header needs Linux and POSIX:
+ * -D_POSIX_C_SOURCE=200809L, or the default of a compiler.
  *
- * A timeout is in milliseconds: 0 tries once, and a negative one waits for ever. */
+ * A timeout is in milliseconds. With the timeout 0 a call tries once, and with a negative timeout it waits for ever.
+ *
+ * To wait for a message, use felter_read_asleep or felter_receive_asleep, and call felter_wake after each write. The
+ * reader then wakes after some tens of microseconds, and a write costs one load more while no reader sleeps.
+ *
+ * felter_read_wait and felter_receive_wait are for rings and boards whose writers do not call felter_wake. They try
+ * again and again with pauses, so they find a message up to about a millisecond late. */
 #ifndef FELTER_WAIT_H
 #define FELTER_WAIT_H
 
 #include "felter.h"
 
 #include <errno.h>
+#include <limits.h>
+#include <linux/futex.h>
 #include <poll.h>
 #include <sched.h>
 #include <sys/eventfd.h>
+#include <sys/syscall.h>
 #include <time.h>
 #include <unistd.h>
 
-#ifdef __cplusplus
-extern "C" {
+#ifndef CLOCK_MONOTONIC
+#error "felter_wait.h needs POSIX: compile with -D_POSIX_C_SOURCE=200809L, or with -std=gnu99 or later"
 #endif
 
-/* How long a call has waited. Begin it as {0, 0, timeout}. */
+#ifdef __cplusplus
+extern "C" {
+#else
+/* (unistd.h declares the same, but only together with names that are not in POSIX) */
+extern long syscall(long number, ...);
+#endif
+
+/* How long a call has waited. A pause begins as {0, 0, timeout}. */
 typedef struct felter_pause {
     int64_t began; /* in nanoseconds, 0 before the first pause */
     int turns;
     int64_t timeout; /* in milliseconds */
 } felter_pause;
 
-/* Pauses, ever longer up to a millisecond. Says whether the timeout has not yet come. */
+/* Pauses, each time longer, up to a millisecond. Returns 1, or 0 without a pause if the timeout has come. */
 static inline int felter_pauses(felter_pause *it) {
     struct timespec now;
     int64_t left = 1000000, nanos;
@@ -37,20 +54,21 @@ static inline int felter_pauses(felter_pause *it) {
         left = (it->timeout < INT64_MAX / 1000000 ? it->timeout * 1000000 : INT64_MAX) - (nanos - it->began);
         if (left <= 0) return 0;
     }
-    it->turns++;
+    /* (the count stays at 16, from which on all pauses are equally long: a wait may last for months) */
+    if (it->turns < 16) it->turns++;
     if (it->turns <= 10) {
         sched_yield();
         return 1;
     }
-    nanos = 16000L << (it->turns < 16 ? it->turns - 10 : 6);
+    nanos = 16000L << (it->turns - 10);
     now.tv_sec = 0;
     now.tv_nsec = (long)(nanos < left ? nanos : left < 999999999 ? left : 999999999);
     nanosleep(&now, 0);
     return 1;
 }
 
-/* felter_write, which tries again while the ring is full or another producer is faster. After the timeout it answers
- * that. */
+/* Calls felter_write again and again while the ring is full or another producer is faster. After the timeout the call
+ * returns the code of the last try. */
 FELTER_GUARD int32_t felter_write_wait(felter_producer *producer, int32_t type_id, const void *body, size_t len,
                                        int64_t timeout) {
     felter_pause pause = {0, 0, timeout};
@@ -61,7 +79,8 @@ FELTER_GUARD int32_t felter_write_wait(felter_producer *producer, int32_t type_i
     }
 }
 
-/* felter_read, which waits for a message. FELTER_NO_MESSAGE after the timeout. */
+/* Calls felter_read again and again, with pauses in between, until there is a message. After the timeout the call
+ * returns FELTER_NO_MESSAGE. felter_read_asleep wakes sooner, if the writers call felter_wake. */
 FELTER_GUARD int32_t felter_read_wait(felter_consumer *consumer, int32_t *type_id, size_t *len, void *buffer,
                                       size_t room, int64_t timeout) {
     felter_pause pause = {0, 0, timeout};
@@ -71,7 +90,8 @@ FELTER_GUARD int32_t felter_read_wait(felter_consumer *consumer, int32_t *type_i
     }
 }
 
-/* felter_receive, which waits for a message. FELTER_NO_MESSAGE after the timeout. */
+/* Calls felter_receive again and again, with pauses in between, until there is a message. After the timeout the call
+ * returns FELTER_NO_MESSAGE. felter_receive_asleep wakes sooner, if the transmitter's thread calls felter_wake. */
 FELTER_GUARD int32_t felter_receive_wait(felter_receiver *receiver, int32_t *type_id, size_t *len, uint64_t *lapped,
                                          void *buffer, size_t room, int64_t timeout) {
     felter_pause pause = {0, 0, timeout};
@@ -81,31 +101,221 @@ FELTER_GUARD int32_t felter_receive_wait(felter_receiver *receiver, int32_t *typ
     }
 }
 
-/* Doorbells --------------------------------------------------------------------------------------------------------
+/* Sleepers ---------------------------------------------------------------------------------------------------------
  *
- * A doorbell is an eventfd: a descriptor that can be read while it was rung and not yet cleared, for poll and epoll.
- * Whoever wrote into a ring rings it; a ring does not. Whoever waits clears it, and then reads until nothing is there.
+ * A reader sleeps until a writer wakes it, which takes some tens of microseconds. The writers and the reader share a
+ * felter_sleepers. It begins as FELTER_NO_SLEEPERS, and lives as long as a thread uses it.
+ *
+ * Each writer calls felter_wake after each write, commit, abort or transmission. This costs one load if no reader
+ * sleeps. Only felter_wake and the timeout wake a reader, so call felter_wake also when the last writer ends.
+ */
+typedef struct felter_sleepers {
+    uint32_t count; /* how many readers sleep, or are about to */
+    uint32_t turn;  /* how often readers were woken */
+} felter_sleepers;
+
+#define FELTER_NO_SLEEPERS {0, 0}
+
+/* Wakes all readers that sleep. Any thread may call this. A reader that is woken finds what was written before the
+ * call: a write ends with an exchange, and no x86-64 processor moves an exchange after the load here. */
+static inline void felter_wake(felter_sleepers *it) {
+    if (__atomic_load_n(&it->count, __ATOMIC_SEQ_CST) == 0) return;
+    __atomic_add_fetch(&it->turn, 1, __ATOMIC_SEQ_CST);
+    syscall(SYS_futex, &it->turn, FUTEX_WAKE_PRIVATE, INT_MAX, NULL, NULL, 0);
+}
+
+/* Returns what is left of the timeout of a pause, in nanoseconds, or -1 if the pause has no timeout. */
+static inline int64_t felter_time_left(felter_pause *it) {
+    struct timespec now;
+    int64_t nanos, left;
+    if (it->timeout < 0) return -1;
+    clock_gettime(CLOCK_MONOTONIC, &now);
+    nanos = (int64_t)now.tv_sec * 1000000000 + now.tv_nsec;
+    if (it->began == 0) it->began = nanos;
+    left = (it->timeout < INT64_MAX / 1000000 ? it->timeout * 1000000 : INT64_MAX) - (nanos - it->began);
+    return left > 0 ? left : 0;
+}
+
+/* Sleeps, unless readers were woken after `turn` was loaded. Returns 1, or 0 without a sleep if the timeout has come.
+ * */
+static inline int felter_sleeps(felter_sleepers *it, uint32_t turn, felter_pause *pause) {
+    const int64_t left = felter_time_left(pause);
+    struct timespec most;
+    if (left == 0) return 0;
+    most.tv_sec = (time_t)(left / 1000000000);
+    most.tv_nsec = (long)(left % 1000000000);
+    syscall(SYS_futex, &it->turn, FUTEX_WAIT_PRIVATE, turn, left < 0 ? NULL : &most, NULL, 0);
+    return 1;
+}
+
+/* Makes a call again and again, with sleeps in between, until its result is not FELTER_NO_MESSAGE. */
+#define FELTER_UNTIL_WOKEN(sleepers, timeout, call)                                  \
+    felter_pause pause = {0, 0, (timeout)};                                          \
+    int32_t code = (call);                                                           \
+    int goes_on = pause.timeout != 0;                                                \
+    while (code == FELTER_NO_MESSAGE && goes_on) {                                   \
+        uint32_t turn;                                                               \
+        __atomic_add_fetch(&(sleepers)->count, 1, __ATOMIC_SEQ_CST);                 \
+        turn = __atomic_load_n(&(sleepers)->turn, __ATOMIC_SEQ_CST);                 \
+        code = (call);                                                               \
+        if (code == FELTER_NO_MESSAGE) goes_on = felter_sleeps(sleepers, turn, &pause); \
+        __atomic_sub_fetch(&(sleepers)->count, 1, __ATOMIC_SEQ_CST);                 \
+        if (code == FELTER_NO_MESSAGE) code = (call);                                \
+    }                                                                                \
+    return code
+
+/* Calls felter_read, and sleeps until there is a message. After the timeout the call returns FELTER_NO_MESSAGE. */
+FELTER_GUARD int32_t felter_read_asleep(felter_consumer *consumer, felter_sleepers *sleepers, int32_t *type_id,
+                                        size_t *len, void *buffer, size_t room, int64_t timeout) {
+    FELTER_UNTIL_WOKEN(sleepers, timeout, felter_read(consumer, type_id, len, buffer, room));
+}
+
+/* Calls felter_receive, and sleeps until there is a message. After the timeout the call returns FELTER_NO_MESSAGE. */
+FELTER_GUARD int32_t felter_receive_asleep(felter_receiver *receiver, felter_sleepers *sleepers, int32_t *type_id,
+                                           size_t *len, uint64_t *lapped, void *buffer, size_t room, int64_t timeout) {
+    FELTER_UNTIL_WOKEN(sleepers, timeout, felter_receive(receiver, type_id, len, lapped, buffer, room));
+}
+
+/* Requests ---------------------------------------------------------------------------------------------------------
+ *
+ * A request is a command of a client together with its reply, until a deadline. The call sends the command, and sends
+ * it again while the ring is full or another client is faster. Then the call polls for the reply, and passes over the
+ * replies to other commands. So a client has one request at a time.
+ *
+ * If the conductor overtakes the client, the reply may be lost. Then the call soon sends a command that changes
+ * nothing: to free an id that no counter has. Replies to one client come in the order of its commands, so the reply to
+ * the second command shows that the conductor took the first one before.
  */
 
-/* Opens one, and answers its descriptor, or -1 with errno. Close it by close. */
+/* What is known of the command when the call ends, and what the call returns then. */
+enum felter_outcome {
+    FELTER_OUTCOME_REPLIED = 0,  /* the reply came: FELTER_OK */
+    FELTER_OUTCOME_NOT_SENT = 1, /* the command was not sent: the code of the refusal */
+    FELTER_OUTCOME_PENDING = 2,  /* no reply came in time, and the command may still be applied: FELTER_NO_MESSAGE */
+    FELTER_OUTCOME_TAKEN = 3,    /* the command was applied or refused, but the reply is lost: FELTER_LAPPED */
+    FELTER_OUTCOME_UNKNOWN = 4   /* PENDING or TAKEN: replies were lost, and the deadline came: FELTER_LAPPED */
+};
+
+typedef struct felter_answer {
+    int32_t outcome; /* enum felter_outcome */
+    int32_t kind;    /* the kind of the reply: enum felter_reply */
+    int64_t number;  /* the number of the reply */
+    uint64_t id;     /* the correlation id of the command, if it was sent */
+} felter_answer;
+
+/* An id that no counter has. */
+#define FELTER_NO_COUNTER UINT32_MAX
+
+/* Returns whether to send the command again, after a pause. */
+static inline int felter_sends_again(int32_t code, felter_pause *pause) {
+    return (code == FELTER_INSUFFICIENT_CAPACITY || code == FELTER_CONTENDED) && felter_pauses(pause);
+}
+
+/* Polls for the reply to a command, unless `sent` says that the command was refused. */
+FELTER_GUARD int32_t felter_await(felter_client *client, int32_t sent, felter_pause *pause, felter_answer *answer) {
+    uint64_t lapped = 0, after = 0;
+    unsigned others = 0, waits = 0;
+    int is_lapped = 0, has_after = 0;
+    answer->outcome = FELTER_OUTCOME_NOT_SENT;
+    if (sent != FELTER_OK) return sent;
+    for (;;) {
+        int32_t code = felter_poll(client, has_after ? after : answer->id, &answer->kind, &answer->number, &lapped);
+        answer->outcome = is_lapped ? FELTER_OUTCOME_UNKNOWN : FELTER_OUTCOME_PENDING;
+        if (code == FELTER_OK) {
+            answer->outcome = has_after ? FELTER_OUTCOME_TAKEN : FELTER_OUTCOME_REPLIED;
+            return has_after ? FELTER_LAPPED : FELTER_OK;
+        }
+        if (code == FELTER_LAPPED) {
+            is_lapped = 1;
+            has_after = 0;
+            waits = 0;
+            continue;
+        }
+        if (code != FELTER_NO_MESSAGE && code != FELTER_OTHER_REPLY) return code;
+        /* (while other replies come the call does not sleep, but looks at the time now and then) */
+        if (code == FELTER_OTHER_REPLY) pause->turns = 0;
+        if (code == FELTER_OTHER_REPLY && ++others % 64 != 0) continue;
+        if (!felter_pauses(pause)) return is_lapped ? FELTER_LAPPED : FELTER_NO_MESSAGE;
+        /* (the reply may still come: so the call waits for it first) */
+        if (is_lapped && !has_after && ++waits > 16)
+            has_after = felter_send_free(client, FELTER_NO_COUNTER, &after) == FELTER_OK;
+    }
+}
+
+/* Requests what felter_send_allocate_owned commands. The owner 0 means that there is none. */
+FELTER_GUARD int32_t felter_request_allocate(felter_client *client, int32_t type_id, uint64_t owner, const void *key,
+                                             size_t key_len, const void *label, size_t label_len, int64_t timeout,
+                                             felter_answer *answer) {
+    felter_pause pause = {0, 0, timeout};
+    int32_t code;
+    if (!answer) return felter_refuse("felter_request_allocate", FELTER_NULL_POINTER);
+    do {
+        code = owner ? felter_send_allocate_owned(client, type_id, owner, key, key_len, label, label_len, &answer->id)
+                     : felter_send_allocate(client, type_id, key, key_len, label, label_len, &answer->id);
+    } while (felter_sends_again(code, &pause));
+    return felter_await(client, code, &pause, answer);
+}
+
+/* Requests what felter_send_free commands. */
+FELTER_GUARD int32_t felter_request_free(felter_client *client, uint32_t counter, int64_t timeout,
+                                         felter_answer *answer) {
+    felter_pause pause = {0, 0, timeout};
+    int32_t code;
+    if (!answer) return felter_refuse("felter_request_free", FELTER_NULL_POINTER);
+    do code = felter_send_free(client, counter, &answer->id);
+    while (felter_sends_again(code, &pause));
+    return felter_await(client, code, &pause, answer);
+}
+
+/* Requests what felter_send_set commands. */
+FELTER_GUARD int32_t felter_request_set(felter_client *client, uint32_t counter, int64_t value, int64_t timeout,
+                                        felter_answer *answer) {
+    felter_pause pause = {0, 0, timeout};
+    int32_t code;
+    if (!answer) return felter_refuse("felter_request_set", FELTER_NULL_POINTER);
+    do code = felter_send_set(client, counter, value, &answer->id);
+    while (felter_sends_again(code, &pause));
+    return felter_await(client, code, &pause, answer);
+}
+
+/* Requests what felter_send_close_owner commands. */
+FELTER_GUARD int32_t felter_request_close_owner(felter_client *client, uint64_t owner, int64_t timeout,
+                                                felter_answer *answer) {
+    felter_pause pause = {0, 0, timeout};
+    int32_t code;
+    if (!answer) return felter_refuse("felter_request_close_owner", FELTER_NULL_POINTER);
+    do code = felter_send_close_owner(client, owner, &answer->id);
+    while (felter_sends_again(code, &pause));
+    return felter_await(client, code, &pause, answer);
+}
+
+/* Doorbells --------------------------------------------------------------------------------------------------------
+ *
+ * A doorbell is an eventfd, for poll and epoll. Its descriptor is readable after the doorbell was rung, until it is
+ * cleared. Writers ring the doorbell after they have written: a ring does not do that itself. The reader clears the
+ * doorbell first, and then reads until no message is there.
+ */
+
+/* Opens a doorbell, and returns its descriptor, or -1 with errno. Close the descriptor by close. */
 static inline int felter_doorbell(void) {
     return eventfd(0, EFD_CLOEXEC | EFD_NONBLOCK);
 }
 
-/* Rings it. Any thread may. Answers 0, or -1 with errno. */
+/* Rings a doorbell. Any thread may call this. Returns 0, or -1 with errno. */
 static inline int felter_ring_doorbell(int bell) {
     const uint64_t one = 1;
     return write(bell, &one, sizeof one) == (ssize_t)sizeof one || errno == EAGAIN ? 0 : -1;
 }
 
-/* Takes back that it was rung, and answers 1 if it was, 0 if not, or -1 with errno. */
+/* Clears a doorbell. Returns 1 if it was rung, 0 if it was not, or -1 with errno. */
 static inline int felter_clear_doorbell(int bell) {
     uint64_t count;
     if (read(bell, &count, sizeof count) == (ssize_t)sizeof count) return 1;
     return errno == EAGAIN ? 0 : -1;
 }
 
-/* Waits until it is rung, for at most so many milliseconds (negative: for ever). Answers as poll. */
+/* Waits until a doorbell is rung, for at most `timeout` milliseconds, or for ever if that is negative. Returns what
+ * poll returns. */
 static inline int felter_wait_doorbell(int bell, int timeout) {
     struct pollfd it;
     it.fd = bell;

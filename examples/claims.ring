@@ -1,5 +1,5 @@
-# Claims: room is claimed first and the body put later, and no read goes past a claim that is open.
-# Run it with: ./ring-run < examples/claims.ring
+# Claims: room is claimed first, and the body is put later. No read goes past an open claim.
+# Run it with: ./ring-run examples/claims.ring
 
 # Two claims are open at once, and the second one is settled first.
 claim 1 16
@@ -8,8 +8,8 @@ put 1 0 48656c6c6f
 put 2 0 7365636f6e64
 commit 2
 
-# The first one lies at the head and is open. So nothing is read, though the
-# tail is beyond the head: the reader is blocked, and the ring is not empty.
+# The first claim is at the head and is open, so nothing is read. The tail is beyond the head: the ring is not empty,
+# but the reader is blocked.
 read 9
 positions
 put 1 5 20776f726c64
@@ -23,7 +23,7 @@ abort 3
 write 3 01
 read 9
 
-# The reader answers each message: n goes on, b takes it and stops, a leaves it
+# The reader returns a letter for each message: n takes the message and goes on, b takes it and stops, and a leaves it
 # in the ring and stops.
 write 1 61
 write 1 62
@@ -32,8 +32,8 @@ control 9 nb
 control 9 a
 control 9 -
 
-# The next record would cross the end of the buffer, 8 bytes ahead, so padding
-# lies there. A read ends at the end of the buffer, and the next goes on behind.
+# The end of the buffer is 8 bytes ahead. The next record would cross that end, so padding comes first. A read stops at
+# the end of the buffer, and the next read goes on after it.
 claim 1 4
 put 4 2 616263
 put 4 1 616263
@@ -41,7 +41,7 @@ read 9
 commit 4
 read 9
 
-# The trailer: correlation ids, each given once, and the reader's heartbeat.
+# The trailer has correlation ids, each of which is given once, and the reader's heartbeat.
 correlation
 correlation
 heartbeat

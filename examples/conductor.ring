@@ -1,20 +1,21 @@
-# A conductor: clients send commands into a ring, and it keeps counters and answers each on a broadcast buffer.
-# Run it with: ./ring-run < examples/conductor.ring
+# A conductor. Clients send commands into a ring. The conductor keeps counters, and replies to each command on a
+# broadcast buffer.
+# Run it with: ./ring-run examples/conductor.ring
 
-# A listener gets the replies that come after it, and a watcher reads values.
+# A listener gets the replies that come after it was made, and a watcher reads values.
 listen
 watch
 
-# Three commands wait in the ring. Each has a correlation id, which its reply
-# will carry. The label is `ab`, and the counter will have id 0.
+# Three commands wait in the ring. Each has a correlation id, which its reply will have too. The label is `ab`, and the
+# counter will have the id 0.
 allocate 5 - 6162
 set 0 42
 set 3 1
 counters
 peek 1 0
 
-# The conductor takes two of them at 100 milliseconds, and then the third, which
-# it refuses with number 21: no counter has id 3.
+# The conductor takes two of them at 100 milliseconds, and then the third one. It refuses that with the number 21: no
+# counter has the id 3.
 work 100 2
 work 100 9
 hear 1
@@ -24,7 +25,7 @@ hear 1
 peek 1 0
 counters
 
-# An owner's counters are freed when the owner is closed: its reply counts two.
+# An owner's counters are freed when the owner is closed. The reply says that they were two.
 own 9 6 - 78
 own 9 6 - 79
 close 9
@@ -35,8 +36,8 @@ hear 1
 owner 0
 owner 1
 
-# A freed id is given again 50 milliseconds after it was freed, and not before:
-# the ids 1 and 2 are free from 160 on, so this counter gets id 3.
+# A freed id is given again 50 milliseconds after it was freed, and not before. The ids 1 and 2 are free from 160 on, so
+# this counter gets the id 3.
 allocate 7 - 7a
 work 159 9
 allocate 7 - 7b
@@ -45,8 +46,8 @@ hear 1
 hear 1
 counters
 
-# Bytes that are no command get a reply too, and change nothing: 22 says that
-# they are malformed, 23 that no command has this type.
+# Bytes that are no command get a reply too, and change nothing. 22 says that they are malformed, and 23 that no command
+# has this type id.
 send 1 0700000000000000
 send 99 0800000000000000
 work 200 9

@@ -1,7 +1,7 @@
-# Storms: clients on threads of their own, against one conductor. The numbers are the same in every order of the threads.
-# Run it with: ./ring-run --commands 256 < examples/storm.ring
+# Storms: clients on threads of their own against one conductor. The numbers are the same in every order of the threads.
+# Run it with: ./ring-run --commands 256 examples/storm.ring
 
-# One client with one command: its counter is allocated and stays 0.
+# One client with one command. Its counter is allocated, and its value stays 0.
 storm 1 1
 
 # Four clients with 1,000 commands each through a ring of 256 bytes. Each client
@@ -9,7 +9,7 @@ storm 1 1
 storm 4 1000
 storm 64 10
 
-# A plan that is not lawful is refused before anything is done.
+# A plan that is not valid is refused before anything is done.
 storm 65 1
 storm 1 0
 end

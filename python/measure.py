@@ -1,6 +1,6 @@
 """Measures a write and a read of 8 bytes, by the extension in C and by ctypes: python3 python/measure.py
 
-Each figure is the least of 2,000 rounds of 50 calls, in microseconds, with the call's loop.
+Each figure is the time of a call in microseconds: the least of 2,000 rounds of 50 calls, with the loop around them.
 """
 
 import os

@@ -1,13 +1,76 @@
 """Tests of how felter's rings, boards and counters take back and end: python3 python/test_closing.py"""
 
+import gc
+import struct
+import threading
 import time
 import unittest
+from random import Random
 
 import felter
 from felter import Message, Number
 from test_felter import Case, run
 
 BODY = b"sixteen bytes..."
+
+
+def claimed(producer, type_id):
+    """A claim of 8 bytes, or None if the ring is full or another producer is faster."""
+    try:
+        return producer.claim(type_id, 8)
+    except (felter.Full, felter.Contended):
+        return None
+
+
+class Lane(threading.Thread):
+    """A producer on a thread, which ends at a random step, and may be freed there."""
+
+    def __init__(self, lane, producer, random):
+        super().__init__()
+        self.lane, self.producer, self.random = lane, producer, random
+        self.next, self.committed = 0, set()
+        self.frees, self.steps = random.random() < 0.5, random.randrange(20)
+
+    def body(self):
+        self.next += 1
+        return struct.pack("=II", self.lane, self.next)
+
+    def write(self, producer):
+        body = self.body()
+        if producer.write_all([(self.lane, body)]):
+            self.committed.add(body)
+
+    def run(self):
+        kept = []
+        for _ in range(self.steps):
+            step = self.random.randrange(4)
+            if step == 0:
+                self.write(self.producer)
+            elif step == 1 and len(kept) < 3:
+                body = self.body()
+                claim = claimed(self.producer, self.lane)
+                if claim:
+                    claim.put(0, body[: self.random.choice((0, 4, 8))])
+                    kept.append((claim, body))
+            elif step == 2 and kept:
+                self.settle(*kept.pop())
+            elif step == 3 and self.producer.shares() > 1:
+                # It is lost with a claim open.
+                other = self.producer.split()
+                self.write(other)
+                lost = claimed(other, self.lane)
+                other.free()
+                del lost
+        if self.frees:
+            self.producer.free()
+        else:
+            for claim, body in kept:
+                self.settle(claim, body)
+
+    def settle(self, claim, body):
+        claim.put(0, body)
+        claim.commit()
+        self.committed.add(body)
 
 
 class Closing(Case):
@@ -25,12 +88,13 @@ class Closing(Case):
             self.assertEqual(consumer.finish(), 2)
             self.refuses(Number.NO_HANDLE, consumer.read)
             self.refuses(Number.NO_HANDLE, consumer.finish)
-        with felter.many_to_one(128)[1] as consumer:
+        producer, consumer = felter.many_to_one(128)
+        with producer, consumer:
             self.refuses(Number.PRODUCERS_OUT, consumer.finish)
 
     def test_padding_and_aborted_claims_are_not_left(self):
         producer, consumer = felter.many_to_one(128)
-        # Each takes 24 bytes, and the sixth lies behind padding.
+        # Each takes 24 bytes, and the sixth comes after padding.
         for type_id in range(1, 6):
             producer.write(type_id, BODY)
         self.assertEqual([consumer.read(), consumer.read()], [Message(1, BODY), Message(2, BODY)])
@@ -55,13 +119,61 @@ class Closing(Case):
             second.put(0, b"abc")
         self.assertEqual(consumer.read(), Message(1, bytes(3)))
         consumer.close(producer)
-        self.refuses(Number.NO_HANDLE, second.commit)
+        # (a claim that was settled has nothing to do with its producer any more)
+        self.refuses(Number.NO_CLAIM, second.commit)
         self.assertEqual(list(consumer), [Message(2, b"abc")])
         self.assertEqual(consumer.finish(), 0)
-        # One that is freed is missed for good.
+
+    def test_a_ring_is_closed_without_producers_that_were_freed(self):
         producer, consumer = felter.many_to_one(256)
-        producer.split().free()
+        other, third = producer.split(), producer.split()
+        other.write(1, BODY)
+        claim = other.claim(2, 3)
+        producer.write(3, BODY)
+        other.write(4, BODY)
+        other.free()
+        self.refuses(Number.NO_HANDLE, claim.commit)
         self.refuses(Number.PRODUCERS_OUT, consumer.close, producer)
+        third.free()
+        self.assertEqual(consumer.read(), Message(1, BODY))
+        consumer.close(producer)
+        self.assertEqual(consumer.read(), Message(3, BODY))
+        self.assertEqual(consumer.finish(), 1)
+        # Without the last one too, which the interpreter frees here.
+        for make in felter.many_to_one, felter.one_to_one:
+            producer, consumer = make(256)
+            producer.write(1, BODY)
+            claim = producer.claim(2, 3)
+            producer.write(3, BODY)
+            self.refuses(Number.PRODUCERS_OUT, consumer.finish)
+            del claim, producer
+            gc.collect()
+            self.assertEqual(consumer.finish(), 2)
+
+    def test_producers_that_end_at_any_step_lose_nothing(self):
+        random = Random(7)
+        for _ in range(150):
+            producer, consumer = felter.many_to_one(random.choice((128, 1024)))
+            producers = [producer] + [producer.split() for _ in range(3)]
+            for other in producers[1:] * 5:
+                other.join(producer.split())
+            lanes = [Lane(at + 1, it, Random(random.random())) for at, it in enumerate(producers)]
+            for lane in lanes:
+                lane.start()
+            read = [message for _ in range(random.randrange(6)) for message in consumer.read_batch(9, 512)]
+            for lane in lanes:
+                lane.join()
+            left = [lane.producer for lane in lanes if not lane.frees]
+            for other in left[1:]:
+                self.refuses(Number.PRODUCERS_OUT, consumer.close, left[0])
+                left[0].join(other)
+            if left:
+                consumer.close(left[0])
+            read += list(consumer)
+            self.assertEqual(consumer.finish(), 0)
+            # Each committed message came once, whole, and in the order of its producer.
+            for lane in lanes:
+                self.assertEqual([m.body for m in read if m.type_id == lane.lane], sorted(lane.committed))
 
     def test_rings_of_one_capacity_are_not_mixed(self):
         (one, of_one), (two, of_two) = felter.many_to_one(128), felter.many_to_one(128)
@@ -118,8 +230,10 @@ class Closing(Case):
         self.assertEqual(transmitter.close(), 512 + 16 + 40 + 8)
         self.refuses(Number.NO_HANDLE, transmitter.close)
         transmitter = felter.Transmitter(256)
+        transmitter.transmit(1, bytes(26))
         transmitter.subscribe().free()
-        self.refuses(Number.RECEIVERS_OUT, transmitter.close)
+        transmitter.subscribe_raw().free()
+        self.assertEqual(transmitter.close(), 40)
 
     def test_boards_of_one_capacity_are_not_mixed(self):
         one, two, conductor = felter.Transmitter(256), felter.Transmitter(256), felter.Conductor(128, 256, 1)

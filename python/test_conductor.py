@@ -1,5 +1,7 @@
 """Tests of felter's conductors: python3 python/test_conductor.py"""
 
+import pickle
+import threading
 import time
 import unittest
 
@@ -173,10 +175,14 @@ class Conductors(Case):
         with reader:
             self.assertEqual(reader.value(0), 0)
         self.assertEqual(conductor.finish(), (1, 1))
-        with felter.Conductor(256, 256, 1) as conductor:
-            conductor.client().free()
-            self.refuses(Number.PRODUCERS_OUT, conductor.finish)
         self.refuses(Number.NO_HANDLE, conductor.finish)
+        # Clients and receivers that were freed are not missed.
+        conductor = felter.Conductor(256, 256, 1)
+        client = conductor.client()
+        client.close_owner(5)
+        client.free()
+        conductor.subscribe().free()
+        self.assertEqual(conductor.finish(), (0, 1))
 
     def test_conductors_are_not_mixed(self):
         one, two = felter.Conductor(256, 256, 1), felter.Conductor(256, 256, 1)
@@ -194,6 +200,85 @@ class Conductors(Case):
         two.join_receiver(receiver)
         two.join_reader(reader)
         self.assertEqual((one.finish(), two.finish()), ((0, 0), (0, 0)))
+
+
+class Requests(Case):
+    """Commands with their replies: what is known of one when its request ends."""
+
+    def test_each_command_gets_its_reply(self):
+        conductor = felter.Conductor(1024, 4096, 4)
+        client, stop, replies = conductor.client(), [], []
+
+        def work():
+            while not stop:
+                conductor.work(0)
+
+        def ask():
+            try:
+                replies.append(client.request(client.allocate, 1, b"", b"owned", 9, timeout=20))
+                replies.append(client.request(client.set, 0, 5, timeout=20))
+                replies.append(client.request(client.set, 9, 1, timeout=20))
+                replies.append(client.request(client.close_owner, 9))
+            finally:
+                stop.append(True)
+
+        run(work, ask)
+        kind = felter.ReplyKind
+        self.assertEqual(replies, [(kind.ALLOCATED, 0), (kind.DONE, 0), (kind.REFUSED, Number.BAD_ID), (kind.CLOSED, 1)])
+
+    def test_a_command_that_has_no_room_is_not_sent(self):
+        conductor = felter.Conductor(256, 256, 4)
+        client = conductor.client()
+        with self.assertRaises(felter.Full):
+            while True:
+                client.set(0, 1)
+        with self.assertRaises(felter.Full):
+            client.request(client.set, 0, 1, timeout=0.01)
+        with self.assertRaises(felter.Error):
+            client.request(client.allocate, 1, b"", bytes(600))
+        with self.assertRaises(ValueError):
+            client.request(client.set, 0, 1, timeout=float("nan"))
+
+    def unanswered(self, outcome, client, timeout):
+        with self.assertRaises(felter.Unanswered) as caught:
+            client.request(client.set, 0, 5, timeout=timeout)
+        self.assertEqual(caught.exception.outcome, outcome)
+        back = pickle.loads(pickle.dumps(caught.exception))
+        self.assertEqual((back.outcome, back.correlation), (outcome, caught.exception.correlation))
+        return caught.exception.correlation
+
+    def test_a_deadline_leaves_a_command_pending(self):
+        conductor = felter.Conductor(1024, 4096, 4)
+        client = conductor.client()
+        correlation = self.unanswered(felter.Outcome.PENDING, client, 0.01)
+        conductor.work(0)
+        self.assertEqual(client.poll(correlation).kind, felter.ReplyKind.REFUSED)
+        with self.assertRaises(felter.Disconnected):
+            timer = threading.Timer(0.02, conductor.free)
+            timer.start()
+            client.request(client.set, 0, 5)
+        timer.join()
+
+    def lapped(self):
+        """A conductor, and a client of it that was lapped."""
+        conductor = felter.Conductor(4096, 256, 4)
+        client, other = conductor.client(), conductor.client()
+        for _ in range(40):
+            other.set(0, 1)
+            conductor.work(0)
+        return conductor, client
+
+    def test_a_lapped_client_learns_that_its_command_was_taken(self):
+        conductor, client = self.lapped()
+        # It looks for its reply a few times, and then asks by another command.
+        timer = threading.Timer(1, lambda: conductor.work(0))
+        timer.start()
+        self.unanswered(felter.Outcome.TAKEN, client, 20)
+        timer.join()
+
+    def test_a_lapped_client_that_gets_no_reply_says_so(self):
+        conductor, client = self.lapped()
+        self.unanswered(felter.Outcome.UNKNOWN, client, 0.05)
 
 
 if __name__ == "__main__":

@@ -1,20 +1,15 @@
-"""Tests of what Python adds: copies, pickles, buffers, interrupts, forks: python3 python/test_edges.py"""
+"""Tests of what Python adds: copies, pickles, buffers, numbers, claims: python3 python/test_edges.py"""
 
 import array
 import copy
-import os
+import gc
+import inspect
 import pickle
-import signal
-import sys
-import threading
 import unittest
 
 import felter
 from felter import Message, Number, _library
 from test_felter import Case
-
-# Whether the calls go through the extension in C, and not through ctypes.
-IS_FAST = _library.fast is not None
 
 
 class Liar(bytes):
@@ -93,6 +88,120 @@ class Edges(Case):
                 producer.write(type_id, b"")
         self.assertEqual(list(consumer), [])
 
+    def test_numbers_of_many_digits_are_refused_as_others_are(self):
+        # (Python refuses to write an int of more than 4,300 digits, so no text may have all of them)
+        producer, consumer = felter.many_to_one(256)
+        huge = 10**10000
+        with producer.claim(1, 4) as claim:
+            calls = [
+                lambda: producer.write(huge, b""),
+                lambda: producer.write(-huge, b""),
+                lambda: producer.claim(huge, 1),
+                lambda: producer.claim(1, huge),
+                lambda: claim.put(huge, b""),
+                lambda: consumer.read_batch(huge),
+                lambda: consumer.set_heartbeat(huge),
+                lambda: felter.Counters(1).set(0, huge),
+                lambda: felter.Transmitter(256).transmit(huge, b""),
+            ]
+            for call in calls:
+                with self.assertRaises(OverflowError) as caught:
+                    call()
+                self.assertLess(len(str(caught.exception)), 200)
+        with self.assertRaises(OverflowError) as caught:
+            producer.write(2**31, b"")
+        self.assertEqual(str(caught.exception), "2147483648 is not from -2147483648 to 2147483647")
+
+    def test_timeouts_that_are_no_number_are_refused(self):
+        producer, consumer = felter.many_to_one(128)
+        transmitter = felter.Transmitter(256)
+        receiver, nan = transmitter.subscribe(), float("nan")
+        with felter.Doorbell() as bell:
+            for call in consumer.read, receiver.receive, bell.wait, lambda it: producer.write(1, b"", it):
+                with self.assertRaises(ValueError):
+                    call(nan)
+        self.assertEqual(list(consumer), [])
+
+    def test_parameters_have_names_and_are_counted(self):
+        producer, consumer = felter.many_to_one(256)
+        producer.write(body=b"named", type_id=1)
+        producer.write(2, b"half", timeout=0)
+        producer.write(3, b"all", 0.0)
+        self.assertEqual([consumer.read(timeout=0), *consumer.read_batch(limit=2, room=4096)],
+                         [Message(1, b"named"), Message(2, b"half"), Message(3, b"all")])
+        producer.claim(type_id=4, length=2).commit()
+        self.assertEqual(consumer.peek(), Message(4, bytes(2)))
+        transmitter = felter.Transmitter(256)
+        receiver = transmitter.subscribe()
+        transmitter.transmit(type_id=5, body=b"t")
+        self.assertEqual(receiver.receive(timeout=0), Message(5, b"t"))
+        wrong = [
+            lambda: producer.write(1),
+            lambda: producer.write(1, b"", 0, 0),
+            lambda: producer.write(1, b"", type_id=1),
+            lambda: producer.write(1, b"", until=0),
+            lambda: producer.write(body=b""),
+            lambda: producer.claim(1),
+            lambda: consumer.read(0, 0),
+            lambda: consumer.read_batch(),
+            lambda: consumer.peek(1),
+            lambda: receiver.receive(wait=1),
+            lambda: transmitter.transmit(1, b"", 0),
+        ]
+        for call in wrong:
+            with self.assertRaises(TypeError):
+                call()
+        names = list(inspect.signature(felter.Producer.write).parameters)
+        self.assertEqual(names, ["self", "type_id", "body", "timeout"])
+        self.assertIn("any object with bytes", felter.Producer.write.__doc__)
+
+    def test_batches_have_the_room_that_was_given(self):
+        producer, consumer = felter.many_to_one(1 << 20)
+        for number in range(300):
+            producer.write(1 + number, bytes([number % 251]) * (number % 40))
+        wanted = [Message(1 + number, bytes([number % 251]) * (number % 40)) for number in range(300)]
+        with self.assertRaises(felter.Error) as short:
+            consumer.read_batch(9, 15)
+        self.assertEqual(short.exception.number, Number.SHORT_BUFFER)
+        read = consumer.read_batch(9, 48) + consumer.read_batch(0) + consumer.read_batch(20)
+        self.assertEqual(read, wanted[: len(read)])
+        self.assertGreater(len(read), 20)
+        read += consumer.read_batch(2**32 - 1, 2 << 20)
+        self.assertEqual(read, wanted)
+        self.assertEqual(consumer.read_batch(9), [])
+        with self.assertRaises(MemoryError):
+            consumer.read_batch(9, 2**62)
+
+    @unittest.skipIf(_library.fast is None, "by ctypes a call inside of a call of the same handle is refused")
+    def test_messages_can_be_read_while_others_are_made(self):
+        # (what garbage runs when it is collected may read by the same handle)
+        producer, consumer = felter.many_to_one(1 << 16)
+        more = []
+
+        class Garbage:
+            def __init__(self):
+                self.itself = self
+
+            def __del__(self):
+                more.extend(consumer.read_batch(3))
+
+        wanted = []
+        before = gc.get_threshold()
+        gc.set_threshold(1)
+        try:
+            for number in range(400):
+                body = b"%d " % number * 9
+                producer.write(1 + number, body)
+                wanted.append(Message(1 + number, body))
+            read = []
+            while len(read) + len(more) < 400:
+                Garbage()
+                read += consumer.read_batch(7)
+        finally:
+            gc.set_threshold(*before)
+            gc.collect()
+        self.assertEqual(sorted(read + more), wanted)
+
     def test_numbers_may_have_code_of_their_own(self):
         producer, consumer = felter.many_to_one(256)
 
@@ -153,8 +262,48 @@ class Edges(Case):
         kept.commit()
         producer.write(5, b"")
         self.assertEqual(list(consumer), [Message(3, b"\0"), Message(5, b"")])
+        producer.write(6, b"")
+        waiting = producer.claim(7, 1)
+        producer.write(8, b"")
+        self.assertEqual(consumer.read(), Message(6, b""))
+        self.assertIsNone(consumer.read())
+        del waiting
+        # (no call of a producer comes in between)
+        self.assertEqual(consumer.read(), Message(8, b""))
         consumer.close(producer)
         self.assertEqual(consumer.finish(), 0)
+
+    def test_a_settled_claim_holds_its_producer_no_longer(self):
+        for settle in "commit", "abort":
+            producer, consumer = felter.many_to_one(256)
+            claim = producer.claim(1, 4)
+            getattr(claim, settle)()
+            self.assertFalse(consumer.is_abandoned())
+            del producer
+            self.assertTrue(consumer.is_abandoned())
+            for call in claim.commit, claim.abort, lambda: claim.put(0, b"x"):
+                self.refuses(Number.NO_CLAIM, call)
+        producer, consumer = felter.many_to_one(256)
+        with producer.claim(1, 4) as claim:
+            del producer
+            self.assertFalse(consumer.is_abandoned())
+        self.assertTrue(consumer.is_abandoned())
+        self.assertEqual(list(consumer), [Message(1, bytes(4))])
+
+    def test_claims_follow_their_producers_through_many_joins(self):
+        producer, consumer = felter.many_to_one(1 << 16)
+        others = [producer.split() for _ in range(50)]
+        claims = [it.claim(1 + number, 1) for number, it in enumerate(others)]
+        # (each is taken in by the next one)
+        for one, two in zip(others, others[1:]):
+            two.join(one)
+        producer.join(others[-1])
+        del others
+        for claim in claims[::2]:
+            claim.commit()
+        del claims, claim
+        self.assertEqual([it.type_id for it in consumer], list(range(1, 51, 2)))
+        consumer.close(producer)
 
     def test_a_dropped_claim_of_a_producer_that_was_freed_is_no_matter(self):
         producer, consumer = felter.many_to_one(256)
@@ -163,166 +312,6 @@ class Edges(Case):
         self.refuses(Number.NO_HANDLE, claim.commit)
         del claim
         self.assertEqual(list(consumer), [])
-
-
-# Before Python 3.10 an interrupt can come between the end of a `with` and its __exit__, which leaves a lock held.
-LEAVES_LOCKS = not IS_FAST and sys.version_info < (3, 10)
-
-
-class Interrupts(Case):
-    """Ctrl-C at any place: it stays KeyboardInterrupt, and no claim stays open."""
-
-    def interrupted(self, work, seconds):
-        """Runs work again and again under a timer that interrupts it. Returns how often it was interrupted."""
-
-        def interrupt(*_):
-            raise KeyboardInterrupt
-
-        before = signal.signal(signal.SIGALRM, interrupt)
-        count, end = 0, os.times().elapsed + seconds
-        try:
-            while os.times().elapsed < end:
-                try:
-                    signal.setitimer(signal.ITIMER_REAL, 0.0002)
-                    # (an end, since an interrupt during a finalizer is only reported)
-                    for _ in range(1000):
-                        work()
-                    # (what comes before this is raised here, and nothing comes after it)
-                    signal.setitimer(signal.ITIMER_REAL, 0)
-                except KeyboardInterrupt:
-                    count += 1
-        finally:
-            signal.setitimer(signal.ITIMER_REAL, 0)
-            signal.signal(signal.SIGALRM, before)
-        return count
-
-    @unittest.skipIf(LEAVES_LOCKS, "this Python leaves locks held")
-    def test_interrupts_stay_what_they_are(self):
-        producer, consumer = felter.many_to_one(256)
-
-        def work():
-            while consumer.read():
-                pass
-            producer.write(1, b"body")
-
-        self.assertGreater(self.interrupted(work, 0.5), 10)
-        while consumer.read():
-            pass
-        producer.write(2, b"after")
-        self.assertEqual(list(consumer), [Message(2, b"after")])
-
-    @unittest.skipIf(LEAVES_LOCKS, "this Python leaves locks held")
-    def test_no_claim_stays_open(self):
-        producer, consumer = felter.many_to_one(1024)
-
-        def work():
-            with producer.claim(1, 8) as claim:
-                claim.put(0, b"whole....")
-            while consumer.read():
-                pass
-
-        with self.assertRaises(felter.Error):
-            work()
-
-        def whole():
-            with producer.claim(1, 5) as claim:
-                claim.put(0, b"whole")
-            while consumer.read():
-                pass
-
-        hook, sys.unraisablehook = sys.unraisablehook, lambda _: None
-        try:
-            self.assertGreater(self.interrupted(whole, 1), 10)
-        finally:
-            sys.unraisablehook = hook
-        producer.write(9, b"after")
-        self.assertEqual(list(consumer)[-1], Message(9, b"after"))
-        consumer.close(producer)
-        self.assertEqual(consumer.finish(), 0)
-
-    @unittest.skipIf(LEAVES_LOCKS, "this Python leaves locks held")
-    def test_no_lock_stays_held(self):
-        producer, consumer = felter.many_to_one(256)
-
-        def work():
-            # (what a claim that is dropped calls)
-            producer._quietly("felter_abort", 7)
-
-        self.assertGreater(self.interrupted(work, 1), 10)
-        producer.write(1, b"after")
-        self.assertEqual(list(consumer), [Message(1, b"after")])
-
-    def test_claims_of_a_producer_that_was_taken_in_are_known_after_an_interrupt(self):
-        producer, consumer = felter.many_to_one(256)
-        other, do = producer.split(), producer._do
-        kept, dropped = other.claim(1, 1), other.claim(2, 1)
-
-        def interrupted(*given):
-            do(*given)
-            raise KeyboardInterrupt
-
-        producer._do = interrupted
-        with self.assertRaises(KeyboardInterrupt):
-            producer.join(other)
-        del producer._do, dropped
-        kept.commit()
-        producer.write(3, b"after")
-        self.assertEqual(list(consumer), [Message(1, b"\0"), Message(3, b"after")])
-
-    def test_a_handler_that_uses_the_interrupted_handle_is_refused(self):
-        # (no call of the extension is interrupted, so there is nothing to refuse)
-        producer, consumer = felter.many_to_one(256)
-        said, written = [], []
-
-        def use(*_):
-            try:
-                producer.write(1, b"")
-                written.append(1)
-            except RuntimeError as why:
-                said.append(str(why))
-            except felter.Full:
-                pass
-
-        before = signal.signal(signal.SIGALRM, use)
-        try:
-            signal.setitimer(signal.ITIMER_REAL, 0.0003, 0.0003)
-            end = os.times().elapsed + 3
-            while not said and not (IS_FAST and len(written) > 9) and os.times().elapsed < end:
-                producer.positions()
-        finally:
-            signal.setitimer(signal.ITIMER_REAL, 0)
-            signal.signal(signal.SIGALRM, before)
-        if not IS_FAST:
-            self.assertIn("interrupted", said[0])
-        self.assertEqual(len(list(consumer)), len(written))
-
-    def test_a_forked_child_is_refused(self):
-        producer, consumer = felter.many_to_one(256)
-        held = threading.Event()
-        done = threading.Event()
-
-        def hold():
-            # (by ctypes the other thread is in the middle of a call, as far as the child can see)
-            with getattr(producer, "_lock", threading.Lock()):
-                held.set()
-                done.wait()
-
-        thread = threading.Thread(target=hold)
-        thread.start()
-        held.wait()
-        child = os.fork()
-        if child == 0:
-            try:
-                producer.write(1, b"")
-            except RuntimeError:
-                os._exit(7)
-            os._exit(1)
-        done.set()
-        thread.join()
-        self.assertEqual(os.WEXITSTATUS(os.waitpid(child, 0)[1]), 7)
-        producer.write(1, b"ours")
-        self.assertEqual(list(consumer), [Message(1, b"ours")])
-
 
 if __name__ == "__main__":
     unittest.main()

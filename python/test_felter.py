@@ -55,6 +55,16 @@ class Rings(Case):
         producer.write(5, bytes(512))
         self.assertEqual(consumer.read(), Message(5, bytes(512)))
 
+    def test_how_full_a_ring_is(self):
+        producer, consumer = felter.one_to_one(128)
+        self.assertTrue(producer.is_empty() and producer.available() == 128)
+        # (a header of 8 bytes, and the body rounded up to 8)
+        producer.write(1, bytes(13))
+        self.assertEqual((producer.used(), producer.available(), producer.is_empty()), (24, 104, False))
+        consumer.read()
+        self.assertEqual((producer.used(), producer.is_empty()), (0, True))
+        self.assertEqual(producer.write_batch([(1, b"a"), (2, b"b")]), 2)
+
     def test_batches_have_all_messages_in_order(self):
         producer, consumer = felter.many_to_one(4096)
         wanted = [Message(1 + number, body_of(1, number)) for number in range(20)]

@@ -4,6 +4,7 @@ python/test_forms.py"""
 import importlib.machinery
 import os
 import pathlib
+import re
 import subprocess
 import sys
 import tempfile
@@ -15,19 +16,26 @@ from test_felter import Case
 HERE = pathlib.Path(__file__).resolve().parent
 FOLDER = pathlib.Path(_library.library).resolve().parent
 # The extensions that this Python can load.
-ENDINGS = [it for it in importlib.machinery.EXTENSION_SUFFIXES if it != ".abi3.so" or sys.version_info >= (3, 11)]
+ENDINGS = importlib.machinery.EXTENSION_SUFFIXES
 EXTENSIONS = [FOLDER / ("_fast" + it) for it in ENDINGS if (FOLDER / ("_fast" + it)).exists()]
 
 
 def run(program, **environment):
     """What a program in Python prints, with its errors."""
     environment = {**os.environ, "FELTER_PURE": "0", "FELTER_DIR": str(FOLDER), "PYTHONPATH": str(HERE), **environment}
-    words = [sys.executable, "-B", "-c", program]
+    words = [sys.executable, "-B", "-W", "always::ImportWarning", "-c", program]
     done = subprocess.run(words, env=environment, stdout=subprocess.PIPE, stderr=subprocess.STDOUT)
     return done.stdout.decode()
 
 
 SHOWS_FORM = "import felter._library as it; print(it.fast is not None)"
+# (one line for each warning, and which form it is)
+WARNS = """
+import warnings
+warnings.showwarning = lambda what, kind, *_: print(kind.__name__)
+import felter
+print(felter.implementation)
+"""
 
 
 class Imports(Case):
@@ -40,12 +48,20 @@ class Imports(Case):
         for pure, is_fast in ("1", False), ("0", bool(EXTENSIONS)), ("", bool(EXTENSIONS)):
             self.assertEqual(run(SHOWS_FORM, FELTER_PURE=pure), "%s\n" % is_fast)
 
+    def test_ctypes_is_not_taken_without_a_word(self):
+        with tempfile.TemporaryDirectory() as folder:
+            os.symlink(FOLDER / "libfelter.so", folder + "/libfelter.so")
+            self.assertEqual(run(WARNS, FELTER_DIR=folder), "ImportWarning\nctypes\n")
+            self.assertEqual(run(WARNS, FELTER_DIR=folder, FELTER_PURE="1"), "ctypes\n")
+        self.assertEqual(run(WARNS), "extension\n" if EXTENSIONS else "ImportWarning\nctypes\n")
+
     def test_an_extension_that_cannot_be_loaded_is_not_taken(self):
         with tempfile.TemporaryDirectory() as folder:
             os.symlink(FOLDER / "libfelter.so", folder + "/libfelter.so")
             pathlib.Path(folder, "_fast.abi3.so").write_text("no library")
             said = run("import felter; print(felter.many_to_one(128)[0].shares())", FELTER_DIR=folder)
-            self.assertEqual(said, "65536\n")
+            self.assertIn("ImportWarning", said)
+            self.assertTrue(said.endswith("\n65536\n"), said)
 
     def test_a_folder_may_have_any_name(self):
         with tempfile.TemporaryDirectory() as room:
@@ -56,7 +72,8 @@ class Imports(Case):
             # (Python 3.12 and later ones load no extension from there)
             is_fast = bool(EXTENSIONS) and sys.version_info < (3, 12)
             for pure, wanted in ("0", is_fast), ("1", False):
-                self.assertEqual(run(SHOWS_FORM, FELTER_DIR=folder, FELTER_PURE=pure), "%s\n" % wanted)
+                said = run(SHOWS_FORM, FELTER_DIR=folder, FELTER_PURE=pure)
+                self.assertEqual(said.splitlines()[-1], str(wanted))
 
     def test_another_copy_of_the_package_takes_nothing_from_the_first(self):
         said = run("""
@@ -76,7 +93,8 @@ for felter, its in (first, (producer, consumer)), (second, second.many_to_one(12
     except felter.Error as why:
         print(why)
 """)
-        self.assertEqual(said, "4 BAD_TYPE: the type id is below 1\n" * 2)
+        self.assertEqual(re.findall("^4 .*", said, re.M), ["4 BAD_TYPE: the type id is below 1"] * 2)
+        self.assertEqual(said.count("ImportWarning"), 1)
 
 
 # Calls with what they may not be given, and some with what they may.
@@ -143,7 +161,36 @@ for call in receiver.receive, receiver.receive, raw.receive_next, raw.receive_ne
         print(call())
     except felter.Error as why:
         print(type(why).__name__, why, vars(why))
-for call in lambda: producer.join(5), lambda: consumer.close(None), lambda: producer.join(consumer), lambda: consumer.peek(1):
+for call in lambda: producer.join(5), lambda: consumer.close(None), lambda: producer.join(consumer):
+    try:
+        print(call())
+    except Exception as why:
+        print(type(why).__name__, why)
+# (Python says of a method in C and of one in Python in other words that a value is too much)
+for call in lambda: consumer.peek(1), lambda: producer.write(1), lambda: producer.claim(1, 2, 3), lambda: consumer.read(0, 0):
+    try:
+        print(call())
+    except Exception as why:
+        print(type(why).__name__)
+producer, consumer = felter.many_to_one(1024)
+with producer.claim(1, 4) as claim:
+    pass
+for call in claim.commit, claim.abort, lambda: claim.put(0, b""), lambda: claim.__exit__(None, None, None):
+    try:
+        print(call())
+    except Exception as why:
+        print(type(why).__name__, why)
+print(claim.__exit__(ValueError, None, None), claim.__enter__() is claim)
+claim = producer.claim(1, 4)
+producer.free()
+for call in claim.commit, claim.abort, lambda: claim.put(0, b""), lambda: producer.claim(1, 1), lambda: producer.write(1, b""):
+    try:
+        print(call())
+    except Exception as why:
+        print(type(why).__name__, why)
+print(claim.__exit__(ValueError, None, None))
+consumer.free()
+for call in consumer.read, consumer.peek, lambda: consumer.read_batch(1), lambda: consumer.read_batch(0), lambda: list(consumer):
     try:
         print(call())
     except Exception as why:

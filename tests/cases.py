@@ -54,7 +54,14 @@ class Case(typing.NamedTuple):
             return first_difference(self.shown, found)
         if ran.status != status:
             return "status %s, and not %d: %s" % (ran.status, status, ran.err.strip()[-500:])
+        if faults and faults[-1].startswith("fault: 25 "):
+            return self.difference_of_reason(ran)
         return None
+
+    def difference_of_reason(self, ran):
+        """How the reason of a bad line differs from that of the model, or None."""
+        wanted, found = (re.findall("^reason: .*$", it.err, re.M) for it in (self.of_model(), ran))
+        return None if found == wanted else "the reason is %s, and not %s" % (found, wanted)
 
     def run(self, program):
         """Runs a program at the top of the repository."""

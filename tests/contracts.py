@@ -9,12 +9,12 @@ HEAD = """# Calling `%s`
 
 %s
 
-The public calls with their contracts, quoted from `src` by `tests/calling`. In a clause `self.old` and `self.new` are
-`self` before and after the call, `self.now` what a shared reference shows; `specs` defines the words.
+The public calls with their contracts, quoted from `src` by `tests/calling`: first the calls of types, then free functions,
+then those of traits. Above each call is the first sentence of its doc comment. In a clause
+`self.old` and `self.new` are `self` before and after the call, and `self.now` is what a shared reference shows; `specs`
+defines the words, and docs/READING.md explains the symbols.
 
-```text
 %s
-```
 """
 
 
@@ -92,8 +92,19 @@ def shown(clause):
     return "%s%s: %s" % (kind, " " + name if name else "", fact)
 
 
+def doc_of(lines, at):
+    """The first sentence of the doc comment above a line, or nothing."""
+    said = []
+    while at > 0 and re.match(r"^ *(///|#\[)", lines[at - 1]):
+        at -= 1
+        said[:0] = [lines[at].strip()[3:].strip()] if lines[at].strip().startswith("///") else []
+    first = " ".join(said).split("  ")[0]
+    return re.sub(r":$", ".", re.split(r"(?<=[.:])\s", first)[0]) if first else ""
+
+
 def calls_in(path, names, whole):
-    """The public functions of a file, with the type or trait that they are of."""
+    """The public functions of a file: the type or trait that each is of, or nothing, whether that is a trait, the
+    signature, the first sentence of its doc comment, and the clauses."""
     owner, shown_as, is_trait = None, None, False
     lines = lines_of(path)
     for at, line in enumerate(lines):
@@ -111,16 +122,32 @@ def calls_in(path, names, whole):
         if (found.group(2) or (is_trait and found.group(1))) and (whole or of in names):
             signature, clauses = header(lines, at)
             name = signature.replace("pub ", "", 1)
-            yield name.replace("fn ", "fn %s::" % shown_as, 1) if found.group(1) else name, clauses
+            of_type = shown_as if found.group(1) else ""
+            yield of_type, is_trait and bool(of_type), name, doc_of(lines, at), clauses
+
+
+def is_fault(calls):
+    """Whether these are the calls of a fault, which only has a number."""
+    return all(re.search(r"(?m)^fn code", call) for call in calls)
 
 
 def calling(crate):
+    """The page: a heading for each type, for the free functions and for each trait. Types with many calls come first, and
+    of a type the calls that make it; otherwise the order is that of the files."""
     names, modules = exported(crate)
-    listed = []
+    groups = {}
     for path in sources(crate):
         stem = os.path.basename(path)[:-len(".rt")]
-        for signature, clauses in calls_in(path, names, stem in modules):
-            listed.append("\n".join([signature] + ["  " + shown(clause) for clause in clauses]))
+        for of_type, is_trait, signature, said, clauses in calls_in(path, names, stem in modules):
+            lines = ["// " + said] if said else []
+            lines += [signature] + ["  " + shown(clause) for clause in clauses]
+            groups.setdefault((is_trait, not of_type, of_type), []).append("\n".join(lines))
+    parts = []
+    for key in sorted(groups, key=lambda it: (*it[:2], is_fault(groups[it]), -len(groups[it]))):
+        is_trait, is_free, of_type = key
+        title = "Free functions" if is_free else "%s`%s`" % ("Trait " if is_trait else "", of_type)
+        calls = sorted(groups[key], key=lambda call: not re.search(r"(?m)^fn new", call))
+        parts.append("## %s\n\n```text\n%s\n```" % (title, "\n\n".join(calls)))
     first = next(line[3:].strip() for line in lines_of(os.path.join(TOP, "crates", crate, "src/lib.rt"))
                  if line.startswith("//!"))
-    return HEAD % (crate, first, "\n".join(listed))
+    return HEAD % (crate, first, "\n\n".join(parts))

@@ -1,18 +1,22 @@
-"""What tests/documents asks of prose: paths that exist, plain words, not too many of them, and a short glossary."""
+"""What tests/documents asks of prose: paths that exist, plain words, a README of some lines, and a short glossary."""
+import ast
 import fnmatch
+import io
 import os
 import re
 import subprocess
+import tokenize
 
 TOP = os.path.dirname(os.path.dirname(os.path.abspath(__file__)))
-MOST_WORDS = 27000
-MOST_WORDS_OF_README = 1000
-MOST_LINES_OF_README = 120
+MOST_LINES_OF_README = 140
 MOST_WORDS_OF_CALLS = 20
 STRUCTURES = {"rings", "broadcast buffer", "counters", "conductor"}
 PLACEHOLDER = r"(^|[/_])(NAME|CRATE|X|FILE|FUNCTION|MODULE|TYPE|DIR|PATH)([/_.]|$)"
 ENDINGS = r"[\w}]\.(?:rt|antt|md|py|svg|c|h|hpp|rs|ring|out|edit|txt|toml)$"
-COMMENT = {".rt": r"^\s*//[/!]? ?(.*)", ".antt": r"^\s*-- ?(.*)"}
+COMMENT = {".rt": r"^\s*//[/!]? ?(.*)", ".rs": r"^\s*//[/!]? ?(.*)", ".antt": r"^\s*-- ?(.*)", ".ring": r"^\s*# ?(.*)"}
+# What users of the library and the programs read: it is held to the words of documents, but those of code are right.
+READ_BY_USERS = ("c/felter", "c/examples/", "rust/felter/src/", "rust/felter/examples/", "python/felter/", "java/felter/",
+                 "docs/help/", "examples/")
 
 
 def read(path):
@@ -29,7 +33,7 @@ def tracked():
 
 
 def generated(path):
-    return path.endswith("/CALLING.md") or path == "bench/RESULTS.md"
+    return path.endswith("/CALLING.md") or path in ("bench/RESULTS.md", "docs/DEFINITIONS.md")
 
 
 def without_code(text):
@@ -87,6 +91,10 @@ def check_paths(report, page, text, places):
                                     "nothing is at `%s`" % path)
 
 
+# Words of every comment, of what users read too, and of documents alone.
+KINDS = ("word", "read-by-users", "in-documents")
+
+
 class Words:
     """The list in tests/words: what to write instead, where, and the lines that are right as they are."""
 
@@ -94,15 +102,16 @@ class Words:
         self.words, self.exceptions, self.later = [], [], []
         for line in read("tests/words").split("\n"):
             kind, _, rest = line.partition(" ")
-            if kind in ("word", "in-documents"):
+            if kind in KINDS:
                 pattern, _, instead = rest.strip().partition(" -> ")
-                self.words.append((re.compile(r"\b(?:%s)\b" % pattern.strip(), re.I), instead, kind == "word"))
+                self.words.append((re.compile(r"\b(?:%s)\b" % pattern.strip(), re.I), instead, KINDS.index(kind)))
             elif kind == "right":
                 self.exceptions.append(tuple(rest.strip().split(": ", 1)))
             elif kind == "later":
                 self.later.append(rest.strip())
 
-    def check(self, report, path, lines, in_comments):
+    def check(self, report, path, lines, kinds):
+        """Looks for the words of the first of KINDS, this many."""
         if path.startswith(tuple(self.later)):
             return
         right = [part for name, part in self.exceptions if name == path]
@@ -110,42 +119,62 @@ class Words:
             plain = re.sub(r"`[^`]*`", "", line)
             for part in right:
                 plain = plain.replace(part, "")
-            for pattern, instead, everywhere in self.words:
-                found = pattern.search(plain) if everywhere or not in_comments else None
+            for pattern, instead, kind in self.words:
+                found = pattern.search(plain) if kind < kinds else None
                 if found:
                     report.need("%s:%d" % (path, number), False, "%r: write %s" % (found.group(0), instead))
 
 
 def comments(path):
-    pattern = re.compile(COMMENT[os.path.splitext(path)[1]])
-    in_picture = False
-    for number, line in enumerate(read(path).split("\n"), 1):
-        found = pattern.match(line)
-        if found:
-            in_picture ^= found.group(1).startswith("```")
-            if not in_picture:
-                yield number, found.group(1)
+    """The lines of prose in a file, with their numbers: its comments and doc comments, or all of a page of help."""
+    ending = os.path.splitext(path)[1]
+    if path.startswith("docs/help/"):
+        yield from enumerate(read(path).split("\n"), 1)
+    elif ending == ".py" or path.startswith("tests/") and not ending and read(path).startswith("#!/usr/bin/env python3"):
+        yield from comments_of_python(read(path))
+    elif ending in (".h", ".hpp", ".c", ".cc", ".cpp", ".java"):
+        yield from comments_of_c(read(path))
+    elif ending in COMMENT:
+        pattern, in_picture = re.compile(COMMENT[ending]), False
+        for number, line in enumerate(read(path).split("\n"), 1):
+            found = pattern.match(line)
+            if found:
+                in_picture ^= found.group(1).startswith("```")
+                if not in_picture:
+                    yield number, found.group(1)
+
+
+def comments_of_c(text):
+    """The lines of comments, also those after code."""
+    for found in re.finditer(r"/\*.*?\*/|//[^\n]*|\"(?:\\\\.|[^\"\\\n])*\"", text, re.DOTALL):
+        if not found.group(0).startswith('"'):
+            first = text.count("\n", 0, found.start()) + 1
+            yield from enumerate((line.lstrip(" */") for line in found.group(0).split("\n")), first)
+
+
+def comments_of_python(text):
+    """The lines of docstrings and of comments."""
+    for node in ast.walk(ast.parse(text)):
+        if isinstance(node, (ast.Module, ast.ClassDef, ast.FunctionDef)) and ast.get_docstring(node, False):
+            yield from enumerate(ast.get_docstring(node, False).split("\n"), node.body[0].lineno)
+    for token in tokenize.generate_tokens(io.StringIO(text).readline):
+        if token.type == tokenize.COMMENT:
+            yield token.start[0], token.string.lstrip("# ")
 
 
 def check_comments(report, words):
     files, _folders = tracked()
     for path in files:
-        if os.path.splitext(path)[1] in COMMENT:
-            words.check(report, path, comments(path), True)
+        if os.path.isfile(os.path.join(TOP, path)) and not path.endswith(".md"):
+            try:
+                words.check(report, path, comments(path), 2 if path.startswith(READ_BY_USERS) else 1)
+            except UnicodeDecodeError:
+                pass
 
 
-def words_in(text):
-    """The words of a page, code and figures among them; not the bars of tables and drawings."""
-    return sum(1 for word in text.split() if re.search(r"\w", word))
-
-
-def check_counts(report, pages):
-    counts = {page: words_in(read(page)) for page in pages if not generated(page)}
-    total = sum(counts.values())
-    report.need("documents", total <= MOST_WORDS, "%d words, and at most %d are wanted" % (total, MOST_WORDS))
-    readme = read("README.md")
-    report.need("README.md", counts["README.md"] <= MOST_WORDS_OF_README, "%d words" % counts["README.md"])
-    report.need("README.md", readme.count("\n") <= MOST_LINES_OF_README, "%d lines" % readme.count("\n"))
+def check_counts(report):
+    lines = read("README.md").count("\n")
+    report.need("README.md", lines <= MOST_LINES_OF_README, "%d lines" % lines)
 
 
 def explained(table):

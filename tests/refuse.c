@@ -1,6 +1,6 @@
-/* Refuses one request of the program that it is loaded into, the AT-th of the kind REFUSE, and tells so by a byte to the
+/* Refuses one request of the program that it is loaded into, the AT-th of the kind REFUSE, and says so by a byte to the
  * file descriptor REFUSED_FD. Kinds: memory, thread, read, write, short-read and short-write, which moves one byte.
- * It names what it takes of the C library by hand, so that it is compiled where there are no headers. */
+ * It names what it takes of the C library by hand, so that it is compiled without headers too. */
 typedef unsigned long size;
 typedef long ssize;
 

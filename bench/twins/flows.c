@@ -11,6 +11,36 @@ static void fill_body(uint8_t *body, const struct request *request) {
     for (uint32_t k = 8; k + 8 < request->size; k += 16) memset(body + k, 0, 8);
 }
 
+/* The messages of a batch that is published at once, and room for their bodies. */
+struct batch {
+    struct message messages[BATCH];
+    uint8_t *bodies;
+};
+
+static void open_batch(struct batch *batch, const struct request *request) {
+    uint8_t body[MAX_BODY];
+    fill_body(body, request);
+    batch->bodies = zeroed((size_t)BATCH * request->size);
+    for (uint32_t k = 0; k < BATCH; k++) {
+        uint8_t *at = memcpy(batch->bodies + (size_t)k * request->size, body, request->size);
+        batch->messages[k] = (struct message){at, request->size, MESSAGE};
+    }
+}
+
+/* Writes messages whose first words count up: whether there was room for all. */
+static bool write_at_once(struct ring *ring, struct batch *batch, uint32_t size, uint64_t first, uint64_t count) {
+    for (uint64_t k = 0; k < count; k++) {
+        uint64_t word = first + k;
+        memcpy(batch->bodies + k * size, &word, 8);
+    }
+#if HAS_CLAIMS
+    (void)ring;
+    wrong("this ring has no batches");
+#else
+    return ring_write_batch(ring, batch->messages, (uint32_t)count) == 0;
+#endif
+}
+
 /* One thread ------------------------------------------------------------------------------------------------------- */
 
 struct sum {
@@ -37,11 +67,14 @@ uint64_t run_batches(const struct request *request, uint64_t times) {
     ring_open(&ring, request->capacity, 0);
     uint8_t body[MAX_BODY];
     fill_body(body, request);
+    struct batch batch;
+    open_batch(&batch, request);
     struct sum sum = {0, 0};
     uint64_t began = now_ns();
     for (uint64_t written = 0; written < times;) {
         uint64_t count = times - written < BATCH ? times - written : BATCH;
-        write_batch(&ring, request, body, written, count);
+        if (!request->in_batches) write_batch(&ring, request, body, written, count);
+        else if (!write_at_once(&ring, &batch, request->size, written, count)) wrong("a batch was refused");
         written += count;
         for (int turns = 0; sum.count < written; turns++) {
             ring_read(&ring, LIMIT, add, &sum);
@@ -50,6 +83,7 @@ uint64_t run_batches(const struct request *request, uint64_t times) {
     }
     uint64_t took = now_ns() - began;
     if (sum.of != times * (times - 1) / 2) wrong("other messages were read");
+    free(batch.bodies);
     ring_close(&ring);
     return took;
 }
@@ -65,12 +99,28 @@ struct producer {
     pthread_t thread;
 };
 
+static void produce_batches(struct producer *producer) {
+    struct batch batch;
+    open_batch(&batch, producer->request);
+    for (uint64_t number = 0, count; number < producer->messages; number += count) {
+        uint64_t left = producer->messages - number, first = producer->id << 48 | number;
+        unsigned turns = 0;
+        count = left < BATCH ? left : BATCH;
+        while (!write_at_once(producer->ring, &batch, producer->request->size, first, count)) rest(&turns);
+    }
+    free(batch.bodies);
+}
+
 static void *produce(void *with) {
     struct producer *producer = with;
     const struct request *request = producer->request;
     uint8_t body[MAX_BODY];
     fill_body(body, request);
     while (!atomic_load(producer->go)) sched_yield();
+    if (request->in_batches) {
+        produce_batches(producer);
+        return NULL;
+    }
     for (uint64_t number = 0; number < producer->messages; number++) {
         uint64_t word = producer->id << 48 | number;
         memcpy(body, &word, 8);

@@ -1,10 +1,12 @@
-/* The many-to-one and the one-to-one ring. */
+/* The many-to-one and the one-to-one ring; of `ta` its own. */
 #ifndef TWINS_RING_H
 #define TWINS_RING_H
 
-#include "steps.h"
+#if defined TWIN_TA
+#include "tail_ring.h"
+#else
 
-#include <stdbool.h>
+#include "room.h"
 
 struct ring {
     uint8_t *words;   /* the buffer and the trailer */
@@ -14,12 +16,6 @@ struct ring {
     _Alignas(APART) uint64_t own_tail; /* of the producer of a one-to-one ring */
     _Alignas(APART) uint64_t own_head; /* of the consumer */
 };
-
-/* What a handler of a controlled read returns. */
-enum action { ACT_ABORT, ACT_BREAK, ACT_COMMIT, ACT_CONTINUE };
-
-typedef void (*handler)(void *with, int32_t type, const uint8_t *body, uint32_t len);
-typedef enum action (*controller)(void *with, int32_t type, const uint8_t *body, uint32_t len);
 
 static inline void ring_open(struct ring *ring, uint64_t capacity, uint64_t start) {
     memset(ring, 0, sizeof *ring);
@@ -42,21 +38,6 @@ static inline uint8_t *in_trailer(const struct ring *ring, int field) {
     return ring->words + ring->capacity + field;
 }
 
-/* What a record would take: the padding before it and its span, from a tail on. */
-struct room {
-    uint64_t tail, padding, span;
-};
-
-static inline uint64_t end_of(const struct room *room) {
-    return room->tail + room->padding + room->span;
-}
-
-static inline struct room room_at(const struct ring *ring, uint64_t tail, uint32_t len) {
-    uint64_t to_end = ring->capacity - (tail & (ring->capacity - 1));
-    uint64_t span = span_of(HEADER + (uint64_t)len);
-    return (struct room){tail, span > to_end ? to_end : 0, span};
-}
-
 /* Tests whether a record fits. Sums are compared and no differences, since a head may be beyond a tail that was loaded
  * long before it; then the tail is no longer the ring's, and the exchange that follows fails. */
 static inline int find_room(const struct ring *ring, const struct room *room) {
@@ -66,11 +47,6 @@ static inline int find_room(const struct ring *ring, const struct room *room) {
     if (end_of(room) > head + ring->capacity) return INSUFFICIENT_CAPACITY;
     store(in_trailer(ring, RING_CACHED_HEAD), head);
     return 0;
-}
-
-static inline int test_message(uint64_t capacity, int32_t type, uint32_t len) {
-    if (type < 1) return BAD_TYPE;
-    return len > capacity / 8 ? TOO_LONG : 0;
 }
 
 /* Stores the headers of what was claimed, and returns the index of the body. */
@@ -90,7 +66,7 @@ static inline int64_t claim_of_many(struct ring *ring, int32_t type, uint32_t le
     if (refusal) return refusal;
     uint8_t *word = in_trailer(ring, RING_TAIL);
     for (;;) {
-        struct room room = room_at(ring, load(word), len);
+        struct room room = room_at(ring->capacity, load(word), len);
         refusal = find_room(ring, &room);
         if (refusal) return refusal;
         uint64_t tail = room.tail;
@@ -103,7 +79,7 @@ static inline int64_t claim_of_many(struct ring *ring, int32_t type, uint32_t le
 static inline int64_t claim_of_one(struct ring *ring, int32_t type, uint32_t len) {
     int refusal = test_message(ring->capacity, type, len);
     if (refusal) return refusal;
-    struct room room = room_at(ring, ring->own_tail, len);
+    struct room room = room_at(ring->capacity, ring->own_tail, len);
     refusal = find_room(ring, &room);
     if (refusal) return refusal;
     ring->own_tail = end_of(&room);
@@ -193,4 +169,5 @@ static inline uint64_t next_correlation_id(struct ring *ring) {
     return __atomic_fetch_add((uint64_t *)in_trailer(ring, RING_CORRELATION), 1, __ATOMIC_SEQ_CST);
 }
 
+#endif
 #endif

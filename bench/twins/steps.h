@@ -9,11 +9,14 @@
  *   load_copied, store_copied      the header of a record there
  *   before_bodies, before_check    fences of a broadcast buffer
  *
- * and HAS_BODIES_APART: whether the bodies of a ring are in a block of their own. */
+ * and HAS_BODIES_APART: whether the bodies of a ring are in a block of their own. HAS_CLAIMS says whether a ring has
+ * claims and takes many producers; that of `ta` has batches instead. */
 #ifndef TWINS_STEPS_H
 #define TWINS_STEPS_H
 
 #include "layout.h"
+
+#include <stdbool.h>
 
 #if defined TWIN_AR
 #define TWIN "ar"
@@ -24,8 +27,17 @@
 #elif defined TWIN_PB
 #define TWIN "pb"
 #include "pb.h"
+#elif defined TWIN_TA
+#define TWIN "ta"
+#include "ar.h"
 #else
-#error "one of TWIN_AR, TWIN_SC and TWIN_PB has to be defined"
+#error "one of TWIN_AR, TWIN_SC, TWIN_PB and TWIN_TA has to be defined"
+#endif
+
+#if defined TWIN_TA
+#define HAS_CLAIMS 0
+#else
+#define HAS_CLAIMS 1
 #endif
 
 #endif

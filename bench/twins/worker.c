@@ -45,22 +45,27 @@ static const struct {
 /* Who takes part in what, and the jobs of that. */
 static const struct entry {
     const char *workload, *contender;
-    bool is_for_one;
+    bool is_for_one, in_batches;
     enum job first, last;
 } entries[] = {
-    {"batches", "o2o-" TWIN, true, BATCHES, BATCHES},
-    {"batches", "m2o-" TWIN, false, BATCHES, BATCHES},
-    {"sparse", "o2o-" TWIN, true, BATCHES, BATCHES},
-    {"sparse", "m2o-" TWIN, false, BATCHES, BATCHES},
-    {"pair", "o2o-" TWIN, true, FLOW, FLOW},
-    {"pair", "m2o-" TWIN, false, FLOW, FLOW},
-    {"producers", "m2o-" TWIN, false, FLOW, FLOW},
-    {"trips", "o2o-" TWIN, true, TRIPS, TRIPS},
-    {"trips", "m2o-" TWIN, false, TRIPS, TRIPS},
-    {"storm", "storm-" TWIN, false, STORM, STORM},
-#if !HAS_BODIES_APART /* (the others would be those of `sc`) */
-    {"broadcast", "board-" TWIN, false, BROADCAST, BROADCAST},
-    {"counters", "counters-" TWIN, false, SETS, WATCHED_SETS},
+    {"batches", "o2o-" TWIN, true, false, BATCHES, BATCHES},
+    {"sparse", "o2o-" TWIN, true, false, BATCHES, BATCHES},
+    {"pair", "o2o-" TWIN, true, false, FLOW, FLOW},
+    {"trips", "o2o-" TWIN, true, false, TRIPS, TRIPS},
+#if HAS_CLAIMS
+    {"batches", "m2o-" TWIN, false, false, BATCHES, BATCHES},
+    {"sparse", "m2o-" TWIN, false, false, BATCHES, BATCHES},
+    {"pair", "m2o-" TWIN, false, false, FLOW, FLOW},
+    {"producers", "m2o-" TWIN, false, false, FLOW, FLOW},
+    {"trips", "m2o-" TWIN, false, false, TRIPS, TRIPS},
+    {"storm", "storm-" TWIN, false, false, STORM, STORM},
+#else
+    {"batches", "o2o-" TWIN "-batch", true, true, BATCHES, BATCHES},
+    {"pair", "o2o-" TWIN "-batch", true, true, FLOW, FLOW},
+#endif
+#if !HAS_BODIES_APART && HAS_CLAIMS /* (those of `pb` would be those of `sc`, and those of `ta` those of `ar`) */
+    {"broadcast", "board-" TWIN, false, false, BROADCAST, BROADCAST},
+    {"counters", "counters-" TWIN, false, false, SETS, WATCHED_SETS},
 #endif
 };
 
@@ -173,6 +178,7 @@ static void answer_run(const char *line) {
         return;
     }
     request.is_for_one = entry->is_for_one;
+    request.in_batches = entry->in_batches;
     for (enum job job = entry->first; job <= entry->last; job++) measure(line, job, &request, ms);
 }
 

@@ -19,6 +19,7 @@
 struct request {
     char workload[16];
     bool is_for_one; /* the ring of one producer */
+    bool in_batches; /* messages are published 16 at a time */
     uint32_t size;   /* bytes of a message */
     uint64_t capacity;
     uint32_t threads; /* producers, receivers or clients */

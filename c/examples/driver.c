@@ -1,5 +1,5 @@
-/* A conductor, two clients and a monitor, each on a thread of its own. It does and prints what crates/ring_example
- * does: cc -pthread -o driver c/examples/driver.c -Ic/out c/out/libfelter.a */
+/* A conductor, two clients and a monitor, each on a thread of its own. The program does and prints what
+ * crates/ring_example does. To compile it: cc -pthread -o driver c/examples/driver.c -Ic/out c/out/libfelter.a */
 #include "felter.h"
 
 #include <inttypes.h>
@@ -9,15 +9,16 @@
 #include <stdio.h>
 #include <string.h>
 
-/* The bytes of the command ring. It takes commands of up to 32 bytes, and is often full. */
+/* The capacity of the command ring, in bytes. The ring takes commands of up to 32 bytes, and is often full. */
 #define RING 256
-/* The bytes of the board. A reply takes 24 at the most, so all 2,002 fit and no client is lapped. */
+/* The capacity of the board, in bytes. A reply takes at most 24 bytes, so the board has room for all 2,002 replies, and
+ * no client is lapped. */
 #define BOARD 65536
 #define CLIENTS 2
 #define BATCH 8
 #define BATCHES 125
 
-/* A client that counts up, and what it came to. */
+/* A client that counts up, with the results of its run. */
 struct caller {
     const char *label;
     felter_client client;
@@ -31,13 +32,14 @@ static struct caller callers[CLIENTS] = {{"requests", FELTER_EMPTY, -1, 0, 0}, {
 static atomic_int stop;
 static int saw_fall;
 
-/* Whether to send again. A faster client: at once. A full ring: first the conductor has to take something. */
+/* Whether to send again. Another client was faster: try again at once. The ring is full: the conductor must take a
+ * command first. */
 static int again(int32_t code) {
     if (code == FELTER_INSUFFICIENT_CAPACITY) sched_yield();
     return code == FELTER_INSUFFICIENT_CAPACITY || code == FELTER_CONTENDED;
 }
 
-/* Waits for the reply to the command with this id. Answers its kind, or 0 where replies were missed. */
+/* Waits for the reply to the command with this id. Returns its kind, or 0 if replies were missed. */
 static int32_t hear(struct caller *it, uint64_t id, int64_t *number) {
     for (;;) {
         int32_t kind = 0;
@@ -86,22 +88,22 @@ static void *count_up(void *its) {
     return NULL;
 }
 
-/* Works until it is told to stop and no command is left. */
+/* Works until it is asked to stop and no command is left. */
 static void *conduct(void *unused) {
     for (;;) {
-        /* Looked at first: what was sent before the stop is then still taken below. */
+        /* Load this first: then the work below takes all commands that were sent before the stop. */
         int is_last = stop;
         uint64_t messages = 0;
         int32_t stopped = 0;
         if (felter_conductor_work(&conductor, 0, UINT32_MAX, &messages, &stopped) != FELTER_OK) return unused;
-        /* The end of the buffer is not the end of the commands: the next call goes on behind it. */
+        /* If the call stopped at the end of the buffer, there can be more commands, which the next call takes. */
         if (stopped == FELTER_STOP_LIMIT || stopped == FELTER_STOP_BLOCK) continue;
         if (stopped == FELTER_STOP_BOARD_END || is_last) return unused;
         sched_yield();
     }
 }
 
-/* Reads all values until it is told to stop, and sees whether one is ever below an earlier one of its counter. */
+/* Reads all values until it is asked to stop, and notes whether a value ever falls. */
 static void *watch(void *unused) {
     int64_t latest[CLIENTS] = {0};
     while (!stop) {
@@ -115,7 +117,7 @@ static void *watch(void *unused) {
     return unused;
 }
 
-/* Makes the conductor and what it gives out. Afterwards it is in the hands of its thread, and nobody else can. */
+/* Makes the conductor, its clients and its reader. Afterwards only the conductor's thread uses the conductor. */
 static int make(void) {
     if (felter_conductor_new(RING, BOARD, CLIENTS, 0, &conductor) != FELTER_OK) return 0;
     for (int i = 0; i < CLIENTS; i++)
@@ -123,7 +125,7 @@ static int make(void) {
     return felter_conductor_reader(&conductor, &reader) == FELTER_OK;
 }
 
-/* Runs the clients on threads, and the conductor and the monitor until those are done. */
+/* Runs the clients on threads, and runs the conductor and the monitor until the clients have ended. */
 static int run(void) {
     pthread_t calling[CLIENTS], conducting, watching;
     if (pthread_create(&conducting, NULL, conduct, NULL) || pthread_create(&watching, NULL, watch, NULL)) return 0;
@@ -146,7 +148,7 @@ int main(void) {
         replies += callers[i].replies;
         laps += callers[i].laps;
     }
-    /* All that was given out is taken back, and then the conductor can finish. */
+    /* The conductor takes back its clients and readers, and can then finish. */
     for (int i = 0; i < CLIENTS; i++)
         if (felter_conductor_join(&conductor, &callers[i].client) != FELTER_OK) return 1;
     if (felter_conductor_join_reader(&conductor, &reader) != FELTER_OK) return 1;

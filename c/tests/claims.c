@@ -37,7 +37,7 @@ static void put_in_order(enum kind kind, uint32_t count) {
     }
 }
 
-/* Opens so many claims, each with its own index as type id, by producers in turn that are then joined. */
+/* Opens this many claims, each with its own index as type id, by producers in turn that are then joined. */
 static void open_claims(felter_producer *producer, uint32_t producers, uint32_t count) {
     felter_producer others[4] = {FELTER_EMPTY, FELTER_EMPTY, FELTER_EMPTY, FELTER_EMPTY};
     uint32_t i;
@@ -49,7 +49,7 @@ static void open_claims(felter_producer *producer, uint32_t producers, uint32_t 
     for (i = 1; i < producers; i++) EXPECT(FELTER_OK, felter_join(producer, &others[i]));
 }
 
-/* The seconds in which so many claims are put and settled in an order. Every seventh is aborted; the consumer gets the
+/* The seconds in which these claims are put and settled in an order. Every seventh is aborted; the consumer gets the
  * others, whole and in the order of the claims. */
 static double settles(enum kind kind, uint32_t producers, uint32_t count) {
     felter_producer producer = FELTER_EMPTY;

@@ -2,7 +2,7 @@
  *
  * Each client allocates a counter, sets it to 1, 2 .. COUNT, and waits for the replies of eight commands at a time by
  * their ids; then it frees the counter, or its owner's. A client that is lapped does not know what became of commands:
- * it goes on, and asks again where it has to know. No id is given twice, so that no value may fall. */
+ * it goes on, and asks again if it has to know. No id is given twice, so that no value may fall. */
 #include "check.h"
 
 #include <pthread.h>

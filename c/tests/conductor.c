@@ -71,7 +71,7 @@ static void longest(felter_conductor *conductor, felter_client *client, const ui
     answers(conductor, 0, client, id, FELTER_REPLY_REFUSED, FELTER_KEY_TOO_LONG);
 }
 
-/* Counters 0 and 2 of the owner 5, and 1 of nobody. */
+/* Counters 0 and 2 of the owner 5, and 1 of none. */
 static void allocates(felter_conductor *conductor, felter_client *client, const uint8_t *key, uint8_t *label) {
     uint64_t id = 99;
     label[379] = 128;
@@ -175,7 +175,7 @@ static void works(void) {
     CHECK(took == 2 && why == FELTER_STOP_LIMIT);
     expect_work(&conductor, 9, 3, FELTER_STOP_UNPUBLISHED);
     for (uint64_t n = 2; n < 7; n++) expect_reply(&client, n, FELTER_REPLY_REFUSED, FELTER_NOT_ALLOCATED);
-    /* The next command lies behind the end of the buffer. */
+    /* The next command comes after the end of the buffer. */
     EXPECT(FELTER_OK, felter_send_free(&client, 1, &id));
     CHECK(id == 8);
     expect_work(&conductor, 9, 0, FELTER_STOP_BLOCK);
@@ -256,7 +256,7 @@ static void expect_bytes(felter_receiver *receiver, int32_t type_id, const uint8
     CHECK(type_read == type_id && len_read == len && memcmp(buffer, body, len) == 0);
 }
 
-/* What a conductor made outlives it: its client hears the replies to three commands, and fills the ring. */
+/* What a conductor made outlives it: its client receives the replies to three commands, and fills the ring. */
 static void outlive(felter_client *client, felter_receiver *receiver, felter_reader *reader) {
     uint64_t id = 99;
     int64_t value = 99;

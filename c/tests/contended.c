@@ -1,5 +1,5 @@
-/* Two producers write until one of them is told that the other was faster: contended SECONDS. Status 77 where that did
- * not come about in so many seconds. */
+/* Two producers write until one of them learns that the other was faster: contended SECONDS. Status 77 if that did
+ * not happen in these seconds. */
 #include "check.h"
 
 #include <pthread.h>

@@ -19,7 +19,7 @@ static void make(struct party *it, uint32_t capacity, uint32_t replies, uint32_t
 }
 
 /* Sends a command that frees a counter, which is none, and shows that ring, board and values are those of one
- * conductor: the client gets the reply, the receiver the same, and the reader has so many ids. */
+ * conductor: the client gets the reply, the receiver the same, and the reader has as many ids. */
 static void works_together(struct party *it, uint32_t counters) {
     uint64_t id = 99, took = 0, lapped = 77;
     int32_t why = 77, kind = 0;
@@ -83,7 +83,7 @@ static void ends(void) {
     finishes(&it.conductor, 4, 2);
 }
 
-/* A reader that is freed is in nobody's way. In a ring of 128 bytes the sixth command lies behind padding, which is no
+/* A reader that is freed is in no one's way. In a ring of 128 bytes the sixth command comes after padding, which is no
  * command that was left. */
 static void leaves(void) {
     struct party it = NO_PARTY;
@@ -103,21 +103,27 @@ static void leaves(void) {
     finishes(&it.conductor, 0, 0);
 }
 
-/* A client, or a receiver, that was freed is missed for good. */
+/* Clients and receivers that were freed are not missed. While one is in a handle, a finish is refused. */
 static void loses(void) {
     struct party it = NO_PARTY;
+    uint64_t id = 99, took = 0;
+    int32_t why = 77;
     make(&it, 128, 256, 1);
+    for (int n = 0; n < 3; n++) EXPECT(FELTER_OK, felter_send_free(&it.client, 0, &id));
+    EXPECT(FELTER_OK, felter_conductor_work(&it.conductor, 0, 1, &took, &why));
     felter_free(&it.client.handle);
-    felter_free(&it.reader.handle);
-    EXPECT(FELTER_OK, felter_conductor_join_receiver(&it.conductor, &it.receiver));
     finish_refuses(&it.conductor, FELTER_PRODUCERS_OUT);
-    felter_free(&it.conductor.handle);
+    felter_free(&it.reader.handle);
+    finish_refuses(&it.conductor, FELTER_PRODUCERS_OUT);
+    EXPECT(FELTER_OK, felter_conductor_join_receiver(&it.conductor, &it.receiver));
+    finishes(&it.conductor, 1, 2);
     make(&it, 128, 256, 1);
+    EXPECT(FELTER_OK, felter_send_free(&it.client, 0, &id));
     felter_free(&it.receiver.handle);
     felter_free(&it.reader.handle);
+    finish_refuses(&it.conductor, FELTER_PRODUCERS_OUT);
     EXPECT(FELTER_OK, felter_conductor_join(&it.conductor, &it.client));
-    finish_refuses(&it.conductor, FELTER_RECEIVERS_OUT);
-    felter_free(&it.conductor.handle);
+    finishes(&it.conductor, 0, 1);
 }
 
 /* What another conductor made is refused, also of the same sizes, and what none made. */
@@ -222,8 +228,7 @@ static void shares(void) {
         felter_free(&it.receiver.handle);
     }
     EXPECT(FELTER_NO_SHARES, felter_conductor_client(&it.conductor, &it.client));
-    finish_refuses(&it.conductor, FELTER_RECEIVERS_OUT);
-    felter_free(&it.conductor.handle);
+    finishes(&it.conductor, 0, 0);
 }
 
 int main(void) {

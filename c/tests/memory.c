@@ -12,7 +12,7 @@ void *__real_aligned_alloc(size_t align, size_t size);
 int __real_posix_memalign(void **at, size_t align, size_t size);
 void __real_free(void *at);
 
-static long left = -1;  /* so many requests are granted, and then one is refused; -1: all are granted */
+static long left = -1;  /* this many requests are granted, and then one is refused; -1: all are granted */
 static long live;       /* pieces of memory that were not given back */
 static int refused;
 
@@ -79,7 +79,7 @@ static int32_t make_many(void) { return felter_many_to_one_new(128, &all.produce
 static int32_t make_one(void) { return felter_one_to_one_new(128, &all.single, &all.of_single); }
 static int32_t split(void) { return felter_split(&all.producer, &all.other); }
 static int32_t join(void) { return felter_join(&all.producer, &all.other); }
-/* Claims a record of 16 bytes more, and nothing where memory is wanting. */
+/* Claims a record of 16 bytes more, and nothing if memory runs out. */
 static int32_t claim(felter_producer *producer) {
     uint64_t head = 0, before = 0, after = 0;
     EXPECT(FELTER_OK, felter_positions(producer, &head, &before));
@@ -176,7 +176,7 @@ static int32_t hire(void) { return felter_conductor_client(&all.conductor, &all.
 static int32_t hire_other(void) { return felter_conductor_client(&all.conductor, &all.other_client); }
 static int32_t listen(void) { return felter_conductor_subscribe(&all.conductor, &all.replies); }
 static int32_t lend_values(void) { return felter_conductor_reader(&all.conductor, &all.values); }
-/* Allocates a counter by a command, and hears its reply, for which no memory is taken. */
+/* Allocates a counter by a command, and receives its reply, for which no memory is taken. */
 static int32_t command(void) {
     uint64_t id = 99, took = 0, lapped = 0;
     int32_t why = 77, kind = 0;
@@ -224,7 +224,7 @@ static int32_t (*const steps[])(void) = {
 /* The calls of a conductor that take memory, each of which has to be refused some. */
 static int32_t (*const taking[])(void) = {make_conductor, hire, hire_other, listen, lend_values};
 
-/* The calls that take back and end, which take no memory, so that they can be made where there is none. */
+/* The calls that take back and end, which take no memory, so that they can be made if there is none. */
 static int32_t (*const giving[])(void) = {give_back,          give_replies_back, give_values_back, finish,
                                           close_ring,         finish_ring,       close_board,      give_reader_back,
                                           give_receiver_back, give_raw_back};

@@ -3,6 +3,7 @@
 
 int main(void) {
     felter_producer producer = FELTER_EMPTY;
+    felter_producer empty = FELTER_EMPTY;
     felter_consumer consumer = FELTER_EMPTY;
     uint8_t buffer[16] = {5};
     int32_t type_id = -7;
@@ -23,6 +24,13 @@ int main(void) {
     EXPECT(FELTER_NO_HANDLE, felter_split(NULL, &producer));
     EXPECT(FELTER_NULL_POINTER, felter_write_batch(&producer, NULL, 1, &written));
     EXPECT(FELTER_NULL_POINTER, felter_write_batch(&producer, buffer, 0, NULL));
+    EXPECT(FELTER_NO_HANDLE, felter_write_batch(NULL, buffer, 0, &written));
+    EXPECT(FELTER_NO_HANDLE, felter_write_batch(NULL, NULL, 1, NULL));
+    CHECK(written == 7);
+    EXPECT(FELTER_OK, felter_write_batch(&producer, NULL, 0, &written));
+    EXPECT(FELTER_NO_HANDLE, felter_write_batch(&empty, NULL, 0, &written));
+    CHECK(written == 0);
+    written = 7;
     EXPECT(FELTER_OK, felter_write(&producer, 1, NULL, 0));
     EXPECT(FELTER_OK, felter_write(&producer, 2, "hello", 5));
     EXPECT(FELTER_NULL_POINTER, felter_read(&consumer, NULL, &len, buffer, sizeof buffer));

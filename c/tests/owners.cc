@@ -1,7 +1,10 @@
 // What felter.hpp adds: handles that move and free themselves, claims that abort, views, results, and errors.
 #include "felter.hpp"
 
+#include "felter_wait.hpp"
+
 #include <array>
+#include <chrono>
 #include <cstdio>
 #include <string>
 #include <thread>
@@ -21,7 +24,7 @@ void check(bool is_so, int line, const char *what) {
 static_assert(!std::is_copy_constructible_v<felter::producer>);
 static_assert(std::is_nothrow_move_constructible_v<felter::producer>);
 static_assert(!std::is_copy_constructible_v<felter::claim>);
-static_assert(sizeof(felter::producer) == sizeof(felter_producer));
+static_assert(sizeof(felter::counters) == sizeof(felter_counters));
 // An array that can be written is no text in quotes: its last byte may be one of the body.
 static_assert(std::is_convertible_v<const char (&)[4], felter::bytes>);
 static_assert(!std::is_convertible_v<char (&)[4], felter::bytes>);
@@ -58,6 +61,111 @@ void rings() {
         CHECK(caught.why() == FELTER_BAD_TYPE && std::string(caught.what()) == "4 the type id is below 1");
     }
     CHECK(felter::one_to_one(100).code() == FELTER_BAD_CAPACITY);
+}
+
+// A batch stays in its buffer if what looks at its messages throws.
+void batches() {
+    auto ring = felter::one_to_one(1024).value();
+    const std::vector<std::string> texts{"one", "", "three", "four"};
+    for (const auto &it : texts) ring.producer.write(1, it).value();
+    std::array<std::uint8_t, 512> room{};
+    auto batch = ring.consumer.read_batch(3, room).value();
+    CHECK(batch.size() == 3);
+    std::vector<std::string> seen;
+    try {
+        for (auto it : batch) {
+            seen.emplace_back(it.body.text());
+            if (seen.size() == 1) throw std::runtime_error("in the middle");
+        }
+        CHECK(false);
+    } catch (const std::runtime_error &) {
+        auto next = batch.begin();
+        for (++next; next != batch.end(); ++next) seen.emplace_back((*next).body.text());
+    }
+    CHECK(seen == (std::vector<std::string>{"one", "", "three"}));
+    CHECK(ring.consumer.read(room).value().body.text() == "four");
+    auto none = ring.consumer.read_batch(3, room);
+    CHECK(none.code() == FELTER_NO_MESSAGE);
+    // Records as a batch has them are written by one call.
+    struct { felter_record head; char body[8]; } records[2] = {{{3, 5}, "abc"}, {{2, 6}, "de"}};
+    auto written = ring.producer.write_batch({records, sizeof records});
+    CHECK(written.count == 2 && written.why);
+    CHECK(ring.consumer.read(room).value().body.text() == "abc" && ring.consumer.read(room).value().type_id == 6);
+    records[1].head.type_id = 0;
+    written = ring.producer.write_batch({records, sizeof records});
+    CHECK(written.count == 1 && written.why == FELTER_BAD_TYPE);
+    CHECK(ring.consumer.read(room).value().body.text() == "abc");
+    CHECK(felter::producer().write_batch({}).why == FELTER_NO_HANDLE);
+}
+
+void standing() {
+    auto ring = felter::one_to_one(512).value();
+    CHECK(ring.producer.is_empty().value() && ring.producer.available().value() == 512);
+    ring.producer.write(1, "thirteen byte").value();
+    CHECK(ring.producer.used().value() == 24 && !ring.producer.is_empty().value());
+    ring.consumer.take().value();
+    CHECK(ring.producer.is_empty().value());
+    CHECK(felter::producer().used().code() == FELTER_NO_HANDLE);
+    CHECK(ring.consumer.standing(ring.producer).value().found == FELTER_FOUND_NONE);
+    auto claim = ring.producer.claim(1, 4).value();
+    CHECK(ring.consumer.standing(ring.producer).value().found == FELTER_FOUND_CLAIM);
+    claim.commit().value();
+    CHECK(ring.consumer.standing(ring.producer).value().found == FELTER_FOUND_MESSAGE);
+}
+
+// The other side is seen to go, by whatever way it goes.
+void ends_that_go() {
+    auto ring = felter::many_to_one(512).value();
+    CHECK(!ring.producer.is_abandoned() && !ring.consumer.is_abandoned());
+    {
+        auto other = ring.producer.split().value();
+        auto moved = std::move(ring.producer);
+        CHECK(!ring.consumer.is_abandoned());
+        moved.join(other).value();
+        CHECK(!ring.consumer.is_abandoned());
+        ring.producer = std::move(moved);
+    }
+    CHECK(!ring.consumer.is_abandoned());
+    ring.producer = felter::producer();
+    CHECK(ring.consumer.is_abandoned());
+    auto closed = felter::many_to_one(512).value();
+    auto refused = closed.producer.split().value();
+    CHECK(closed.consumer.close(closed.producer) == FELTER_PRODUCERS_OUT && !closed.consumer.is_abandoned());
+    closed.producer.join(refused).value();
+    closed.consumer.close(closed.producer).value();
+    CHECK(closed.consumer.is_abandoned() && closed.consumer.finish().value() == 0);
+    auto written = felter::one_to_one(512).value();
+    written.consumer = felter::consumer();
+    CHECK(written.producer.is_abandoned());
+    auto transmitter = felter::transmitter::make(512).value();
+    auto receiver = transmitter.subscribe().value();
+    auto raw = transmitter.subscribe_raw().value();
+    CHECK(!transmitter.is_abandoned() && !receiver.is_abandoned() && !raw.is_abandoned());
+    transmitter.join(raw).value();
+    CHECK(!transmitter.is_abandoned());
+    transmitter = felter::transmitter();
+    CHECK(receiver.is_abandoned());
+    auto conductor = felter::conductor::make(1024, 1024, 2).value();
+    auto client = conductor.client().value();
+    CHECK(!conductor.is_abandoned() && !client.is_abandoned());
+    conductor.join(client).value();
+    CHECK(conductor.is_abandoned());
+    CHECK(felter::client().is_abandoned());
+}
+
+// What counters and conductors say of a record.
+void records() {
+    auto counters = felter::counters::make(4).value();
+    const auto id = counters.allocate(0, 1, "key", "a label").value();
+    CHECK(counters.count().value() == 4 && counters.label(id).value() == "a label");
+    CHECK(counters.key(id).value()[2] == 'y' && counters.key(id).value()[3] == 0);
+    CHECK(counters.label(3).code() == FELTER_NOT_ALLOCATED && counters.key(9).code() == FELTER_BAD_ID);
+    auto conductor = felter::conductor::make(1024, 1024, 2).value();
+    auto client = conductor.client().value();
+    client.allocate(1, "k", "its label").value();
+    CHECK(conductor.work(0).value().messages == 1);
+    CHECK(conductor.count().value() == 2 && conductor.label(0).value() == "its label");
+    CHECK(conductor.key(0).value()[0] == 'k');
 }
 
 // A message is seen before it is taken.
@@ -99,11 +207,59 @@ void threads_and_ends() {
     while (message.code() == FELTER_NO_MESSAGE) message = ring.consumer.read(room);
     CHECK(message && message->body.text() == "from a thread");
     thread.join();
-    CHECK(ring.consumer.close(ring.producer) == FELTER_PRODUCERS_OUT);
+    // (the other producer was freed with the thread's function, and is not missed)
+    ring.consumer.close(ring.producer).value();
+    CHECK(ring.consumer.finish().value() == 0);
     auto whole = felter::many_to_one(128).value();
     whole.consumer.close(whole.producer).value();
     CHECK(whole.consumer.finish().value() == 0);
     CHECK(whole.consumer.finish().code() == FELTER_NO_HANDLE);
+}
+
+void waits() {
+    using std::chrono::milliseconds;
+    auto ring = felter::one_to_one(128).value();
+    std::array<std::uint8_t, 64> room{};
+    CHECK(felter::read_wait(ring.consumer, room, milliseconds(5)).code() == FELTER_NO_MESSAGE);
+    while (ring.producer.write(1, "sixteen bytes...")) continue;
+    CHECK(felter::write_wait(ring.producer, 1, "sixteen bytes...", milliseconds(5)) == FELTER_INSUFFICIENT_CAPACITY);
+    CHECK(felter::read_wait(ring.consumer, room, felter::for_ever).value().body.text() == "sixteen bytes...");
+    felter::write_wait(ring.producer, 2, "more", milliseconds(0)).value();
+    // A wait ends at once if the other side is gone.
+    while (ring.consumer.read(room)) continue;
+    { auto gone = std::move(ring.producer); }
+    CHECK(felter::read_wait(ring.consumer, room, felter::for_ever).code() == FELTER_NO_MESSAGE);
+    CHECK(ring.consumer.is_abandoned());
+    auto transmitter = felter::transmitter::make(256).value();
+    auto receiver = transmitter.subscribe().value();
+    felter::sleepers sleepers;
+    std::thread thread([&] {
+        std::this_thread::sleep_for(milliseconds(10));
+        transmitter.transmit(4, "woken").value();
+        sleepers.wake();
+    });
+    CHECK(felter::receive_asleep(receiver, sleepers, room, felter::for_ever).value().body.text() == "woken");
+    thread.join();
+    CHECK(felter::receive_wait(receiver, room, milliseconds(5)).code() == FELTER_NO_MESSAGE);
+    auto more = felter::many_to_one(128).value();
+    CHECK(felter::read_asleep(more.consumer, sleepers, room, milliseconds(5)).code() == FELTER_NO_MESSAGE);
+    auto bell = felter::doorbell::make();
+    CHECK(bell && !bell->clear() && !bell->wait(milliseconds(1)));
+    CHECK(bell->ring() && bell->wait(felter::for_ever) && bell->clear() && !bell->clear());
+    auto conductor = felter::conductor::make(1024, 4096, 8).value();
+    auto client = conductor.client().value();
+    auto pending = felter::request_set(client, 0, 1, milliseconds(5));
+    CHECK(pending.why == FELTER_NO_MESSAGE && pending.answer.outcome == FELTER_OUTCOME_PENDING);
+    std::thread working([&] {
+        std::uint64_t taken = 0;
+        while (taken < 5) taken += conductor.work(0).value().messages;
+    });
+    auto made = felter::request_allocate(client, 1, "", "label", felter::for_ever, 7);
+    CHECK(made.why && made.answer.kind == FELTER_REPLY_ALLOCATED && made.answer.number == 0);
+    CHECK(felter::request_set(client, 0, 9, felter::for_ever).answer.kind == FELTER_REPLY_DONE);
+    CHECK(felter::request_close_owner(client, 7, felter::for_ever).answer.number == 1);
+    CHECK(felter::request_free(client, 0, felter::for_ever).answer.number == FELTER_NOT_ALLOCATED);
+    working.join();
 }
 
 void boards_and_conductors() {
@@ -136,6 +292,11 @@ void boards_and_conductors() {
 
 int main() {
     rings();
+    batches();
+    standing();
+    ends_that_go();
+    records();
+    waits();
     peeks();
     claims();
     threads_and_ends();

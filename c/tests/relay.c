@@ -26,7 +26,7 @@ static felter_receiver receiver = FELTER_EMPTY;
 static felter_reader reader = FELTER_EMPTY;
 static int64_t latest[CLIENTS];
 
-/* Sends the next command while fewer than OPEN are on their way, and else hears the first of those. */
+/* Sends the next command while fewer than OPEN are on their way, and otherwise receives the first of their replies. */
 static int call(int which) {
     struct caller *it = &callers[which];
     for (int i = 0; i < PART && it->heard < TURNS; i++) {

@@ -1,4 +1,4 @@
-/* Calls that wait, and doorbells. */
+/* Calls that wait, sleepers, requests, and doorbells. */
 #include "check.h"
 #include "felter_wait.h"
 
@@ -22,6 +22,163 @@ static int64_t millis(void) {
     return (int64_t)now.tv_sec * 1000 + now.tv_nsec / 1000000;
 }
 
+/* The number of turns of a wait stays small, however long the wait is. */
+static void pauses(void) {
+    felter_pause pause = {0, 0, -1};
+    int before = 0;
+    for (int i = 0; i < 40; i++) {
+        CHECK(felter_pauses(&pause) && pause.turns >= before && pause.turns <= 16);
+        before = pause.turns;
+    }
+    CHECK(pause.turns == 16);
+}
+
+struct sleeping {
+    felter_consumer consumer;
+    felter_sleepers sleepers;
+    uint32_t read;
+};
+
+static void *read_asleep(void *its) {
+    struct sleeping *it = its;
+    uint32_t value;
+    int32_t type_id;
+    size_t len;
+    while (it->read < COUNT) {
+        EXPECT(FELTER_OK, felter_read_asleep(&it->consumer, &it->sleepers, &type_id, &len, &value, sizeof value, -1));
+        CHECK(value == it->read && len == sizeof value);
+        it->read++;
+    }
+    return its;
+}
+
+/* A reader that nothing but a wake ends. */
+static void sleepers(void) {
+    felter_producer producer = FELTER_EMPTY;
+    struct sleeping it = {FELTER_EMPTY, FELTER_NO_SLEEPERS, 0};
+    felter_transmitter transmitter = FELTER_EMPTY;
+    felter_receiver receiver = FELTER_EMPTY;
+    pthread_t thread;
+    uint8_t buffer[32];
+    uint64_t lapped;
+    int32_t type_id;
+    size_t len;
+    int64_t began = millis();
+    EXPECT(FELTER_OK, felter_many_to_one_new(128, &producer, &it.consumer));
+    EXPECT(FELTER_NO_MESSAGE, felter_read_asleep(&it.consumer, &it.sleepers, &type_id, &len, buffer, sizeof buffer, 0));
+    EXPECT(FELTER_NO_MESSAGE, felter_read_asleep(&it.consumer, &it.sleepers, &type_id, &len, buffer, sizeof buffer, 20));
+    CHECK(millis() - began >= 19 && it.sleepers.count == 0);
+    CHECK(pthread_create(&thread, NULL, read_asleep, &it) == 0);
+    for (uint32_t i = 0; i < COUNT; i++) {
+        /* (now and then the reader has time to fall asleep) */
+        if (i % 50 == 0) nanosleep(&(struct timespec){0, 2000000}, NULL);
+        EXPECT(FELTER_OK, felter_write_wait(&producer, 1, &i, sizeof i, -1));
+        felter_wake(&it.sleepers);
+    }
+    pthread_join(thread, NULL);
+    CHECK(it.read == COUNT && it.sleepers.count == 0 && it.sleepers.turn > 0);
+    EXPECT(FELTER_OK, felter_board_new(256, &transmitter));
+    EXPECT(FELTER_OK, felter_subscribe(&transmitter, &receiver));
+    EXPECT(FELTER_NO_MESSAGE,
+           felter_receive_asleep(&receiver, &it.sleepers, &type_id, &len, &lapped, buffer, sizeof buffer, 5));
+    EXPECT(FELTER_OK, felter_transmit(&transmitter, 3, "x", 1));
+    EXPECT(FELTER_OK,
+           felter_receive_asleep(&receiver, &it.sleepers, &type_id, &len, &lapped, buffer, sizeof buffer, -1));
+    felter_free(&producer.handle);
+    felter_free(&it.consumer.handle);
+    felter_free(&transmitter.handle);
+    felter_free(&receiver.handle);
+}
+
+struct working {
+    felter_conductor conductor;
+    int64_t delay; /* milliseconds before it begins */
+    int stop;
+};
+
+static void *work(void *its) {
+    struct working *it = its;
+    uint64_t messages;
+    int32_t stopped;
+    nanosleep(&(struct timespec){0, (long)it->delay * 1000000}, NULL);
+    while (!__atomic_load_n(&it->stop, __ATOMIC_SEQ_CST))
+        EXPECT(FELTER_OK, felter_conductor_work(&it->conductor, 0, 100, &messages, &stopped));
+    return its;
+}
+
+static void stop(struct working *it, pthread_t thread) {
+    __atomic_store_n(&it->stop, 1, __ATOMIC_SEQ_CST);
+    pthread_join(thread, NULL);
+}
+
+/* Makes a conductor whose board has room for a few replies, and a client that it overtook. */
+static void lap(struct working *it, felter_client *client) {
+    felter_client other = FELTER_EMPTY;
+    uint64_t id, messages;
+    int32_t stopped;
+    EXPECT(FELTER_OK, felter_conductor_new(4096, 256, 4, 0, &it->conductor));
+    EXPECT(FELTER_OK, felter_conductor_client(&it->conductor, client));
+    EXPECT(FELTER_OK, felter_conductor_client(&it->conductor, &other));
+    for (int i = 0; i < 40; i++) {
+        EXPECT(FELTER_OK, felter_send_set(&other, 0, 1, &id));
+        EXPECT(FELTER_OK, felter_conductor_work(&it->conductor, 0, 9, &messages, &stopped));
+    }
+    felter_free(&other.handle);
+}
+
+static void requests(void) {
+    struct working it = {FELTER_EMPTY, 0, 0};
+    felter_client client = FELTER_EMPTY;
+    felter_answer answer;
+    pthread_t thread;
+    uint64_t id;
+    EXPECT(FELTER_OK, felter_conductor_new(256, 4096, 4, 0, &it.conductor));
+    EXPECT(FELTER_OK, felter_conductor_client(&it.conductor, &client));
+    EXPECT(FELTER_NULL_POINTER, felter_request_set(&client, 0, 1, 5, NULL));
+    EXPECT(FELTER_TOO_LONG, felter_request_allocate(&client, 1, 0, NULL, 0, "a long label", 13, -1, &answer));
+    CHECK(answer.outcome == FELTER_OUTCOME_NOT_SENT);
+    EXPECT(FELTER_NO_MESSAGE, felter_request_free(&client, 3, 10, &answer));
+    CHECK(answer.outcome == FELTER_OUTCOME_PENDING);
+    while (felter_send_set(&client, 0, 1, &id) == FELTER_OK) continue;
+    EXPECT(FELTER_INSUFFICIENT_CAPACITY, felter_request_close_owner(&client, 7, 10, &answer));
+    CHECK(answer.outcome == FELTER_OUTCOME_NOT_SENT);
+    felter_free(&client.handle);
+    felter_free(&it.conductor.handle);
+
+    EXPECT(FELTER_OK, felter_conductor_new(1024, 4096, 4, 0, &it.conductor));
+    EXPECT(FELTER_OK, felter_conductor_client(&it.conductor, &client));
+    CHECK(pthread_create(&thread, NULL, work, &it) == 0);
+    EXPECT(FELTER_OK, felter_request_allocate(&client, 1, 7, "k", 1, "label", 5, 20000, &answer));
+    CHECK(answer.outcome == FELTER_OUTCOME_REPLIED && answer.kind == FELTER_REPLY_ALLOCATED && answer.number == 0);
+    EXPECT(FELTER_OK, felter_request_set(&client, 0, 5, 20000, &answer));
+    CHECK(answer.kind == FELTER_REPLY_DONE);
+    EXPECT(FELTER_OK, felter_request_close_owner(&client, 7, 20000, &answer));
+    CHECK(answer.kind == FELTER_REPLY_CLOSED && answer.number == 1);
+    EXPECT(FELTER_OK, felter_request_free(&client, 0, -1, &answer));
+    CHECK(answer.kind == FELTER_REPLY_REFUSED && answer.number == FELTER_NOT_ALLOCATED);
+    stop(&it, thread);
+    felter_free(&client.handle);
+    felter_free(&it.conductor.handle);
+
+    lap(&it, &client);
+    EXPECT(FELTER_LAPPED, felter_request_set(&client, 0, 5, 50, &answer));
+    CHECK(answer.outcome == FELTER_OUTCOME_UNKNOWN);
+    felter_free(&client.handle);
+    felter_free(&it.conductor.handle);
+    /* It looks for its reply a few times, and then asks by another command. */
+    lap(&it, &client);
+    it.stop = 0;
+    it.delay = 900;
+    CHECK(pthread_create(&thread, NULL, work, &it) == 0);
+    EXPECT(FELTER_LAPPED, felter_request_set(&client, 0, 5, 20000, &answer));
+    CHECK(answer.outcome == FELTER_OUTCOME_TAKEN);
+    EXPECT(FELTER_OK, felter_request_free(&client, 9, 20000, &answer));
+    CHECK(answer.kind == FELTER_REPLY_REFUSED && answer.number == FELTER_BAD_ID);
+    stop(&it, thread);
+    felter_free(&client.handle);
+    felter_free(&it.conductor.handle);
+}
+
 int main(void) {
     felter_producer producer = FELTER_EMPTY;
     felter_consumer consumer = FELTER_EMPTY;
@@ -34,6 +191,9 @@ int main(void) {
     int32_t type_id;
     size_t len;
     int64_t began;
+    pauses();
+    sleepers();
+    requests();
     EXPECT(FELTER_OK, felter_one_to_one_new(128, &producer, &consumer));
     began = millis();
     EXPECT(FELTER_NO_MESSAGE, felter_read_wait(&consumer, &type_id, &len, buffer, sizeof buffer, 0));

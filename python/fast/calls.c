@@ -4,7 +4,6 @@
 #include <string.h>
 
 PyObject *functions, *make_refusal, *make_lapped;
-PyTypeObject *message_type;
 
 typedef int32_t function_of_6(word, word, word, word, word, word);
 typedef int32_t function_of_12(word, word, word, word, word, word, word, word, word, word, word, word);
@@ -14,19 +13,7 @@ static int32_t ask(void *address, int count, const word *w) {
     return ((function_of_12 *)address)(w[0], w[1], w[2], w[3], w[4], w[5], w[6], w[7], w[8], w[9], w[10], w[11]);
 }
 
-static int grow(Handle *handle, size_t size) {
-    if (size <= handle->size) return 0;
-    char *room = PyMem_Realloc(handle->room, size);
-    if (!room) {
-        PyErr_NoMemory();
-        return -1;
-    }
-    handle->room = room;
-    handle->size = size;
-    return 0;
-}
-
-/* Calls with the handle's own room, which grows until the message fits. */
+/* Makes a call with the buffer of the handle, which grows until the message fits. */
 static int ask_for_message(Call *call, int32_t *code) {
     const Function *function = call->function;
     size_t wanted = 256;
@@ -44,7 +31,7 @@ static int ask_for_message(Call *call, int32_t *code) {
     return 0;
 }
 
-/* The bytes that were put into the room. */
+/* Returns the bytes that the call put into the buffer. */
 static PyObject *body_of(Call *call, int room) {
     int length = call->function->length;
     uint64_t count = call->words[room + 1].whole;
@@ -56,7 +43,7 @@ static PyObject *body_of(Call *call, int room) {
     return body;
 }
 
-/* What was put out by the parameter with an index. */
+/* Returns what the call wrote through the parameter with this index. */
 static PyObject *found_at(Call *call, int index) {
     word out = call->outs[index];
     switch (call->function->kinds[index]) {
@@ -68,7 +55,8 @@ static PyObject *found_at(Call *call, int index) {
     }
 }
 
-/* What was put out: None, one value, or a tuple. All values are made first: a new tuple may collect garbage. */
+/* Returns what the call wrote: None, one value, or a tuple. All values are made before the tuple, because a new tuple
+ * may collect garbage. */
 static PyObject *found_of(Call *call) {
     const Function *function = call->function;
     PyObject *its[MOST];
@@ -91,22 +79,16 @@ static PyObject *found_of(Call *call) {
     return all;
 }
 
-/* The message of a type id and a body. It is what tuple.__new__ makes: the type's own would check its arguments, which
- * takes as long as a read. */
-static PyObject *message_of(PyObject *found) {
-#ifdef Py_LIMITED_API
-    newfunc make = (newfunc)PyType_GetSlot(&PyTuple_Type, Py_tp_new);
-#else
-    newfunc make = PyTuple_Type.tp_new;
-#endif
-    PyObject *arguments = found ? PyTuple_Pack(1, found) : NULL;
-    PyObject *message = arguments ? make(message_type, arguments, NULL) : NULL;
-    Py_XDECREF(arguments);
-    Py_XDECREF(found);
-    return message;
+/* Returns the message that the call wrote. Its type id is the first number, and its body is in the buffer. */
+static PyObject *read_of(Call *call) {
+    const Function *function = call->function;
+    int32_t type_id = 0;
+    for (int i = function->count - 1; i >= 0; i--)
+        if (function->kinds[i] == OUT_I32) type_id = (int32_t)call->outs[i].number;
+    return message_of(type_id, body_of(call, function->room));
 }
 
-/* The number of bytes that a receiver passed over that was lapped just now, 0 if that is not known. */
+/* Returns how many bytes a receiver that was just lapped passed over, or 0 if that is not known. */
 static uint64_t missed_by(const Call *call) {
     const Function *function = call->function;
     uint64_t from = 0, intent = 0, place = 0;
@@ -116,53 +98,64 @@ static uint64_t missed_by(const Call *call) {
     return place - from;
 }
 
-/* Raises what a code means. */
-static PyObject *refused(Call *call, int32_t code) {
-    int lapped = call->function->lapped;
-    PyObject *made;
-    if (code == LAPPED && lapped >= 0) {
-        unsigned long long count = call->outs[lapped].whole, missed = missed_by(call);
-        made = PyObject_CallFunction(make_lapped, "KK", count, missed);
-    } else {
-        made = PyObject_CallFunction(make_refusal, "i", (int)code);
-    }
+static PyObject *raised(PyObject *made) {
     if (made) PyErr_SetObject((PyObject *)Py_TYPE(made), made);
     Py_XDECREF(made);
     return NULL;
 }
 
-/* What a call returns in Python. */
+PyObject *raise_refusal(int32_t code) {
+    return raised(PyObject_CallFunction(make_refusal, "i", (int)code));
+}
+
+PyObject *raise_lapped(uint64_t count, uint64_t missed) {
+    return raised(PyObject_CallFunction(make_lapped, "KK", (unsigned long long)count, (unsigned long long)missed));
+}
+
+/* Returns the result of a call in Python. */
 static PyObject *answer(enum manner manner, Call *call, int32_t code) {
-    if (manner == QUIETLY) Py_RETURN_TRUE;
-    if ((manner == TRY || manner == READ) && code == NO_MESSAGE) Py_RETURN_NONE;
-    if (code != OK) return refused(call, code);
-    if (manner == READ) return message_of(found_of(call));
-    if (!call->cell) return found_of(call);
-    call->cell->value = call->outs[call->function->count - 1].whole;
-    Py_RETURN_NONE;
+    const Function *function = call->function;
+    if (code == OK) return manner == READ ? read_of(call) : found_of(call);
+    if (code == NO_MESSAGE && manner != DO) Py_RETURN_NONE;
+    if (code == LAPPED && function->lapped >= 0)
+        return raise_lapped(call->outs[function->lapped].whole, missed_by(call));
+    return raise_refusal(code);
+}
+
+/* Notes that a producer was joined to another one, which has its claims from now on. */
+static void note_join(Call *call) {
+    if (!call->handle || !call->other || call->other->at) return;
+    Handle *before = call->other->joined;
+    Py_INCREF((PyObject *)call->handle);
+    call->other->joined = call->handle;
+    Py_XDECREF((PyObject *)before);
+}
+
+void begin(Call *call, const Function *function) {
+    call->function = function;
+    call->view_count = call->copy_count = 0;
+    call->handle = call->other = NULL;
+    call->body = NULL;
 }
 
 PyObject *called(enum manner manner, PyObject *name, PyObject *const *given, Py_ssize_t count) {
     Call call;
     PyObject *found = NULL;
     int32_t code = OK;
-    call.function = functions ? (Function *)PyDict_GetItemWithError(functions, name) : NULL;
+    begin(&call, functions ? (Function *)PyDict_GetItemWithError(functions, name) : NULL);
     if (!call.function) {
         if (!PyErr_Occurred()) PyErr_Format(PyExc_AttributeError, "there is no call %R", name);
         return NULL;
     }
     memset(call.words, 0, sizeof call.words);
     memset(call.outs, 0, sizeof call.outs);
-    call.view_count = call.copy_count = 0;
-    call.handle = NULL;
-    call.body = NULL;
-    call.cell = NULL;
     int is_made = take(&call, given, count) == 0;
     if (is_made && call.function->room >= 0 && !call.body) {
         is_made = ask_for_message(&call, &code) == 0;
     } else if (is_made) {
         code = ask(call.function->address, call.function->count, call.words);
     }
+    if (is_made && code == OK && call.function->joins) note_join(&call);
     if (is_made) found = answer(manner, &call, code);
     release(&call);
     return found;

@@ -1,13 +1,32 @@
-/* Handles, and the other types. */
+/* Handles, and the type of functions. */
 #include "fast.h"
 
 #include <structmember.h>
 
-PyTypeObject *handle_type, *cell_type, *function_type;
-void (*free_handle)(void **at);
+PyTypeObject *handle_type, *function_type;
 unsigned generation;
 
-/* Calls with the handle as the first of what is given. */
+/* Takes each lock out of the list and releases it, which runs no code of Python. */
+static void wake_all(PyObject *sleepers) {
+    PyObject *kind, *value, *trace;
+    PyErr_Fetch(&kind, &value, &trace);
+    while (PyList_Check(sleepers) && PyList_Size(sleepers) > 0) {
+        PyObject *lock = PyObject_CallMethod(sleepers, "pop", NULL);
+        PyObject *done = lock ? PyObject_CallMethod(lock, "release", NULL) : NULL;
+        Py_XDECREF(done);
+        Py_XDECREF(lock);
+        /* (a reader that gave up meanwhile holds no lock) */
+        if (!done) PyErr_Clear();
+        if (!lock) break;
+    }
+    PyErr_Restore(kind, value, trace);
+}
+
+void wake(Handle *handle) {
+    if (handle->sleepers && Py_SIZE(handle->sleepers) > 0) wake_all(handle->sleepers);
+}
+
+/* Makes a call with the handle as its first argument. */
 static PyObject *called_by(enum manner manner, PyObject *self, PyObject *const *given, Py_ssize_t count) {
     PyObject *all[MOST];
     if (count < 1 || count > MOST) {
@@ -32,14 +51,10 @@ static PyObject *handle_read(PyObject *self, PyObject *name) {
     return called(READ, name, given, 2);
 }
 
-static PyObject *handle_quietly(PyObject *self, PyObject *const *given, Py_ssize_t count) {
-    return called_by(QUIETLY, self, given, count);
-}
-
 static PyObject *handle_free(PyObject *self, PyObject *Py_UNUSED(none)) {
     word at;
     if (take_handle(self, &at) != 0) return NULL;
-    if (free_handle) free_handle(at.pointer);
+    library.free(at.pointer);
     Py_RETURN_NONE;
 }
 
@@ -65,17 +80,18 @@ static void plain_dealloc(PyObject *it) {
 
 static void handle_dealloc(PyObject *it) {
     Handle *self = (Handle *)it;
+    PyObject *joined = (PyObject *)self->joined, *sleepers = self->sleepers;
     /* (a forked child owns nothing) */
-    if (self->at && free_handle && self->generation == generation) free_handle(&self->at);
+    if (self->at && self->generation == generation) {
+        library.free(&self->at);
+        wake(self);
+    }
     PyMem_Free(self->room);
+    self->joined = NULL;
+    self->sleepers = NULL;
     plain_dealloc(it);
-}
-
-static int cell_init(PyObject *self, PyObject *its, PyObject *Py_UNUSED(named)) {
-    unsigned long long value = 0;
-    if (!PyArg_ParseTuple(its, "K", &value)) return -1;
-    ((Cell *)self)->value = value;
-    return 0;
+    Py_XDECREF(joined);
+    Py_XDECREF(sleepers);
 }
 
 #define FAST(call) (PyCFunction)(void (*)(void))call, METH_FASTCALL
@@ -84,28 +100,22 @@ static PyMethodDef handle_methods[] = {
     {"_do", FAST(handle_do), "Calls, and returns what was put out, or raises what was refused."},
     {"_try", FAST(handle_try), "The same, but returns None if there is no message."},
     {"_read_by", handle_read, METH_O, "Calls what reads a message, and returns it, or None."},
-    {"_quietly", FAST(handle_quietly), "Calls, unless another call uses the handle. Returns whether it did."},
     {"_free", handle_free, METH_NOARGS, "Frees what it owns."},
     {"_is_empty", handle_is_empty, METH_NOARGS, "Whether it owns nothing."},
     {"_is_forked", handle_is_forked, METH_NOARGS, "Whether it belongs to the process that forked this one."},
     {NULL, NULL, 0, NULL},
 };
 
-static PyMemberDef cell_members[] = {
-    {"value", T_ULONGLONG, offsetof(Cell, value), 0, NULL},
+static PyMemberDef handle_members[] = {
+    {"_sleepers", T_OBJECT, offsetof(Handle, sleepers), 0, NULL},
     {NULL, 0, 0, 0, NULL},
 };
 
 static PyType_Slot handle_slots[] = {
+    {Py_tp_members, handle_members},
     {Py_tp_new, handle_new},
     {Py_tp_dealloc, handle_dealloc},
     {Py_tp_methods, handle_methods},
-    {0, NULL},
-};
-static PyType_Slot cell_slots[] = {
-    {Py_tp_init, cell_init},
-    {Py_tp_dealloc, plain_dealloc},
-    {Py_tp_members, cell_members},
     {0, NULL},
 };
 static PyType_Slot function_slots[] = {{Py_tp_dealloc, plain_dealloc}, {0, NULL}};
@@ -113,12 +123,10 @@ static PyType_Slot function_slots[] = {{Py_tp_dealloc, plain_dealloc}, {0, NULL}
 static PyType_Spec handle_spec = {
     "felter._fast.Handle", sizeof(Handle), 0, Py_TPFLAGS_DEFAULT | Py_TPFLAGS_BASETYPE, handle_slots,
 };
-static PyType_Spec cell_spec = {"felter._fast.Cell", sizeof(Cell), 0, Py_TPFLAGS_DEFAULT, cell_slots};
 static PyType_Spec function_spec = {"felter._fast.Function", sizeof(Function), 0, Py_TPFLAGS_DEFAULT, function_slots};
 
 int make_types(void) {
     handle_type = (PyTypeObject *)PyType_FromSpec(&handle_spec);
-    cell_type = (PyTypeObject *)PyType_FromSpec(&cell_spec);
     function_type = (PyTypeObject *)PyType_FromSpec(&function_spec);
-    return handle_type && cell_type && function_type ? 0 : -1;
+    return handle_type && function_type ? make_claim_type() : -1;
 }

@@ -1,8 +1,9 @@
-/* The module felter._fast: it opens the library, and makes the functions that others call. */
+/* The module felter._fast. It gets the library's functions, and makes the functions for Python from them. */
 #include "fast.h"
 
-#include <dlfcn.h>
 #include <string.h>
+
+Library library;
 
 static const char *const WORDS[] = {
     [HANDLE] = "*handle", [I32] = "i32", [U32] = "u32", [I64] = "i64", [U64] = "u64", [USIZE] = "usize",
@@ -10,14 +11,28 @@ static const char *const WORDS[] = {
     [OUT_U64] = "*u64", [OUT_USIZE] = "*usize",
 };
 
-/* The calls that say how often a receiver was lapped, by their last number, and those that say more. */
+/* The calls whose last number says how often a receiver was lapped, each with the calls that say more about the lap. */
 static const char *const LAPPING[][3] = {
     {"felter_receive", "felter_receiver_lap", "felter_receiver_place"},
     {"felter_receive_next", "felter_raw_receiver_lap", "felter_raw_receiver_place"},
     {"felter_poll", NULL, NULL},
 };
 
-/* The kind that a word stands for. Returns 0, or -1 with an exception. */
+/* The functions that the direct methods call. */
+static const struct {
+    const char *name;
+    size_t offset;
+} DIRECT[] = {
+    {"felter_write", offsetof(Library, write)}, {"felter_transmit", offsetof(Library, transmit)},
+    {"felter_claim", offsetof(Library, claim)}, {"felter_put", offsetof(Library, put)},
+    {"felter_commit", offsetof(Library, commit)}, {"felter_abort", offsetof(Library, abort)},
+    {"felter_read", offsetof(Library, read)}, {"felter_peek", offsetof(Library, peek)},
+    {"felter_read_batch", offsetof(Library, read_batch)}, {"felter_receive", offsetof(Library, receive)},
+    {"felter_receiver_lap", offsetof(Library, lap)}, {"felter_receiver_place", offsetof(Library, place)},
+    {"felter_free", offsetof(Library, free)},
+};
+
+/* Finds the kind of a word. Returns 0, or -1 with an exception. */
 static int kind_of(PyObject *text, enum kind *kind) {
     for (int i = HANDLE; i <= OUT_USIZE; i++) {
         if (i == LENGTH || PyUnicode_CompareWithASCIIString(text, WORDS[i]) != 0) continue;
@@ -50,27 +65,34 @@ static int read_kinds(Function *function, PyObject *words) {
     return 0;
 }
 
-static void find_lap(Function *function, void *library, const char *name) {
+/* Returns the address of a function, NULL if there is no such function, or NULL with an exception. */
+static void *address_of(PyObject *addresses, const char *name) {
+    PyObject *it = PyDict_GetItemString(addresses, name);
+    return it ? PyLong_AsVoidPtr(it) : NULL;
+}
+
+static void find_lap(Function *function, PyObject *addresses, const char *name) {
     for (size_t i = 0; i < sizeof LAPPING / sizeof *LAPPING; i++) {
         if (strcmp(name, LAPPING[i][0]) != 0) continue;
-        if (LAPPING[i][1]) function->lap = dlsym(library, LAPPING[i][1]);
-        if (LAPPING[i][2]) function->place = dlsym(library, LAPPING[i][2]);
+        if (LAPPING[i][1]) function->lap = address_of(addresses, LAPPING[i][1]);
+        if (LAPPING[i][2]) function->place = address_of(addresses, LAPPING[i][2]);
         for (int k = 0; k < function->count; k++)
             if (function->kinds[k] == OUT_U64) function->lapped = k;
     }
 }
 
-/* A function of the library, by the words of what it takes. */
-static Function *function_of(void *library, const char *path, const char *name, PyObject *words) {
+/* A function of the library, by the words for its parameters. */
+static Function *function_of(PyObject *addresses, const char *name, PyObject *words) {
     Function *function = PyObject_New(Function, function_type);
     if (!function) return NULL;
     function->lap = function->place = NULL;
     function->given = 0;
-    function->address = dlsym(library, name);
+    function->joins = strcmp(name, "felter_join") == 0;
+    function->address = address_of(addresses, name);
     if (!function->address) {
-        PyErr_Format(PyExc_ImportError, "felter: %s has no %s: it is of another version", path, name);
+        if (!PyErr_Occurred()) PyErr_Format(PyExc_ImportError, "felter: %s has no address", name);
     } else if (read_kinds(function, words) == 0) {
-        find_lap(function, library, name);
+        find_lap(function, addresses, name);
         return function;
     }
     Py_DECREF(function);
@@ -78,9 +100,9 @@ static Function *function_of(void *library, const char *path, const char *name, 
 }
 
 /* Makes a function, and adds it to the others. */
-static int add(PyObject *made, void *library, const char *path, PyObject *name, PyObject *words) {
+static int add(PyObject *made, PyObject *addresses, PyObject *name, PyObject *words) {
     PyObject *ascii = PyUnicode_AsASCIIString(name);
-    Function *function = ascii ? function_of(library, path, PyBytes_AsString(ascii), words) : NULL;
+    Function *function = ascii ? function_of(addresses, PyBytes_AsString(ascii), words) : NULL;
     int code = function ? PyDict_SetItem(made, name, (PyObject *)function) : -1;
     Py_XDECREF(ascii);
     Py_XDECREF((PyObject *)function);
@@ -88,35 +110,40 @@ static int add(PyObject *made, void *library, const char *path, PyObject *name, 
 }
 
 /* Makes the functions of a table, by their names. */
-static PyObject *functions_of(const char *path, PyObject *table) {
-    PyObject *name, *words;
+static PyObject *functions_of(PyObject *addresses, PyObject *table) {
+    PyObject *name, *words, *made = PyDict_New();
     Py_ssize_t at = 0;
-    /* (it stays loaded: handles that live are freed by it) */
-    void *library = dlopen(path, RTLD_NOW | RTLD_LOCAL);
-    if (!library) return PyErr_Format(PyExc_ImportError, "felter: %s cannot be loaded: %s", path, dlerror());
-    PyObject *made = PyDict_New();
     while (made && PyDict_Next(table, &at, &name, &words)) {
-        if (add(made, library, path, name, words) != 0) Py_CLEAR(made);
+        if (add(made, addresses, name, words) != 0) Py_CLEAR(made);
     }
     return made;
 }
 
+/* Notes the functions that are called directly. Returns 0, or -1 with an exception. */
+static int note_direct(PyObject *addresses) {
+    for (size_t i = 0; i < sizeof DIRECT / sizeof *DIRECT; i++) {
+        void *address = address_of(addresses, DIRECT[i].name);
+        if (!address) {
+            PyErr_Format(PyExc_ImportError, "felter: %s has no address", DIRECT[i].name);
+            return -1;
+        }
+        memcpy((char *)&library + DIRECT[i].offset, &address, sizeof address);
+    }
+    return 0;
+}
+
 static PyObject *opened(PyObject *Py_UNUSED(module), PyObject *arguments) {
-    PyObject *path, *table, *refusal, *lapped, *message;
-    if (!PyArg_ParseTuple(arguments, "O&O!OOO!", PyUnicode_FSConverter, &path, &PyDict_Type, &table, &refusal, &lapped,
+    PyObject *addresses, *table, *refusal, *lapped, *message, *made = NULL;
+    if (!PyArg_ParseTuple(arguments, "O!O!OOO!", &PyDict_Type, &addresses, &PyDict_Type, &table, &refusal, &lapped,
                           &PyType_Type, &message))
         return NULL;
-    PyObject *made = NULL;
-    /* (what is kept below belongs to whoever opened it: another interpreter, or the same module once more, takes
-     * ctypes, so that no handle gets the exceptions and messages of the other) */
+    /* (the variables below belong to the first package that opened this module. Another interpreter, or a second copy
+     * of the package, uses ctypes. So no handle gets the exceptions and messages of another package.) */
     if (functions) PyErr_SetString(PyExc_ImportError, "felter: the extension is in use by another copy of felter");
     else if (!PyType_IsSubtype((PyTypeObject *)message, &PyTuple_Type))
         PyErr_Format(PyExc_TypeError, "%R is no tuple", message);
-    else made = functions_of(PyBytes_AsString(path), table);
-    Py_DECREF(path);
+    else if (note_direct(addresses) == 0) made = functions_of(addresses, table);
     if (!made) return NULL;
-    Function *freeing = (Function *)PyDict_GetItemString(made, "felter_free");
-    if (freeing) memcpy(&free_handle, &freeing->address, sizeof free_handle);
     Py_INCREF(refusal);
     Py_INCREF(lapped);
     Py_INCREF(message);
@@ -140,10 +167,21 @@ static PyObject *module_forked(PyObject *Py_UNUSED(module), PyObject *Py_UNUSED(
     Py_RETURN_NONE;
 }
 
+/* Sets the class of claims, which is the extension's class or a subclass of it. */
+static PyObject *module_claims(PyObject *Py_UNUSED(module), PyObject *type) {
+    if (!PyType_Check(type) || !PyType_IsSubtype((PyTypeObject *)type, claim_type))
+        return PyErr_Format(PyExc_TypeError, "%R is no class of claims", type);
+    Py_INCREF(type);
+    claim_type = (PyTypeObject *)type;
+    Py_RETURN_NONE;
+}
+
 static PyMethodDef methods[] = {
-    {"open", opened, METH_VARARGS, "open(path, {name: words}, refusal, lapped, message) loads the library."},
+    {"open", opened, METH_VARARGS, "open({name: address}, {name: words}, refusal, lapped, message) takes the library."},
     {"call", (PyCFunction)(void (*)(void))module_call, METH_FASTCALL, "Calls, without a handle before the name."},
     {"forked", module_forked, METH_NOARGS, "Is called in a forked child, whose handles are then refused."},
+    {"method", method_of, METH_VARARGS, "method(qualified name, text) is a method that calls the library directly."},
+    {"claims", module_claims, METH_O, "claims(type) takes the class that a claim gets."},
     {NULL, NULL, 0, NULL},
 };
 
@@ -151,10 +189,11 @@ static struct PyModuleDef definition = {
     PyModuleDef_HEAD_INIT, "_fast", "The calls of libfelter.so, in C.", -1, methods, NULL, NULL, NULL, NULL,
 };
 
-/* (Python 3.8 does not say that it is visible) */
+/* (the headers of Python 3.8 do not make this function visible) */
 __attribute__((visibility("default"))) PyMODINIT_FUNC PyInit__fast(void);
 
-/* Whether this Python has all that was compiled in. An older one than the limited API's loads the file all the same. */
+/* Whether this Python has all functions that were used when this file was compiled. A Python that is older than the
+ * limited API of this file loads the file nevertheless. */
 static int is_new_enough(void) {
 #ifdef Py_LIMITED_API
     PyObject *version = PySys_GetObject("hexversion");
@@ -166,15 +205,16 @@ static int is_new_enough(void) {
     return 1;
 }
 
+static int add_type(PyObject *module, const char *name, PyTypeObject *type) {
+    Py_INCREF((PyObject *)type);
+    return PyModule_AddObject(module, name, (PyObject *)type);
+}
+
 PyMODINIT_FUNC PyInit__fast(void) {
     if (!is_new_enough()) return NULL;
     PyObject *module = make_types() == 0 ? PyModule_Create(&definition) : NULL;
     if (!module) return NULL;
-    Py_INCREF((PyObject *)handle_type);
-    Py_INCREF((PyObject *)cell_type);
-    if (PyModule_AddObject(module, "Handle", (PyObject *)handle_type) == 0 &&
-        PyModule_AddObject(module, "Cell", (PyObject *)cell_type) == 0)
-        return module;
+    if (add_type(module, "Handle", handle_type) == 0 && add_type(module, "Claim", claim_type) == 0) return module;
     Py_DECREF(module);
     return NULL;
 }

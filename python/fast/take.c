@@ -1,15 +1,22 @@
-/* What a call takes from Python. */
+/* How calls take their parameters from Python. */
 #include "fast.h"
 
 #include <string.h>
 
+/* The most bits of an int whose digits a text shows. (Python refuses to write a very long number.) */
+enum { SHOWN_BITS = 256 };
+
 static int does_not_fit(PyObject *it, const char *low, const char *high) {
     PyErr_Clear();
-    PyErr_Format(PyExc_OverflowError, "%S is not from %s to %s", it, low, high);
+    PyObject *bits = PyObject_CallMethod(it, "bit_length", NULL);
+    if (!bits) return -1;
+    if (PyLong_AsLongLong(bits) <= SHOWN_BITS) PyErr_Format(PyExc_OverflowError, "%S is not from %s to %s", it, low, high);
+    else PyErr_Format(PyExc_OverflowError, "a number of %S bits is not from %s to %s", bits, low, high);
+    Py_DECREF(bits);
     return -1;
 }
 
-/* Takes an int of a kind. */
+/* Takes an int, and tests that it is in the range of its kind. */
 static int take_int(PyObject *it, enum kind kind, word *to) {
     int overflow;
     if (kind == U64 || kind == USIZE) {
@@ -26,8 +33,7 @@ static int take_int(PyObject *it, enum kind kind, word *to) {
     return 0;
 }
 
-/* Takes the number of an object. */
-static int take_number(PyObject *given, enum kind kind, word *to) {
+int take_number(PyObject *given, enum kind kind, word *to) {
     if (PyLong_CheckExact(given)) return take_int(given, kind, to);
     PyObject *it = PyNumber_Index(given);
     if (!it) return -1;
@@ -36,7 +42,7 @@ static int take_number(PyObject *given, enum kind kind, word *to) {
     return code;
 }
 
-/* Takes a copy of the bytes of a buffer whose bytes are apart. */
+/* Takes a copy of the bytes of a buffer that is not contiguous. */
 static int take_copy(Call *call, Py_buffer *view, word *data) {
     void *copy = PyMem_Malloc((size_t)view->len);
     if (!copy) {
@@ -48,9 +54,10 @@ static int take_copy(Call *call, Py_buffer *view, word *data) {
     return PyBuffer_ToContiguous(copy, view, view->len, 'C');
 }
 
-/* Takes the bytes of an object, by its buffer: a `__len__` of its own is not asked. Every object with bytes gives a
- * buffer with all that describes it; if less is asked for, some raise what is no BufferError. */
-static int take_bytes(Call *call, PyObject *given, word *data) {
+/* Takes the bytes of an object, by its buffer. The object's own `__len__` is not used. The call asks for the full
+ * description of the buffer, which every object with bytes can give. If it asked for less, some objects would raise an
+ * exception that is not a BufferError. */
+int take_bytes(Call *call, PyObject *given, word *data) {
     if (PyBytes_CheckExact(given)) {
         data[0].pointer = PyBytes_AsString(given);
         data[1].whole = (uint64_t)PyBytes_Size(given);
@@ -64,7 +71,7 @@ static int take_bytes(Call *call, PyObject *given, word *data) {
     return PyBuffer_IsContiguous(view, 'C') ? 0 : take_copy(call, view, data);
 }
 
-/* Takes room for bytes: of a length, or for None the handle's own. */
+/* Takes a buffer for bytes: a new one of a length, or for None the buffer of the handle. */
 static int take_room(Call *call, PyObject *given, word *room) {
     if (given == Py_None) return 0;
     if (take_number(given, USIZE, &room[1]) != 0) return -1;
@@ -76,16 +83,19 @@ static int take_room(Call *call, PyObject *given, word *room) {
     return 0;
 }
 
+int is_foreign(Handle *handle) {
+    if (handle->generation == generation) return 0;
+    PyErr_SetString(PyExc_RuntimeError, "the handle belongs to the process that forked this one");
+    return -1;
+}
+
 int take_handle(PyObject *given, word *to) {
     /* (not isinstance, which a `__class__` can deceive) */
     if (!PyObject_TypeCheck(given, handle_type)) {
         PyErr_Format(PyExc_TypeError, "%R is no handle", given);
         return -1;
     }
-    if (((Handle *)given)->generation != generation) {
-        PyErr_SetString(PyExc_RuntimeError, "the handle belongs to the process that forked this one");
-        return -1;
-    }
+    if (is_foreign((Handle *)given)) return -1;
     to->pointer = &((Handle *)given)->at;
     return 0;
 }
@@ -98,15 +108,13 @@ static int take_one(Call *call, int index, PyObject *given) {
     if (kind != HANDLE) return take_number(given, kind, to);
     if (take_handle(given, to) != 0) return -1;
     if (!call->handle) call->handle = (Handle *)given;
+    else if (!call->other) call->other = (Handle *)given;
     return 0;
 }
 
 int take(Call *call, PyObject *const *given, Py_ssize_t count) {
     const Function *function = call->function;
-    int puts_last = function->count > 0 && function->kinds[function->count - 1] >= OUT_I32;
-    if (count == function->given + 1 && puts_last && Py_TYPE(given[count - 1]) == cell_type) {
-        call->cell = (Cell *)given[count - 1];
-    } else if (count != function->given) {
+    if (count != function->given) {
         PyErr_Format(PyExc_TypeError, "the call takes %d values and not %zd", function->given, count);
         return -1;
     }

@@ -1,35 +1,51 @@
-"""Rings, boards, counters and conductors for the threads of one process.
+"""Rings, boards, counters and conductors for the threads of one process. A board is a broadcast buffer.
 
     producer, consumer = felter.many_to_one(65536)
     producer.write(7, b"hello")
     for message in consumer:
         print(message.type_id, message.body)
 
-Reads return None if nothing is there, and a full ring or a faster producer is an exception (`Full`, `Contended`, which
-are an `Error` whose `is_passing` is then true). With a timeout they wait; `is_abandoned` says that the other side is
-gone, and a `Doorbell` wakes event loops. Capacities, lengths and positions are bytes; moments
-are milliseconds by a clock of the caller.
+Calls. A read returns None if no message is there. With a timeout a call waits. A refused call raises an `Error`, whose
+`number` says why: "raises OTHER_RING" means an Error with the number OTHER_RING. If the ring is full or another
+producer was faster, the Error is a `Full` or a `Contended`, and its `is_passing` is true. `is_abandoned` says that the
+other side is gone, and a `Doorbell` wakes event loops. Capacities, lengths and positions are in bytes. Moments are in
+milliseconds, by a clock of the caller.
 
-A handle may be used by any thread: one call at a time works on it. Handles are context managers, and free what they own
-at the end. They are not copied or pickled, and not used in a forked child, nor by a signal handler
-that interrupted a call of the same handle. Handles of two rings, boards, sets of counters or conductors are refused, by
-the numbers that this module gives them from one count: it compares them, and so does the library.
+Layouts. The bodies of a ring are in memory of their own, beside the words of headers and positions. So rings do not
+have the memory layout of Agrona's rings.
 
-The library is libfelter.so in this package, or in the folder that FELTER_DIR names, or in the repository's c/out, where
-c/build puts it. Calls go through an extension in C beside it, which keeps the global interpreter lock (no call waits).
-They go through ctypes if there is none for this Python, if another copy of this package has it (as one in another
-interpreter of the process), or if FELTER_PURE is 1. Through ctypes and before Python 3.10 a Ctrl-C during a call can
-leave its handle locked, and its calls are then refused. This module is tested and not proved.
+Handles. A handle is a producer, a consumer, or another object with calls. Any thread may use a handle, but only one
+call at a time works on it. Handles are context managers, and free what they own at the end. The rules are:
+
+- A handle is not copied or pickled.
+- A handle is not used in a forked child, nor by a signal handler that interrupted a call of the same handle. Such a
+  call raises RuntimeError.
+- If two handles of a call belong to different rings, boards, sets of counters or conductors, the call raises
+  OTHER_RING. This module gives each of them a number, from one count. Both the module and the library compare the
+  numbers.
+
+The library. It is libfelter.so in the folder that FELTER_DIR names, otherwise in this package, otherwise in the
+repository's c/out, which c/build fills. `implementation` says how calls reach it:
+
+- "extension": through an extension in C beside the library. It keeps the global interpreter lock, since no call waits.
+- "ctypes": if FELTER_PURE is 1. With an ImportWarning also if there is no extension for this Python, or if another copy
+  of this package in the process has the extension, for example in another interpreter.
+
+Through ctypes, before Python 3.10, a Ctrl-C during a call can leave its handle locked. Later calls of that handle are
+then refused.
+
+The library is proved. This module is tested and not proved.
 """
 
+from felter._library import implementation
 from felter._owner import Sizes
 from felter.boards import Lap, RawReceiver, RawRecord, Receiver, Transmitter
 from felter.claims import Claim
-from felter.conductor import Client, Conductor, Finished, Reply, ReplyKind, Work, WorkStop
+from felter.conductor import Client, Conductor, Finished, Outcome, Reply, ReplyKind, Unanswered, Work, WorkStop
 from felter.controlled import Action
 from felter.counters import Counters, Reader
 from felter.errors import Closed, Contended, Disconnected, Error, Full, Lapped, Number
-from felter.message import Message
+from felter.message import Buffer, Message
 from felter.rings import Consumer, Found, Positions, Producer, Standing, many_to_one, one_to_one
 from felter.waiting import Doorbell
 
@@ -37,6 +53,7 @@ __version__ = "0.1.0"
 
 __all__ = [
     "Action",
+    "Buffer",
     "Claim",
     "Client",
     "Closed",
@@ -54,6 +71,7 @@ __all__ = [
     "Lapped",
     "Message",
     "Number",
+    "Outcome",
     "Positions",
     "Producer",
     "RawReceiver",
@@ -65,9 +83,11 @@ __all__ = [
     "Sizes",
     "Standing",
     "Transmitter",
+    "Unanswered",
     "Work",
     "WorkStop",
     "__version__",
+    "implementation",
     "many_to_one",
     "one_to_one",
 ]

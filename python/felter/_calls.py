@@ -1,6 +1,6 @@
-"""The calls of libfelter.so, with what they take."""
+"""The calls of libfelter.so, with the types of their arguments."""
 
-# Written by c/bindings from felter.h: change that, and run it again.
+# Written by c/bindings from felter.h. To change this file, change felter.h and run c/bindings.
 CALLS = """
 felter_free *handle
 felter_version

@@ -1,6 +1,6 @@
-"""The codes of refusals, and what they mean."""
+"""The codes of refusals, and what they mean in words."""
 
-# Written by c/bindings from felter.h: change that, and run it again.
+# Written by c/bindings from felter.h. To change this file, change felter.h and run c/bindings.
 import enum
 
 
@@ -51,12 +51,12 @@ TEXTS = {
     6: "the record would end above 2^62",
     7: "the ring is full",
     8: "another producer was faster",
-    9: "the bytes do not lie inside the claim",
+    9: "the bytes are not inside the claim",
     10: "a claim of the producer is open",
-    11: "a producer or a client was not taken back",
+    11: "a producer or a client is still in a handle",
     12: "one share is left, and is needed",
     13: "the transmitter overtook the receiver",
-    14: "a receiver was not taken back",
+    14: "a receiver is still in a handle",
     15: "the number of counters is 0 or above 4096",
     16: "the key has more than 112 bytes",
     17: "the label has more than 380 bytes",

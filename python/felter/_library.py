@@ -1,29 +1,33 @@
-"""The library, and what calls it: an extension in C if there is one for this Python, and otherwise ctypes.
+"""The library, and how it is called: by an extension in C if there is one for this Python, and otherwise by ctypes.
 
-The library is libfelter.so, and the extension is a file named _fast beside it. FELTER_PURE=1 takes ctypes all the same,
-and so does a second copy of this package in the process, as in another interpreter. Both have `Handle`, `Cell` and
-`call`, and do the same.
+The library is libfelter.so, and the extension is a file named _fast beside it. With FELTER_PURE=1 ctypes is used even
+if there is an extension. A second copy of this package in the process, for example in another interpreter, uses ctypes
+too. The extension and `felter._pure` both have `Handle` and `call`, and do the same. `implementation` says which one is
+used.
 """
 
+import ctypes
 import importlib.machinery
 import importlib.util
 import os
 import types
 import typing
+import warnings
 
 from felter._calls import CALLS
 from felter.errors import Lapped, refusal
 from felter.message import Message
 
-# Each call, with the words for what it takes. To a call all kinds of handles are one.
-KINDS = ["*" + it for it in "producer consumer transmitter receiver raw_receiver counters reader conductor client".split()]
+# Each call, with the words for its parameters. Here all kinds of handles are one kind.
+KINDS = "producer consumer transmitter receiver raw_receiver counters reader conductor client".split()
 TABLE = {
-    name: ["*handle" if it in KINDS else it for it in words] for name, *words in map(str.split, CALLS.strip().splitlines())
+    name: ["*handle" if it.startswith("*") and it[1:] in KINDS else it for it in words]
+    for name, *words in map(str.split, CALLS.strip().splitlines())
 }
 
 
 def find() -> str:
-    """The path of the library: in the folder that FELTER_DIR names, or else in this package, or else in this
+    """The path of the library: in the folder that FELTER_DIR names, otherwise in this package, otherwise in this
     repository's c/out."""
     here = os.path.dirname(os.path.abspath(__file__))
     folder = os.environ.get("FELTER_DIR")
@@ -38,11 +42,32 @@ def find() -> str:
     )
 
 
-def extension(path: str) -> typing.Optional[types.ModuleType]:
-    """The extension beside the library, which it has opened, or None if there is none that this Python can load."""
-    if os.environ.get("FELTER_PURE", "0") not in ("", "0"):
-        return None
-    for ending in importlib.machinery.EXTENSION_SUFFIXES:
+def load(path: str) -> typing.Any:
+    """Loads the library at a path. The library stays loaded, since it frees the handles that live."""
+    try:
+        found = ctypes.CDLL(path)
+    except OSError as why:
+        raise ImportError("felter: %s cannot be loaded: %s" % (path, why)) from why
+    for name in TABLE:
+        if not hasattr(found, name):
+            raise ImportError("felter: %s has no %s: it is of another version" % (path, name))
+    return found
+
+
+def address(function: typing.Any) -> int:
+    """The address of a function of the library."""
+    return ctypes.cast(function, ctypes.c_void_p).value or 0
+
+
+def is_wanted() -> bool:
+    """Whether the extension is used if it is there."""
+    return os.environ.get("FELTER_PURE", "0") in ("", "0")
+
+
+def extension(path: str, found: typing.Any) -> typing.Optional[types.ModuleType]:
+    """Loads the extension beside the library, and gives it the library. Returns None if there is no extension that this
+    Python can load."""
+    for ending in importlib.machinery.EXTENSION_SUFFIXES if is_wanted() else []:
         file = os.path.join(os.path.dirname(path), "_fast" + ending)
         spec = importlib.util.spec_from_file_location("felter._fast", file)
         if spec is None or spec.loader is None or not os.path.exists(file):
@@ -50,28 +75,47 @@ def extension(path: str) -> typing.Optional[types.ModuleType]:
         try:
             made: typing.Any = importlib.util.module_from_spec(spec)
             spec.loader.exec_module(made)
-            made.open(path, *GIVEN)
+            made.open({name: address(getattr(found, name)) for name in TABLE}, *GIVEN)
             return made
         except (ImportError, UnicodeError):
-            # (it was built for a later Python, or serves another copy of this package, or has a name that is no UTF-8)
+            # (it was built for a later Python, or serves another copy of this package, or its name is not UTF-8)
             continue
     return None
 
 
-# What is opened with the library.
+# What the implementation gets together with the library.
 GIVEN = TABLE, refusal, Lapped, Message
 
 library = find()
-fast = extension(library)
+loaded = load(library)
+fast = extension(library, loaded)
+implementation = "ctypes" if fast is None else "extension"
 if fast is not None:
     made: typing.Any = fast
 else:
     from felter import _pure as made
 
-    made.open(library, *GIVEN)
+    made.open(loaded, *GIVEN)
+    if is_wanted():
+        warnings.warn(
+            "felter: there is no extension in C that this Python can load in %s, so each call goes through ctypes, "
+            "which takes 10 to 40 times as long; FELTER_PURE=1 says that this is meant" % os.path.dirname(library),
+            ImportWarning,
+            stacklevel=2,
+        )
 os.register_at_fork(after_in_child=made.forked)
 
+Method = typing.TypeVar("Method", bound=typing.Callable[..., typing.Any])
+
+
+def direct(method: Method) -> Method:
+    """Replaces a method by a method of the extension, if the extension is used. That method does the same, without the
+    generic call in between."""
+    found: Method = method if fast is None else made.method(method.__qualname__, method.__doc__)
+    return found
+
+
 if typing.TYPE_CHECKING:
-    from felter._pure import Cell, Handle, call
+    from felter._pure import Handle, call
 else:
-    Cell, Handle, call = made.Cell, made.Handle, made.call
+    Handle, call = made.Handle, made.call

@@ -1,28 +1,35 @@
-"""A handle, and what is done with it."""
+"""The base of all handles, and the ends of rings and boards."""
 
+import collections
 import itertools
 import typing
 import weakref
 
 from felter._library import Handle
 from felter.errors import Error, Number
+from felter.waiting import wake
 
-# A number for each ring, board, set of counters and conductor, by which the library too tells them apart. The header's
-# count begins at 1, and the Rust crate's at 2^62.
+if typing.TYPE_CHECKING:
+    from felter.claims import Trace
+
+# Each ring, board, set of counters and conductor has a number, by which the library distinguishes them too. The header
+# for C counts from 1 on, and the Rust crate from 2^62.
 numbers = itertools.count(1 << 63)
 
 Self = typing.TypeVar("Self", bound="Unique")
 
 
 class Sizes(typing.NamedTuple):
-    """The bytes of a ring's or a board's buffer, and how many its longest message has."""
+    """The capacity of a ring or a board, and the length of its longest message, in bytes."""
 
     capacity: int
     max_message: int
 
 
 class Unique:
-    """Something of which there is one: a copy would own it too."""
+    """An object that cannot be copied: two copies would own the same thing."""
+
+    __slots__ = ()
 
     def __copy__(self) -> typing.NoReturn:
         raise TypeError("%s cannot be copied or pickled: it owns what it stands for" % type(self).__name__)
@@ -35,27 +42,61 @@ class Unique:
 
 
 class Ends:
-    """The ends of a ring or a board that are there."""
+    """The ends of a ring or a board, and the traces of its claims.
+
+    The weak references have no callbacks, since a callback in Python would swallow an interrupt that came while it ran.
+    So the references to ends that are gone are dropped when new ends are added."""
 
     def __init__(self) -> None:
-        # (a WeakSet cannot be gone through while another thread adds to it; the list of keyrefs is made at once)
-        self.writers: "weakref.WeakKeyDictionary[Owner, None]" = weakref.WeakKeyDictionary()
-        self.readers: "weakref.WeakKeyDictionary[Owner, None]" = weakref.WeakKeyDictionary()
+        self.writers: "typing.Dict[int, weakref.ref[Owner]]" = {}
+        self.readers: "typing.Dict[int, weakref.ref[Owner]]" = {}
+        # These are used with ctypes alone. `traces` has the trace of each claim of the ring. `dropped` has the trace of
+        # each claim that was dropped.
+        self.traces: "typing.Dict[int, Trace]" = {}
+        self.dropped: "typing.Deque[Trace]" = collections.deque()
+        # The locks on which readers sleep.
+        self.sleepers: typing.List[typing.Any] = []
+        self._most = 16
+
+    def add(self, owner: "Owner", writes: bool) -> None:
+        """Adds an end. Other threads may add ends at the same time, since each step on a dict is one step of the
+        interpreter."""
+        it = weakref.ref(owner)
+        its = self.writers if writes else self.readers
+        its[id(it)] = it
+        if len(its) >= self._most:
+            for key, end in list(its.items()):
+                if end() is None:
+                    its.pop(key, None)
+            self._most = max(16, 2 * len(its))
+
+    def are_gone(self, writers: bool) -> bool:
+        """Whether every end of a side was freed, closed or joined, and so is empty."""
+        others = [it() for it in list((self.writers if writers else self.readers).values())]
+        return all(it is None or it._is_empty() for it in others)
 
 
 class Owner(Unique, Handle):
-    """A handle that owns something, and frees it. `number` tells its ring, board, counters or conductor. Its ends are
-    those of what it belongs to, of which this one writes or reads."""
+    """A handle that owns an object of the library, and frees it. `number` is the number of its ring, board, counters or
+    conductor. `ends` are the ends of that structure. This end is one of them, and writes or reads."""
 
     def __init__(self, number: int, ends: typing.Optional["Ends"] = None, writes: bool = True) -> None:
         self._ends = ends or Ends()
         self._writes = writes
-        (self._ends.writers if writes else self._ends.readers)[self] = None
+        self._ends.add(self, writes)
+        # (the extension looks at this list after each write)
+        self._sleepers = self._ends.sleepers
         self._number = number
 
     def free(self) -> None:
-        """Frees what it owns; its calls are then refused with NO_HANDLE. It may be called again."""
+        """Frees what the handle owns. Afterwards its other calls raise `Closed`. This may be called again."""
         self._free()
+        self._wake()
+
+    def _wake(self) -> None:
+        """Wakes the readers that sleep."""
+        if self._sleepers:
+            wake(self._sleepers)
 
     def __enter__(self: Self) -> Self:
         return self
@@ -64,15 +105,14 @@ class Owner(Unique, Handle):
         self.free()
 
     def _is_abandoned(self) -> bool:
-        """Whether every end of the other side is gone: it was freed, closed, or taken in, and so is empty."""
-        others = (it() for it in (self._ends.readers if self._writes else self._ends.writers).keyrefs())
-        return all(it is None or it._is_empty() for it in others)
+        """Whether every end of the other side was freed, closed or joined, and so is empty."""
+        return self._ends.are_gone(writers=not self._writes)
 
     def _sizes(self) -> Sizes:
         return Sizes(*self._do("felter_capacity"))
 
     def _with(self, name: str, other: "Owner", *parameters: typing.Any) -> None:
-        """A call of two handles, which have to be of one ring, board, conductor or set of counters."""
+        """Makes a call with two handles, which must belong to one ring, board, conductor or set of counters."""
         if self is other or self._number != other._number:
             raise Error(Number.OTHER_RING)
         self._do(name, other, *parameters)

@@ -1,4 +1,4 @@
-"""Handles and calls of the library by ctypes, for a Python without the extension in C.
+"""Handles and calls of the library through ctypes, for a Python without the extension in C.
 
 A call releases the interpreter's lock, so each handle has a lock of its own.
 """
@@ -8,14 +8,15 @@ import functools
 import operator
 import threading
 import typing
+import weakref
 
 from felter._codes import Number
 
-# The number of forks between the first process and this one. A handle that was made before a fork may be in the middle
-# of a call of a thread that the child does not have.
+# The number of forks between the first process and this one. A call may have been using a handle at the time of a fork,
+# on a thread that the child does not have. So calls with such a handle are refused.
 forks = 0
 
-# A number that a call puts out before anything can interrupt it.
+# The variable for a number that a call writes. No interrupt can come before the number is there.
 Cell = ctypes.c_uint64
 
 
@@ -44,7 +45,7 @@ TYPES: typing.Dict[str, typing.Any] = {
     **{word: ctypes.POINTER(kind) for word, kind in OUTS.items()},
 }
 
-# The numbers that a parameter can be. ctypes alone would cut a larger one off.
+# The range of each number. ctypes alone would cut off larger numbers.
 RANGES = {
     "i32": (-(2**31), 2**31),
     "u32": (0, 2**32),
@@ -53,7 +54,7 @@ RANGES = {
     "usize": (0, 2**64),
 }
 
-# The calls that say how often a receiver was lapped, by their last number, and those that say more.
+# The calls whose last number says how often a receiver was lapped, each with the calls that say more about the lap.
 LAPPING: typing.Dict[str, typing.Tuple[str, ...]] = {
     "felter_receive": ("felter_receiver_lap", "felter_receiver_place"),
     "felter_receive_next": ("felter_raw_receiver_lap", "felter_raw_receiver_place"),
@@ -66,40 +67,37 @@ makes: typing.Dict[str, typing.Callable[..., typing.Any]] = {}
 
 
 def open(
-    path: str,
+    found: typing.Any,
     table: typing.Dict[str, typing.List[str]],
     refusal: typing.Callable[[int], Exception],
     lapped: typing.Callable[[int, int], Exception],
     message: type,
 ) -> None:
-    """Loads the library, of which a table has the calls. The others make exceptions and messages."""
-    try:
-        found = ctypes.CDLL(path)
-    except OSError as why:
-        raise ImportError("felter: %s cannot be loaded: %s" % (path, why)) from why
+    """Opens the library. The table lists the calls of the library. The other parameters make exceptions and
+    messages."""
     for name, words in table.items():
-        if not hasattr(found, name):
-            raise ImportError("felter: %s has no %s: it is of another version" % (path, name))
         functions[name] = Function(name, getattr(found, name), words)
     makes.update(refusal=refusal, lapped=lapped, message=functools.partial(tuple.__new__, message))
 
 
 def forked() -> None:
-    """Is called in a forked child, whose handles are then refused."""
+    """This is called in a forked child. Calls with the parent's handles are refused there."""
     global forks
     forks += 1
+    # (a forked child owns nothing)
+    freeings.clear()
 
 
 def call(name: str, *given: typing.Any) -> typing.Any:
-    """Calls, without a handle before the name."""
+    """Makes a call by its name."""
     return functions[name].ask(given)
 
 
-# What a call takes from Python: each returns parameters of ctypes.
+# How a call takes its parameters from Python. Each of these functions returns parameters for ctypes.
 
 
 def take_bytes(given: typing.Any) -> typing.Tuple[typing.Any, ...]:
-    """The bytes of an object, by its buffer, and their length: a `__len__` of its own is not asked."""
+    """The bytes of an object, by its buffer, and their number. The object's own `__len__` is not used."""
     if type(given) is bytes:
         return given, len(given)
     try:
@@ -115,14 +113,20 @@ def take_handle(given: typing.Any) -> typing.Tuple[typing.Any, ...]:
     return (given._raw,)
 
 
+def shown(number: int) -> str:
+    """A number as text. (Python refuses to write a very long number.)"""
+    bits = number.bit_length()
+    return str(number) if bits <= 256 else "a number of %d bits" % bits
+
+
 def taker(low: int, end: int) -> typing.Callable[[typing.Any], typing.Tuple[typing.Any, ...]]:
-    """What takes a number of a range. Numbers are looked at here and not by ctypes, in which an interrupt would become
-    another exception."""
+    """Returns a function that takes a number from `low` to `end` - 1. Numbers are tested here and not by ctypes, in
+    which an interrupt would become another exception."""
 
     def take(given: typing.Any, index: typing.Callable[[typing.Any], int] = operator.index) -> typing.Tuple[int]:
         number = index(given)
         if not low <= number < end:
-            raise OverflowError("%d is not from %d to %d" % (number, low, end - 1))
+            raise OverflowError("%s is not from %d to %d" % (shown(number), low, end - 1))
         return (number,)
 
     return take
@@ -132,27 +136,27 @@ TAKES = {"bytes": take_bytes, "*handle": take_handle, **{word: taker(*its) for w
 
 
 class Function:
-    """A function of the library. It takes values, then puts out others, and last may fill a room with bytes."""
+    """A function of the library. It takes values, then writes other values, and last may fill a buffer with bytes."""
 
     def __init__(self, name: str, function: typing.Any, words: typing.List[str]) -> None:
         function.argtypes = [TYPES[it] for it in words]
         function.restype = None if name == "felter_free" else ctypes.c_int32
         self.call, self.lap = function, LAPPING.get(name)
-        # (a length comes with the bytes or the room before it)
+        # (the length of bytes or of a buffer follows it as a parameter of its own)
         words = [it for before, it in zip(["", *words], words) if before not in ("bytes", "*u8")]
         self.takes = [TAKES[it] for it in words if it in TAKES]
         self.handles = [i for i, it in enumerate(words) if it == "*handle"]
         self.outs = [OUTS[it] for it in words if it in OUTS]
         self.has_room = "*u8" in words
         self.given = len(self.takes) + self.has_room
-        # Which of them says how many bytes were put into the room, and which is how often a receiver was lapped.
+        # The position of the number of bytes that were put into the buffer, and of the number of laps.
         has_length = self.has_room and ctypes.c_size_t in self.outs
         self.length = self.outs.index(ctypes.c_size_t) if has_length else None
         lapped = len(self.outs) - 1 if name in LAPPING else None
         self.found = [i for i in range(len(self.outs)) if i not in (self.length, lapped)]
 
     def ask(self, given: typing.Sequence[typing.Any], is_trying: bool = False) -> typing.Any:
-        """Calls, and returns what was put out, or raises what was refused."""
+        """Makes the call, and returns what it wrote, or raises its refusal."""
         parameters, outs = self.take(given)
         handles = [given[i] for i in self.handles]
         for it in handles:
@@ -168,7 +172,7 @@ class Function:
     def asked(
         self, one: "Handle", two: "Handle", given: typing.Any, parameters: typing.Any, outs: typing.Any, is_trying: bool
     ) -> typing.Any:
-        """The same, when the handles are locked."""
+        """Does what `ask` does, after the handles were locked."""
         try:
             code, room = self.fill(given, parameters, outs) if self.has_room else (self.call(*parameters), None)
         finally:
@@ -185,7 +189,7 @@ class Function:
         raise self.refused(code, parameters, outs)
 
     def take(self, given: typing.Sequence[typing.Any]) -> typing.Tuple[typing.Any, typing.Any]:
-        """The parameters, and those of them that are put out."""
+        """The parameters for ctypes, and those of them that the call writes."""
         outs = [it() for it in self.outs]
         if len(given) == self.given + 1 and outs and type(given[-1]) is Cell:
             outs[-1] = given[-1]
@@ -198,7 +202,8 @@ class Function:
         return parameters, outs
 
     def fill(self, given: typing.Any, parameters: typing.Any, outs: typing.Any) -> typing.Tuple[int, typing.Any]:
-        """Calls with a room of a length, or with that of the handle, which grows until the message fits."""
+        """Makes the call with a new buffer of the given length, or with the buffer of the handle, which grows until the
+        message fits."""
         if given[-1] is not None:
             room = ctypes.create_string_buffer(TAKES["usize"](given[-1])[0])
             return self.call(*parameters, room, len(room)), room
@@ -226,6 +231,37 @@ class Function:
         return raised
 
 
+if typing.TYPE_CHECKING:
+    Reference = weakref.ref["Handle"]
+else:
+    Reference = weakref.ref
+
+
+class Freeing(Reference):
+    """Frees what a handle owns when the handle is gone. The callback of this weak reference is a function of the
+    library. Its parameter is the reference itself, which ctypes replaces by the handle. So no code of Python runs: an
+    interrupt would be swallowed in it."""
+
+    _as_parameter_: typing.Any = None
+
+
+# The references to all handles, and to some that are gone. Those are dropped when new handles are made.
+freeings: typing.Dict[int, Freeing] = {}
+most_freeings = 256
+
+
+def note_freeing(handle: "Handle") -> None:
+    global most_freeings
+    it = Freeing(handle, functions["felter_free"].call)
+    it._as_parameter_ = ctypes.byref(handle._raw)
+    freeings[id(it)] = it
+    if len(freeings) >= most_freeings:
+        for key, one in list(freeings.items()):
+            if one() is None:
+                freeings.pop(key, None)
+        most_freeings = max(256, 2 * len(freeings))
+
+
 class Handle:
     """A handle of the library."""
 
@@ -234,20 +270,18 @@ class Handle:
     _room: typing.Any
     _forks: int
     _was_emptied = True
+    _sleepers: typing.Any = None
 
     def __new__(cls, *_: typing.Any, **__: typing.Any) -> typing.Any:
         self = super().__new__(cls)
         self._raw, self._lock, self._forks = Raw(), threading.RLock(), forks
         self._room = ctypes.create_string_buffer(256)
+        note_freeing(self)
         return self
 
-    def __del__(self) -> None:
-        # (it was not made, or the program ends, or it is a forked child)
-        if functions is not None and getattr(self, "_room", None) is not None and not self._is_forked():
-            functions["felter_free"].call(self._raw)
-
     def _check(self) -> None:
-        """Refuses what would wait for good: a signal handler in a call of the handle, and a forked child."""
+        """Refuses calls that would wait for ever: by a signal handler that interrupted a call of the handle, and in a
+        forked child."""
         if self._lock._is_owned():
             raise RuntimeError("a call of this handle was interrupted, and cannot be made inside of itself")
         if self._is_forked():
@@ -258,16 +292,16 @@ class Handle:
         return functions[name].ask((self, *given))
 
     def _try(self, name: str, *given: typing.Any) -> typing.Any:
-        """The same, but returns None if there is no message."""
+        """Does what `_do` does, but returns None if there is no message."""
         return functions[name].ask((self, *given), True)
 
     def _read_by(self, name: str) -> typing.Any:
-        """Calls what reads a message, and returns it, or None."""
+        """Makes a call that reads a message, and returns the message, or None."""
         found = functions[name].ask((self, None), True)
         return found and makes["message"](found)
 
     def _quietly(self, name: str, *given: typing.Any) -> bool:
-        """Calls, unless another call uses the handle. Returns whether it did."""
+        """Makes a call unless another call uses the handle. Returns whether the call was made."""
         function = functions[name]
         parameters, _ = function.take((self, *given))
         if self._lock._is_owned():
@@ -278,7 +312,7 @@ class Handle:
             if is_free:
                 function.call(*parameters)
         finally:
-            # (an interrupt can come after the lock was taken, and before `is_free` says so)
+            # (an interrupt can come after the lock was taken and before `is_free` is set)
             try:
                 self._lock.release()
             except RuntimeError:
@@ -286,7 +320,7 @@ class Handle:
         return is_free
 
     def _free(self) -> None:
-        """Frees what it owns."""
+        """Frees what the handle owns."""
         self._check()
         with self._lock:
             try:
@@ -295,9 +329,9 @@ class Handle:
                 self._was_emptied = self._raw.at is None
 
     def _is_empty(self) -> bool:
-        """Whether it owned nothing when its last call ended: during a call this cannot be seen."""
+        """Whether the handle owned nothing when its last call ended. During a call this is not known."""
         return self._was_emptied
 
     def _is_forked(self) -> bool:
-        """Whether it belongs to the process that forked this one."""
+        """Whether the handle belongs to the process that forked this one."""
         return self._forks != forks

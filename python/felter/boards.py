@@ -1,69 +1,74 @@
-"""Boards: a transmitter never waits, and a receiver learns what it missed."""
+"""Boards, which are broadcast buffers: a transmitter never waits, and a receiver learns what it missed."""
 
 import typing
 
-from felter._library import call
+from felter._library import call, direct
 from felter._owner import Owner, Sizes, numbers
 from felter.errors import Error, Number
-from felter.message import Message
-from felter.waiting import wait_for
+from felter.message import Buffer, Message
+from felter.waiting import wait_as_task, wait_for
 
 
 class Lap(typing.NamedTuple):
-    """Where a receiver was when it was lapped, and the intent that showed it: the position up to which the transmitter
-    had begun to write."""
+    """The place of a receiver when it was lapped, and the intent that showed the lap. The intent is the position up to
+    which the transmitter had begun to write."""
 
     place: int
     intent: int
 
 
 class Transmitter(Owner):
-    """Transmits on a board of a capacity. It never waits: a receiver that is too slow is overtaken, and learns that."""
+    """Transmits on a board, which it makes with a capacity, a power of two from 256 to 2^24. A transmitter never waits.
+    A receiver that is too slow is overtaken, and learns that."""
 
     def __init__(self, capacity: int, start: int = 0) -> None:
         super().__init__(next(numbers))
         call("felter_board_new_at_numbered", self._number, capacity, start, self)
 
     def sizes(self) -> Sizes:
-        """The capacity, and how many bytes the longest message has."""
+        """The capacity, and the length of the longest message, in bytes."""
         return self._sizes()
 
-    def transmit(self, type_id: int, body: typing.Any) -> None:
+    @direct
+    def transmit(self, type_id: int, body: Buffer) -> None:
         """Transmits a message. The body is any object with bytes."""
         self._do("felter_transmit", type_id, body)
+        self._wake()
 
     def subscribe(self) -> "Receiver":
-        """Makes a receiver, which starts with the message that was transmitted last. It has one share of 65,536. One
-        that is freed takes its share with it, and the board is then never closed: join it where that matters."""
+        """Makes a receiver, which starts with the message that was transmitted last. The receiver gets one of the
+        board's 65,536 shares. If the receiver is freed, this share is lost, and the board can end without the
+        receiver."""
         receiver = Receiver(self._number, self._ends, writes=False)
         self._do("felter_subscribe", receiver)
         return receiver
 
     def subscribe_raw(self) -> "RawReceiver":
-        """Makes a raw receiver, which answers each record unread; else as `subscribe`."""
+        """Makes a raw receiver, which returns each record without its body. The rest is as for `subscribe`."""
         receiver = RawReceiver(self._number, self._ends, writes=False)
         self._do("felter_subscribe_raw", receiver)
         return receiver
 
     def join(self, receiver: "Receiver") -> None:
-        """Takes back a receiver of its board, with its share."""
+        """Takes back a receiver of this board with its share."""
         self._with("felter_board_join", receiver)
 
     def join_raw(self, receiver: "RawReceiver") -> None:
-        """Takes back a raw receiver of its board, with its share."""
+        """Takes back a raw receiver of this board with its share."""
         self._with("felter_board_join_raw", receiver)
 
     def close(self) -> int:
-        """Ends a board whose receivers were all taken back, frees the transmitter, and answers the position where the
-        last transmission ended. Refused with RECEIVERS_OUT, it goes on as before."""
+        """Ends a board whose receivers were all taken back or freed, and frees the transmitter. Returns the position at
+        which the last transmission ended. The call raises RECEIVERS_OUT while a receiver is there. Then the transmitter
+        is as before."""
         return self._do("felter_board_close")
 
 
 class Receiver(Owner):
-    """Receives what is transmitted on a board."""
+    """Receives the messages that are transmitted on a board."""
 
     def sizes(self) -> Sizes:
-        """The capacity, and how many bytes the longest message has."""
+        """The capacity, and the length of the longest message, in bytes."""
         return self._sizes()
 
     def place(self) -> int:
@@ -71,47 +76,56 @@ class Receiver(Owner):
         return self._do("felter_receiver_place")
 
     def lap(self) -> typing.Optional[Lap]:
-        """How it was lapped last, or None."""
+        """How the receiver was lapped last, or None if it never was."""
         found = self._try("felter_receiver_lap")
         return found and Lap(*found)
 
     def is_abandoned(self) -> bool:
-        """Whether the transmitter was freed or closed, or the conductor: nothing more will come. What was transmitted
-        before is still to be received."""
+        """Whether the transmitter, or the conductor that transmits, was freed or ended. Then nothing more will come,
+        but what was transmitted before can still be received."""
         return self._is_abandoned()
 
+    @direct
     def receive(self, timeout: typing.Optional[float] = 0) -> typing.Optional[Message]:
-        """The next message, or None if nothing came within so many seconds (0: it does not wait, None: it waits for
-        ever). Raises Lapped if the transmitter overtook the receiver; the next call goes on with the message that was
-        transmitted last. Waiting, it raises Disconnected if the transmitter is gone and all was received."""
-        if timeout == 0:
-            return self._read_by("felter_receive")
-        return wait_for(self._receive, timeout, self.is_abandoned)
+        """Receives the next message. Returns None if no message came within `timeout` seconds. With the timeout 0 the
+        call does not wait, and with None it waits for ever. It raises Lapped if the transmitter overtook the receiver.
+        The next call then goes on with the message that was transmitted last. A call that waits raises Disconnected if
+        the transmitter is gone and all messages were received."""
+        return self._receive() if timeout == 0 else self._next_within(timeout)
 
+    def _next_within(self, timeout: typing.Optional[float]) -> typing.Optional[Message]:
+        return wait_for(self._receive, timeout, self.is_abandoned, self._sleepers)
+
+    async def receive_async(self, timeout: typing.Optional[float] = None) -> typing.Optional[Message]:
+        """Does what `receive` does with a timeout, in a task of asyncio. Other tasks go on meanwhile."""
+        return await wait_as_task(self._receive, timeout, self.is_abandoned, self._sleepers)
+
+    @direct
     def _receive(self) -> typing.Optional[Message]:
-        return self._read_by("felter_receive")
+        found: typing.Optional[Message] = self._read_by("felter_receive")
+        return found
 
     def __iter__(self) -> typing.Iterator[Message]:
-        """The messages that are there, each taken as it is asked for."""
+        """Returns an iterator over the messages that are there, which takes each message."""
         return iter(self._receive, None)
 
     def lapped_count(self) -> int:
-        """How often it was lapped."""
+        """How often the receiver was lapped."""
         return self._do("felter_lapped_count")
 
 
 class RawRecord(typing.NamedTuple):
-    """What a raw receiver says of a record, whose body it has not read."""
+    """What a raw receiver returns of a record, whose body is not yet copied."""
 
     type_id: int
     length: int
 
 
 class RawReceiver(Owner):
-    """Receives what is transmitted on a board, each record unread."""
+    """Receives records that are transmitted on a board, without their bodies."""
 
     def sizes(self) -> Sizes:
-        """The capacity, and how many bytes the longest message has."""
+        """The capacity, and the length of the longest message, in bytes."""
         return self._sizes()
 
     def place(self) -> int:
@@ -119,28 +133,28 @@ class RawReceiver(Owner):
         return self._do("felter_raw_receiver_place")
 
     def lap(self) -> typing.Optional[Lap]:
-        """How it was lapped last, or None."""
+        """How the receiver was lapped last, or None if it never was."""
         found = self._try("felter_raw_receiver_lap")
         return found and Lap(*found)
 
     def is_abandoned(self) -> bool:
-        """Whether the transmitter was freed or closed: nothing more will come."""
+        """Whether the transmitter was freed or closed. Then nothing more will come."""
         return self._is_abandoned()
 
     def receive_next(self) -> typing.Optional[RawRecord]:
-        """Goes behind the next record, and says its type id and length; None where nothing is there. Raises Lapped as
-        Receiver.receive does."""
+        """Passes the next record, and returns its type id and the length of its body. Returns None if no record is
+        there. Raises Lapped as Receiver.receive does."""
         found = self._try("felter_receive_next")
         return found and RawRecord(*found)
 
     def load_body(self, length: int) -> bytes:
-        """The body of the record that was answered last, which has so many bytes. They may be those of another record,
-        unless `validate` then says True."""
+        """Copies the body of the record that was returned last. `length` is the length in that record. The bytes are
+        certain to be those of this record only if `validate` then returns True."""
         return self._do("felter_load_body", length)
 
     def validate(self) -> bool:
-        """Whether the record that was answered last was not yet overwritten. If so, each body of it that was loaded
-        before is the one that was transmitted."""
+        """Tests that the record which was returned last is not yet overwritten. If the result is True, each copy of its
+        body that was made before is the body that was transmitted."""
         try:
             self._do("felter_validate")
         except Error as refused:
@@ -150,5 +164,5 @@ class RawReceiver(Owner):
         return True
 
     def lapped_count(self) -> int:
-        """How often `receive_next` was lapped."""
+        """How often `receive_next` raised Lapped."""
         return self._do("felter_raw_lapped_count")

@@ -1,75 +1,92 @@
-"""Claims of a producer."""
+"""Claims of a producer.
+
+The extension in C has claims of its own, which abort themselves when they are dropped. The claims for ctypes are in
+this file. When such a claim is dropped no code of Python runs, since an interrupt in it would be swallowed. Instead a
+weak reference appends the trace of the claim to a queue, and the next call of the ring aborts the claim.
+"""
 
 import contextlib
 import typing
-import weakref
 
-from felter._library import Cell
-from felter._owner import Unique
-from felter.errors import Error
+from felter._library import Handle, fast
+from felter._owner import Ends, Owner, Unique
+from felter._pure import Cell
+from felter.errors import Error, Number
+from felter.message import Buffer
+from felter.waiting import wake
 
 if typing.TYPE_CHECKING:
+    import weakref
+
     from felter.rings import Producer
 
-# The number of a claim that was not made yet. No claim has it: places are at most 2^62.
+    Reference = weakref.ref["Claim"]
+else:
+    from weakref import ref as Reference
+
+# The number for a claim that was not made yet. No claim has this number, since places are at most 2^62.
 NONE = 2**64 - 1
 
 
-class Trace(weakref.ref):  # type: ignore[type-arg]
-    """What stays of a claim that was dropped, for its producer to abort it."""
+class Trace(Reference):
+    """The trace of a claim, which stays when the claim is dropped."""
 
-    # (so long as an interrupt left it like this, nothing was claimed)
-    producer: typing.Any = None
+    # (if an interrupt left the trace like this, nothing was claimed)
+    producer: "typing.Optional[Producer]" = None
     number = Cell(NONE)
-    is_settled = False
 
-    def owner(self) -> "Producer":
-        """The producer of the claim, or the one that took that one in."""
-        while self.producer._joined is not None:
+    def owner(self) -> "typing.Optional[Producer]":
+        """The producer of the claim, or the producer to which that one was joined. None if the claim was settled."""
+        while self.producer is not None and self.producer._joined is not None:
             self.producer = self.producer._joined
         return self.producer
 
     def is_over(self) -> bool:
-        """Whether there is nothing to abort: it was settled or never made, or its producer was freed."""
-        if self.is_settled or self.number.value == NONE:
-            return True
+        """Whether there is nothing to abort: the claim was settled or never made, or its producer was freed."""
         producer = self.owner()
-        return producer._is_empty() or producer._is_forked()
+        return producer is None or self.number.value == NONE or producer._is_empty() or producer._is_forked()
 
     def abort(self) -> None:
         """Aborts the claim if it is open, unless a call of the producer is running."""
-        if not self.is_over() and self.owner()._quietly("felter_abort", self.number.value):
-            self.is_settled = True
+        producer = self.owner()
+        if producer is not None and not self.is_over() and producer._quietly("felter_abort", self.number.value):
+            self.producer = None
 
 
 class Claim(Unique):
-    """Room in a ring for one message. As a context manager it is committed at the end, and aborted by an exception. One
-    that is dropped is aborted."""
+    """Room in a ring for one message. As a context manager a claim is committed at the end, and aborted by an
+    exception. A claim that is dropped is aborted, at the latest by the next call of the ring. A settled claim no longer
+    keeps its producer."""
 
     def __init__(self, producer: "Producer") -> None:
-        # The trace is there before the claim is made: an interrupt behind the call, whose claim nobody got, leaves it.
-        # It is called for by the weak reference alone, which no interrupt can stop.
-        trace = Trace(self, producer._dropped.append)
+        # The trace is there before the claim is made. So the trace is left if an interrupt comes right after the call,
+        # and no caller gets the claim.
+        ends = producer._ends
+        trace = Trace(self, ends.dropped.append)
         trace.producer, trace.number = producer, Cell(NONE)
-        producer._traces[id(trace)] = trace
+        ends.traces[id(trace)] = trace
         self._trace = trace
 
-    def put(self, offset: int, data: typing.Any) -> None:
-        """Puts bytes into the message, from a byte on."""
+    def put(self, offset: int, data: Buffer) -> None:
+        """Puts bytes into the message, from the byte at `offset` on."""
         self._do("felter_put", offset, data)
 
     def commit(self) -> None:
-        """Shows the message to the consumer."""
+        """Commits the claim, so that the consumer is shown the message."""
         self._do("felter_commit")
-        self._trace.is_settled = True
+        self._trace.producer = None
 
     def abort(self) -> None:
-        """Lets the consumer pass it."""
+        """Aborts the claim, so that the consumer passes it."""
         self._do("felter_abort")
-        self._trace.is_settled = True
+        self._trace.producer = None
 
     def _do(self, name: str, *parameters: typing.Any) -> None:
-        self._trace.owner()._do(name, self._trace.number.value, *parameters)
+        producer = self._trace.owner()
+        if producer is None:
+            raise Error(Number.NO_CLAIM)
+        producer._do(name, self._trace.number.value, *parameters)
+        producer._wake()
 
     def __enter__(self) -> "Claim":
         return self
@@ -78,7 +95,45 @@ class Claim(Unique):
         with contextlib.suppress(Error) if kind else contextlib.nullcontext():
             self.abort() if kind else self.commit()
 
-    def __del__(self) -> None:
-        trace = getattr(self, "_trace", None)
-        if trace is not None:
-            trace.abort()
+
+if fast is not None and not typing.TYPE_CHECKING:
+
+    class Claim(Unique, fast.Claim):
+        """Room in a ring for one message. As a context manager a claim is committed at the end, and aborted by an
+        exception. A claim that is dropped is aborted. A settled claim no longer keeps its producer."""
+
+        __slots__ = ("__weakref__",)
+
+    fast.claims(Claim)
+
+
+def settle_dropped(ends: Ends) -> None:
+    """Aborts the claims of a ring that were dropped."""
+    for trace in list(ends.dropped):
+        trace.abort()
+        if trace.is_over():
+            ends.traces.pop(id(trace), None)
+            with contextlib.suppress(ValueError):
+                ends.dropped.remove(trace)
+    wake(ends.sleepers)
+
+
+class Settling(Owner):
+    """An end of a ring. If ctypes is used, its calls first abort the claims that were dropped."""
+
+    if fast is None:
+
+        def _do(self, name: str, *given: typing.Any) -> typing.Any:
+            if self._ends.dropped:
+                settle_dropped(self._ends)
+            return Handle._do(self, name, *given)
+
+        def _try(self, name: str, *given: typing.Any) -> typing.Any:
+            if self._ends.dropped:
+                settle_dropped(self._ends)
+            return Handle._try(self, name, *given)
+
+        def _read_by(self, name: str) -> typing.Any:
+            if self._ends.dropped:
+                settle_dropped(self._ends)
+            return Handle._read_by(self, name)

@@ -1,37 +1,45 @@
-"""Conductors: they own counters, which clients command."""
+"""Conductors, which own counters and change them as their clients command."""
 
+import contextlib
 import enum
+import time
 import typing
 
 from felter._library import call
 from felter._owner import Owner, numbers
 from felter.boards import Receiver
 from felter.counters import Reader
-from felter.errors import Error, Number
+from felter.errors import Contended, Disconnected, Error, Full, Lapped, Number
+from felter.message import Buffer
+from felter.waiting import wait_for
+
+# An id that no counter has, and how often a client that was lapped looks for its reply before it sends another command.
+NO_COUNTER = 2**32 - 1
+LOOKS = 16
 
 
 class WorkStop(enum.IntEnum):
-    """Why a conductor stopped, by the numbers of felter.h."""
+    """Why a call of `Conductor.work` stopped, by the numbers of felter.h."""
 
-    # As many commands were taken as were wanted.
+    # The limit was reached.
     LIMIT = 0
-    # At the end of the ring's buffer: the next call goes on behind it.
+    # The end of the ring's buffer was reached: the next call goes on after it.
     BLOCK = 1
     # No further command was there.
     UNPUBLISHED = 2
-    # A reply might end above 2^62 on the board: the command stays, not applied.
+    # A reply might end above 2^62 on the board: the command stays, and is not applied.
     BOARD_END = 3
 
 
 class Work(typing.NamedTuple):
-    """How many commands a conductor took, which may be 0, and why it stopped."""
+    """How many commands a call of `Conductor.work` took, which may be 0, and why it stopped."""
 
     messages: int
     stopped: WorkStop
 
 
 class Finished(typing.NamedTuple):
-    """How many commands a conductor received in all, and how many still lay in the ring, which get no reply."""
+    """How many commands a conductor received in all, and how many were still in the ring. Those get no reply."""
 
     received: int
     left: int
@@ -40,13 +48,13 @@ class Finished(typing.NamedTuple):
 class ReplyKind(enum.IntEnum):
     """The kinds of replies, which are the type ids of their messages on the board."""
 
-    # A counter was made; the number is its id.
+    # A counter was allocated; the number is its id.
     ALLOCATED = 101
     # The counter was freed or set; the number is 0.
     DONE = 102
-    # Nothing was done; the number is that of the refusal (Number).
+    # Nothing was done; the number says why (Number).
     REFUSED = 103
-    # The owner's counters were freed; the number is how many.
+    # The owner's counters were freed; the number says how many they were.
     CLOSED = 104
 
 
@@ -57,46 +65,67 @@ class Reply(typing.NamedTuple):
     number: int
 
 
-class Conductor(Owner):
-    """Owns counters with the ids below `counters`, of which a freed one rests for `reuse_ms` milliseconds. It takes the
-    commands of its clients from a ring of `capacity` bytes, and answers each by one reply on a board of `replies`
-    bytes.
+class Outcome(enum.Enum):
+    """What is known of a command whose reply did not come."""
 
-    A client or a receiver that is freed is missed for good: the conductor then never finishes."""
+    PENDING = "no reply came in time, and the command may still be applied"
+    TAKEN = "the command was applied or refused, and which of them is lost: replies were overtaken"
+    UNKNOWN = "no reply came in time, and replies were overtaken"
+
+
+class Unanswered(Exception):
+    """A request ended without its reply. `outcome` says what is known of the command, and `correlation` is its id."""
+
+    def __init__(self, outcome: Outcome, correlation: int) -> None:
+        super().__init__("command %d: %s" % (correlation, outcome.value))
+        self.outcome = outcome
+        self.correlation = correlation
+
+    def __reduce__(self) -> typing.Tuple[typing.Any, ...]:
+        return type(self), (self.outcome, self.correlation)
+
+
+class Conductor(Owner):
+    """Owns counters with the ids below `counters`. A freed id is not given again for `reuse_ms` milliseconds. The
+    conductor takes the commands of its clients from a ring of `capacity` bytes, and transmits one reply to each on a
+    board of `replies` bytes.
+
+    The share of a client or a receiver that is freed is lost, and the conductor can finish without it."""
 
     def __init__(self, capacity: int, replies: int, counters: int, reuse_ms: int = 0) -> None:
         super().__init__(next(numbers))
         call("felter_conductor_new_numbered", self._number, capacity, replies, counters, reuse_ms, self)
 
     def client(self) -> "Client":
-        """Makes a client, with one share of the ring's 65,536 and one of the board's. It starts with the reply that was
-        transmitted last."""
+        """Makes a client, which starts with the reply that was transmitted last. The client gets one share of the ring
+        and one of the board, which have 65,536 each."""
         client = Client(self._number, self._ends, writes=False)
         self._do("felter_conductor_client", client)
         return client
 
     def subscribe(self) -> Receiver:
-        """Makes a receiver of the replies as they lie on the board, which starts with the one that was transmitted
-        last, with one of the board's shares."""
+        """Makes a receiver of the replies as they are on the board. The receiver starts with the reply that was
+        transmitted last, and gets one of the board's shares."""
         receiver = Receiver(self._number, self._ends, writes=False)
         self._do("felter_conductor_subscribe", receiver)
         return receiver
 
     def reader(self) -> Reader:
-        """Makes a reader of the counters' values, for another thread, with one of the counters' 65,536 shares. One that
-        is freed takes its share with it, and is in nobody's way."""
+        """Makes a reader of the counters' values, for another thread. The reader gets one of the counters' 65,536
+        shares. If the reader is freed, this share is lost, and the conductor can finish without the reader."""
         reader = Reader(self._number)
         self._do("felter_conductor_reader", reader)
         return reader
 
     def work(self, now: int, limit: int = 2**32 - 1) -> Work:
-        """Takes up to `limit` commands, applies each at a moment, and transmits its reply. Returns a Work. Through the
-        extension in C other threads of Python wait meanwhile."""
+        """Takes up to `limit` commands, applies each at the moment `now`, and transmits its reply. Through the
+        extension in C, other threads of Python wait during the call."""
         messages, stopped = self._do("felter_conductor_work", now, limit)
+        self._wake()
         return Work(messages, WorkStop(stopped))
 
     def find(self, type_id: int, registration: int) -> typing.Optional[int]:
-        """The lowest id in use of a type and registration id, or None."""
+        """The lowest id in use with this type id and registration id, or None."""
         try:
             return self._do("felter_conductor_find", type_id, registration)
         except Error as refused:
@@ -125,11 +154,12 @@ class Conductor(Owner):
         return self._do("felter_conductor_owner", counter)
 
     def state(self, counter: int) -> int:
-        """The state of a record: 0 if it was never used, 1 if the counter is in use, -1 if it was freed."""
+        """The state of an id: 0 if it was never used, 1 if its counter is in use, -1 if its counter was freed."""
         return self._do("felter_conductor_state", counter)
 
     def deadline(self, counter: int) -> int:
-        """The moment from which an id may be allocated again: 0 if it was never used, 2^63 - 1 if it is in use."""
+        """The moment from which an id may be allocated again: 0 if it was never used, 2^63 - 1 if its counter is in
+        use."""
         return self._do("felter_conductor_deadline", counter)
 
     def label(self, counter: int) -> bytes:
@@ -137,7 +167,7 @@ class Conductor(Owner):
         return self._do("felter_conductor_label", counter, 380)
 
     def key(self, counter: int) -> bytes:
-        """A counter's key of 112 bytes, with zeros after a shorter one."""
+        """A counter's key, which is filled up to 112 bytes with zeros."""
         return self._do("felter_conductor_key", counter, 112)
 
     def set_heartbeat(self, value: int) -> None:
@@ -145,56 +175,58 @@ class Conductor(Owner):
         self._do("felter_conductor_set_heartbeat", value)
 
     def join(self, client: "Client") -> None:
-        """Takes back a client of this conductor's, with its shares."""
+        """Takes back a client of this conductor with its shares."""
         self._with("felter_conductor_join", client)
 
     def join_receiver(self, receiver: Receiver) -> None:
-        """Takes back a receiver of this conductor's, with its share."""
+        """Takes back a receiver of this conductor with its share."""
         self._with("felter_conductor_join_receiver", receiver)
 
     def join_reader(self, reader: Reader) -> None:
-        """Takes back a reader of this conductor's, with its share."""
+        """Takes back a reader of this conductor with its share."""
         self._with("felter_conductor_join_reader", reader)
 
     def finish(self) -> Finished:
-        """Ends a conductor whose clients and receivers were all taken back, and answers a Finished. Refused with
-        PRODUCERS_OUT, then RECEIVERS_OUT, and then IN_USE where a reader is out, it goes on as before."""
+        """Ends a conductor whose clients, receivers and readers were all taken back or freed. While one of them is
+        there the call raises PRODUCERS_OUT if a client was not taken back, then RECEIVERS_OUT if a receiver was not,
+        and otherwise IN_USE. Then the conductor is as before."""
         return Finished(*self._do("felter_conductor_finish"))
 
 
 class Client(Owner):
-    """Sends commands to its conductor, and hears its replies. Each call that sends makes one try, and answers the
-    correlation id that was drawn for the command; `poll` asks for its reply."""
+    """Sends commands to a conductor, and receives the replies. Each call that sends tries once, and returns the
+    correlation id that was drawn for the command. `poll` asks for the reply."""
 
-    def allocate(self, type_id: int, key: typing.Any = b"", label: typing.Any = b"", owner: int = 0) -> int:
-        """Asks for a counter of value 0; its registration id is the correlation id. The owner 0 stands for none. The
-        command takes 20 bytes and those of key and label, and with an owner 8 more."""
+    def allocate(self, type_id: int, key: Buffer = b"", label: Buffer = b"", owner: int = 0) -> int:
+        """Asks for a counter with the value 0. Its registration id is the correlation id. The owner 0 means that there
+        is none. The command takes 20 bytes plus those of key and label, and 8 bytes more with an owner."""
         if owner == 0:
             return self._do("felter_send_allocate", type_id, key, label)
         return self._do("felter_send_allocate_owned", type_id, owner, key, label)
 
     def release(self, counter: int) -> int:
-        """Asks that a counter is freed."""
+        """Asks the conductor to free a counter."""
         return self._do("felter_send_free", counter)
 
     def set(self, counter: int, value: int) -> int:
-        """Asks that a counter's value is set."""
+        """Asks the conductor to set a counter's value."""
         return self._do("felter_send_set", counter, value)
 
     def close_owner(self, owner: int) -> int:
-        """Asks that each counter of an owner is freed."""
+        """Asks the conductor to free each counter of an owner."""
         return self._do("felter_send_close_owner", owner)
 
     def is_abandoned(self) -> bool:
-        """Whether the conductor was freed, or has finished: no further reply will come."""
+        """Whether the conductor was freed, or has finished. Then no further reply will come."""
         return self._is_abandoned()
 
     def poll(self, correlation: int) -> typing.Optional[Reply]:
-        """The reply to the command with this correlation id, or None where it is not there yet. Replies to other
-        commands are passed over, so ask for those of one client in the order in which they were sent.
+        """Returns the reply to the command with this correlation id, or None if it is not there yet. The call passes
+        over replies to other commands. So ask for the replies of one client in the order in which its commands were
+        sent.
 
-        Raises Lapped where the conductor overtook the client: the next call goes on with the reply that was transmitted
-        last, and what became of the commands that were on their way is not known."""
+        Raises Lapped if the conductor overtook the client. The next call goes on with the reply that was transmitted
+        last. What became of the commands that had no reply yet is not known."""
         while True:
             try:
                 found = self._try("felter_poll", correlation)
@@ -204,6 +236,64 @@ class Client(Owner):
             else:
                 return found and Reply(ReplyKind(found[0]), found[1])
 
+    def request(
+        self, send: typing.Callable[..., int], *parameters: typing.Any, timeout: typing.Optional[float] = None
+    ) -> Reply:
+        """Sends a command, and waits for its reply, for `timeout` seconds, or for ever if that is None:
+        `client.request(client.set, 3, 7, timeout=1)`. The call sends again while the ring is full or another client is
+        faster. It passes over replies to other commands, so a client has one request at a time.
+
+        If the conductor overtakes the client, the reply may be lost. Then the call soon sends a command that changes
+        nothing: to free an id that no counter has. Replies to one client come in the order of its commands, so the
+        reply to the second command shows that the conductor took the first one before.
+
+        Raises Full or Contended if the command was not sent in time, Unanswered if no reply came, and Disconnected if
+        the conductor is gone."""
+        end = None if timeout is None else time.monotonic() + timeout
+        correlation = self._sent(lambda: send(*parameters), timeout)
+        return self._reply_to(correlation, end)
+
+    def _sent(self, send: typing.Callable[[], int], timeout: typing.Optional[float]) -> int:
+        refused: typing.List[Error] = []
+
+        def attempt() -> typing.Optional[int]:
+            try:
+                return send()
+            except (Full, Contended) as why:
+                refused[:] = [why]
+                return None
+
+        correlation = wait_for(attempt, timeout, self.is_abandoned)
+        if correlation is None:
+            raise refused[0]
+        return correlation
+
+    def _reply_to(self, correlation: int, end: typing.Optional[float]) -> Reply:
+        is_lapped, pause = False, 0.0
+        after: typing.Optional[int] = None
+        looks = 0
+        while True:
+            is_last = self.is_abandoned()
+            try:
+                reply = self.poll(correlation if after is None else after)
+            except Lapped:
+                is_lapped, after, looks, pause = True, None, 0, 0.0
+                continue
+            if reply is not None:
+                if after is None:
+                    return reply
+                raise Unanswered(Outcome.TAKEN, correlation)
+            if is_last:
+                raise Disconnected("the conductor is gone")
+            if end is not None and time.monotonic() >= end:
+                raise Unanswered(Outcome.UNKNOWN if is_lapped else Outcome.PENDING, correlation)
+            looks += 1
+            if is_lapped and after is None and looks > LOOKS:
+                with contextlib.suppress(Full, Contended):
+                    after = self.release(NO_COUNTER)
+            time.sleep(pause if end is None else max(0.0, min(pause, end - time.monotonic())))
+            pause = min(pause * 2 or 1e-6, 1e-3)
+
     def heartbeat(self) -> int:
-        """Loads the heartbeat that the conductor stored last, 0 before the first."""
+        """Loads the heartbeat that the conductor stored last. It is 0 before the first one."""
         return self._do("felter_client_heartbeat")

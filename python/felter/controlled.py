@@ -1,9 +1,10 @@
-"""Reads that their caller controls."""
+"""Controlled reads: the caller decides after each message how the read goes on."""
 
 import enum
 import typing
 
-from felter._owner import Owner
+from felter._library import direct
+from felter.claims import Settling
 from felter.errors import Error, Number
 from felter.message import Message
 
@@ -14,19 +15,21 @@ class Action(enum.Enum):
     ABORT = "stops, and the message stays in the ring"
     BREAK = "takes the message, and stops"
     COMMIT = "takes the message, and goes on"
-    # The room of each message that is taken is given back to the producers at once, so this is the same as COMMIT.
+    # The producers get the room of each message as soon as it was taken, so this does the same as COMMIT.
     CONTINUE = "takes the message, and goes on with the next"
 
 
-class Controlled(Owner):
-    """A consumer whose messages are seen before they are taken."""
+class Controlled(Settling):
+    """A consumer that can show a message before the message is taken."""
 
+    @direct
     def peek(self) -> typing.Optional[Message]:
-        """The next message, which stays in the ring, or None if nothing is there yet."""
-        return self._read_by("felter_peek")
+        """Returns the next message, and leaves it in the ring. Returns None if no message is there yet."""
+        found: typing.Optional[Message] = self._read_by("felter_peek")
+        return found
 
     def take(self) -> bool:
-        """Takes the next message, and returns whether there was one."""
+        """Takes the next message from the ring, and returns whether there was one."""
         try:
             self._do("felter_take")
         except Error as refused:
@@ -38,8 +41,9 @@ class Controlled(Owner):
     def controlled_read(
         self, show: typing.Callable[[Message], Action], limit: typing.Optional[int] = None
     ) -> int:
-        """Shows messages, up to `limit` if that is not None, and does with each what `show` returns. Returns how many
-        were taken. If `show` raises, its message stays in the ring."""
+        """Calls `show` with one message after another, with at most `limit` of them unless that is None. The Action
+        that `show` returns says what happens to the message. Returns how many messages were taken. If `show` raises,
+        its message stays in the ring."""
         taken = 0
         while limit is None or taken < limit:
             message = self.peek()

@@ -8,7 +8,7 @@ __all__ = ["Closed", "Contended", "Disconnected", "Error", "Full", "Lapped", "Nu
 
 
 class Error(Exception):
-    """A call was refused: `number` says why, and the text says it in words."""
+    """A call was refused. `number` says why, and the text says it in words."""
 
     number: Number
 
@@ -43,15 +43,15 @@ class Contended(Error):
 
 
 class Closed(Error):
-    """The handle is empty: it was freed, or taken in by another one."""
+    """The handle is empty: it was freed, closed or joined."""
 
     def __init__(self, number: int = Number.NO_HANDLE) -> None:
         super().__init__(number)
 
 
 class Lapped(Error):
-    """The transmitter overtook the receiver: `count` says how often by now, and `missed_bytes` how much of the board it
-    passed over, 0 if that is not known (as of a client)."""
+    """The transmitter overtook the receiver. `count` says how often the receiver was overtaken by now. `missed_bytes`
+    says how many bytes the receiver passed over. It is 0 if that is not known, as for a client."""
 
     count: int
     missed_bytes: int
@@ -66,8 +66,8 @@ class Lapped(Error):
 
 
 class Disconnected(Exception):
-    """The other side is gone: every producer, or the consumer, the transmitter or the conductor was freed, and all that
-    it left was taken. Calls that wait raise it."""
+    """The other side is gone: every producer, or the consumer, the transmitter or the conductor was freed, and nothing
+    is left to read. Calls that wait raise this."""
 
 
 CAUSES: typing.Dict[int, typing.Type[Error]] = {
@@ -78,5 +78,5 @@ CAUSES: typing.Dict[int, typing.Type[Error]] = {
 
 
 def refusal(number: int) -> Error:
-    """The exception of a code."""
+    """The exception for a code."""
     return CAUSES.get(number, Error)(number)

@@ -1,6 +1,13 @@
-"""What rings and boards carry."""
+"""The messages of rings and boards."""
 
 import typing
+
+if typing.TYPE_CHECKING:
+    # (type checkers know this type, even if its package is not installed)
+    from typing_extensions import Buffer as Buffer
+else:
+    # Any object with bytes: bytes, a bytearray, a memoryview, an array.
+    Buffer = typing.Union[bytes, bytearray, memoryview]
 
 
 class Message(typing.NamedTuple):

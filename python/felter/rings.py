@@ -1,22 +1,22 @@
 """Rings: a producer writes, a consumer reads."""
 
-import collections
 import contextlib
 import enum
+import operator
 import struct
 import typing
 
-from felter._library import Handle, call
-from felter._owner import Ends, Owner, Sizes, numbers
-from felter.claims import Claim, Trace
+from felter._library import call, direct
+from felter._owner import Ends, Sizes, numbers
+from felter.claims import Claim, Settling, settle_dropped
 from felter.controlled import Controlled
-from felter.errors import Contended, Error, Full, Number
-from felter.message import Message
-from felter.waiting import wait_for
+from felter.errors import Contended, Disconnected, Error, Full, Number
+from felter.message import Buffer, Message
+from felter.waiting import wait_as_task, wait_for
 
 
 class Positions(typing.NamedTuple):
-    """Where the next read and the next claim of a ring begin, in bytes that only rise."""
+    """The positions at which the next read and the next claim of a ring begin, in bytes. Both only rise."""
 
     head: int
     tail: int
@@ -31,50 +31,70 @@ class Found(enum.IntEnum):
     NONE = 1
     # A claim that is not settled yet: its producer is slow, or lost.
     CLAIM = 2
-    # Something changed meanwhile: ask again.
+    # Something changed during the call: call again.
     CHANGE = 3
 
 
 class Standing(typing.NamedTuple):
-    """What is next in a ring, and the head, in bytes, which is the place of the claim if it is one."""
+    """What is next in a ring, and the head, in bytes. If a claim is next, the head is its place."""
 
     found: Found
     head: int
 
 
 class Consumer(Controlled):
-    """Reads a ring, one message after the other, into a buffer that grows with them."""
+    """Reads a ring, one message after another, into a buffer that grows with the messages."""
 
     def __init__(self, number: int, ends: Ends) -> None:
         super().__init__(number, ends, writes=False)
 
     def sizes(self) -> Sizes:
-        """The capacity, and how many bytes the longest message has."""
+        """The capacity, and the length of the longest message, in bytes."""
         return self._sizes()
 
     def is_abandoned(self) -> bool:
-        """Whether every producer was freed, or taken in by `close`: nothing more will be written. What was written
-        before is still to be read."""
+        """Whether every producer was freed, or given to `close`. Then nothing more will be written, but what was
+        written before can still be read."""
         return self._is_abandoned()
 
+    @direct
     def read(self, timeout: typing.Optional[float] = 0) -> typing.Optional[Message]:
-        """The next message, or None if nothing came within so many seconds (0: it does not wait, None: it waits for
-        ever). Waiting, it raises Disconnected if every producer is gone and all was read."""
-        if timeout == 0:
-            return self._read_by("felter_read")
-        return wait_for(self._read, timeout, self.is_abandoned)
+        """Reads the next message, and takes it from the ring. Returns None if no message came within `timeout` seconds.
+        With the timeout 0 the call does not wait, and with None it waits for ever. A call that waits raises
+        Disconnected if every producer is gone and all messages were read."""
+        return self._read() if timeout == 0 else self._next_within(timeout)
 
+    def _next_within(self, timeout: typing.Optional[float]) -> typing.Optional[Message]:
+        return wait_for(self._read, timeout, self.is_abandoned, self._sleepers)
+
+    async def read_async(self, timeout: typing.Optional[float] = None) -> typing.Optional[Message]:
+        """Does what `read` does with a timeout, in a task of asyncio. Other tasks go on meanwhile."""
+        return await wait_as_task(self._read, timeout, self.is_abandoned, self._sleepers)
+
+    async def __aiter__(self) -> typing.AsyncIterator[Message]:
+        """Waits for each message, until every producer is gone and all messages were read."""
+        with contextlib.suppress(Disconnected):
+            while True:
+                message = await self.read_async()
+                if message is not None:
+                    yield message
+
+    @direct
     def _read(self) -> typing.Optional[Message]:
-        return self._read_by("felter_read")
+        found: typing.Optional[Message] = self._read_by("felter_read")
+        return found
 
     def __iter__(self) -> typing.Iterator[Message]:
-        """The messages that are there, each taken as it is asked for."""
+        """Returns an iterator over the messages that are there, which takes each message."""
         return iter(self._read, None)
 
+    @direct
     def read_batch(self, limit: int, room: int = 65536) -> typing.List[Message]:
-        """A list of up to `limit` messages, by one call; of none it is empty. Fewer can come than are there. A message
-        takes 16 bytes of the room and its own, rounded up to 8, and one that has no room stays."""
-        count, records = self._try("felter_read_batch", limit, room) or (0, b"")
+        """Reads up to `limit` messages by one call, and returns them as a list, which is empty if no message is there.
+        The call can return fewer messages than are in the ring. The call has a buffer of `room` bytes. A message takes
+        16 bytes of the buffer, and the bytes of its body rounded up to a multiple of 8. A message that has no room
+        stays in the ring."""
+        count, records = self._try("felter_read_batch", limit, operator.index(room)) or (0, b"")
         messages, at = [], 0
         for _ in range(count):
             length, type_id = struct.unpack_from("=Qq", records, at)
@@ -83,13 +103,14 @@ class Consumer(Controlled):
         return messages
 
     def standing(self, producer: "Producer") -> Standing:
-        """What is next in the ring, of which it needs a producer. It loads the positions, reads into no room, and loads
-        the positions again: padding and aborted claims before the next message are passed, which is a change."""
+        """Returns what is next in the ring. The call needs a producer of the same ring. It loads the positions, reads
+        into a buffer of no bytes, and loads the positions again. The read passes padding and aborted claims before the
+        next message. If it passed any, the result is CHANGE unless a message is next."""
         if self._number != producer._number:
             raise Error(Number.OTHER_RING)
         first, is_message = producer.positions(), False
         try:
-            # (a message has no room, and stays)
+            # (no message has room in this buffer, so a message stays)
             self._try("felter_read_batch", 1, 0)
         except Error as refused:
             if refused.number != Number.SHORT_BUFFER:
@@ -107,76 +128,56 @@ class Consumer(Controlled):
         self._do("felter_set_heartbeat", value)
 
     def close(self, producer: "Producer") -> None:
-        """Takes the producer of its ring in, whose calls are then refused with NO_HANDLE. Nothing can be written any
-        more; what lies in the ring stays to be read. If a claim of the producer is open it is refused with
-        CLAIMS_OPEN, and if another producer was not joined (or was freed, and then for good) with PRODUCERS_OUT; both
-        go on as before."""
+        """Closes the ring with its last producer. Nothing can be written afterwards, and the producer's calls raise
+        `Closed`. What is in the ring can still be read. The call raises CLAIMS_OPEN if a claim of the producer is open,
+        and PRODUCERS_OUT if another producer was neither joined nor freed. Then consumer and producer are as before."""
         if isinstance(producer, Producer):
-            producer._settle_dropped()
+            settle_dropped(self._ends)
         self._with("felter_close", producer)
 
     def finish(self) -> int:
-        """Ends a ring that was closed, frees the consumer, and returns how many messages were left unread. If the ring
-        was not closed it is refused with PRODUCERS_OUT, and goes on as before."""
+        """Ends a ring that was closed, or whose producers were all freed, and frees the consumer. Returns how many
+        committed messages were left unread. The call raises PRODUCERS_OUT if the ring was not closed and a producer is
+        still there. Then the consumer is as before."""
         return self._do("felter_finish")
 
 
-# (a write is worth the shortest way to the library)
-do = Handle._do
+class Producer(Settling):
+    """Writes into a ring. If a producer is freed, its open claims are aborted, and the ring can end without it."""
 
-
-class Producer(Owner):
-    """Writes into a ring. One that is freed takes its shares with it, and the ring is then never closed: join it, or
-    close the ring with it, if that matters."""
-
-    # The producer that took it in.
+    # The producer to which this one was joined.
     _joined: typing.Optional["Producer"] = None
 
     def __init__(self, number: int, first: typing.Optional["Producer"] = None) -> None:
         super().__init__(number, first._ends if first else None)
-        # Of all producers of a ring: the claims that were not dropped yet, and those that were.
-        self._traces: typing.Dict[int, Trace] = first._traces if first else {}
-        self._dropped: typing.Deque[Trace] = first._dropped if first else collections.deque()
-
-    def _settle_dropped(self) -> None:
-        """Aborts the claims that were dropped during another call, or by an interrupt."""
-        for trace in list(self._dropped):
-            trace.abort()
-            if trace.is_over():
-                self._traces.pop(id(trace), None)
-                with contextlib.suppress(ValueError):
-                    self._dropped.remove(trace)
-
-    def _do(self, name: str, *given: typing.Any) -> typing.Any:
-        if self._dropped:
-            self._settle_dropped()
-        return do(self, name, *given)
 
     def sizes(self) -> Sizes:
-        """The capacity, and how many bytes the longest message has."""
+        """The capacity, and the length of the longest message, in bytes."""
         return self._sizes()
 
     def is_abandoned(self) -> bool:
-        """Whether the consumer was freed: nothing that is written will be read."""
+        """Whether the consumer was freed. Then nothing that is written will be read."""
         return self._is_abandoned()
 
-    def write(self, type_id: int, body: typing.Any, timeout: typing.Optional[float] = 0) -> None:
+    @direct
+    def write(self, type_id: int, body: Buffer, timeout: typing.Optional[float] = 0) -> None:
         """Writes a message. The body is any object with bytes: bytes, a bytearray, an array. While the ring is full, or
-        another producer is faster, it tries for so many seconds (0: once, None: for ever), and then raises that. It
-        raises Disconnected if it would wait, and the consumer is gone."""
-        if self._dropped:
-            self._settle_dropped()
+        another producer is faster, the call tries again for `timeout` seconds, and then raises Full or Contended. With
+        the timeout 0 the call tries once, and with None it tries for ever. It raises Disconnected if it would have to
+        wait and the consumer is gone."""
         if timeout == 0:
-            do(self, "felter_write", type_id, body)
+            self._do("felter_write", type_id, body)
+            self._wake()
         else:
             self._write_within(timeout, type_id, body)
 
-    def _write_within(self, timeout: typing.Optional[float], type_id: int, body: typing.Any) -> None:
+    def _write_within(self, timeout: typing.Optional[float], type_id: int, body: Buffer) -> None:
         refused: typing.List[Error] = []
 
         def attempt() -> typing.Optional[bool]:
             try:
                 self._do("felter_write", type_id, body)
+                self._wake()
                 return True
             except (Full, Contended) as why:
                 refused[:] = [why]
@@ -185,9 +186,9 @@ class Producer(Owner):
         if not wait_for(attempt, timeout, self.is_abandoned):
             raise refused[0]
 
-    def write_all(self, messages: typing.Iterable[typing.Tuple[int, typing.Any]]) -> int:
-        """Writes messages, each a type id and a body, one after another, and returns how many were written: it stops
-        if the ring is full or another producer is faster. Another refusal is raised."""
+    def write_all(self, messages: typing.Iterable[typing.Tuple[int, Buffer]]) -> int:
+        """Writes messages one after another, and returns how many were written. Each message is a type id and a body.
+        The call stops if the ring is full or another producer is faster. Other refusals are raised."""
         written = 0
         with contextlib.suppress(Full, Contended):
             for type_id, body in messages:
@@ -195,8 +196,12 @@ class Producer(Owner):
                 written += 1
         return written
 
+    # (the name in C, C++ and Rust)
+    write_batch = write_all
+
+    @direct
     def claim(self, type_id: int, length: int) -> Claim:
-        """Claims room for a message, whose bytes are 0 until they are put. Any number may be open at once."""
+        """Claims room for a message, whose bytes are 0 until they are put. Any number of claims may be open at once."""
         claim = Claim(self)
         self._do("felter_claim", type_id, length, claim._trace.number)
         return claim
@@ -208,12 +213,12 @@ class Producer(Owner):
         return other
 
     def join(self, other: "Producer") -> None:
-        """Takes another producer of the same ring in, with its shares and its open claims."""
+        """Joins another producer of the same ring to this one, with its shares and its open claims."""
         was_there = not other._is_empty()
         try:
             self._with("felter_join", other)
         finally:
-            # (its claims are this one's from now on, also if an interrupt came after the call)
+            # (from now on its claims belong to this producer, also if an interrupt came after the call)
             if was_there and other._is_empty():
                 other._joined = self
 
@@ -221,16 +226,30 @@ class Producer(Owner):
         """Loads the head, and then the tail."""
         return Positions(*self._do("felter_positions"))
 
+    def used(self) -> int:
+        """How many bytes of the ring are claimed and not yet read. The call loads the positions once."""
+        head, tail = self.positions()
+        # (the head is loaded first, so the tail may be more than a capacity above it by then)
+        return min(tail - head, self.sizes().capacity)
+
+    def available(self) -> int:
+        """How many bytes are free. A message also takes some of these bytes for its header, and for padding."""
+        return self.sizes().capacity - self.used()
+
+    def is_empty(self) -> bool:
+        """Whether everything that was claimed was read."""
+        return self.used() == 0
+
     def next_id(self) -> int:
         """Draws the ring's next correlation id."""
         return self._do("felter_next_id")
 
     def heartbeat(self) -> int:
-        """Loads the heartbeat that the consumer stored last, 0 before the first."""
+        """Loads the heartbeat that the consumer stored last. It is 0 before the first one."""
         return self._do("felter_heartbeat")
 
     def shares(self) -> int:
-        """How many of the ring's 65,536 shares it holds."""
+        """How many of the ring's 65,536 shares this producer holds."""
         return self._do("felter_shares")
 
 
@@ -243,10 +262,11 @@ def _ring(name: str, capacity: int, start: int) -> typing.Tuple[Producer, Consum
 
 
 def many_to_one(capacity: int, start: int = 0) -> typing.Tuple[Producer, Consumer]:
-    """Makes a ring of any number of producers: the first of them, which holds all shares, and the consumer."""
+    """Makes a ring for any number of producers. Returns its first producer, which holds all shares, and its
+    consumer."""
     return _ring("felter_many_to_one_new_at_numbered", capacity, start)
 
 
 def one_to_one(capacity: int, start: int = 0) -> typing.Tuple[Producer, Consumer]:
-    """Makes a ring of one producer, which cannot be split."""
+    """Makes a ring for one producer, which cannot be split. Returns the producer and the consumer."""
     return _ring("felter_one_to_one_new_at_numbered", capacity, start)

@@ -1,8 +1,13 @@
-"""Waiting, by trying again with pauses, and doorbells for event loops. The library itself never waits."""
+"""Waiting, and doorbells for event loops. The library itself never waits."""
 
+import contextlib
+import functools
+import io
 import os
 import select
+import threading
 import time
+import types
 import typing
 
 from felter.errors import Disconnected
@@ -10,19 +15,66 @@ from felter.errors import Disconnected
 T = typing.TypeVar("T")
 
 
+def refuse_none_number(timeout: typing.Optional[float]) -> None:
+    """Refuses a timeout that is not a number (NaN), since it would never end."""
+    if timeout is not None and timeout != timeout:
+        raise ValueError("the timeout is not a number (NaN)")
+
+
+# The locks on which readers of a ring or a board sleep. After each write the writer releases the locks in the list, if
+# there are any.
+Sleepers = typing.List[typing.Any]
+
+# The longest pause between two looks, and the longest sleep of a reader, in seconds. (The sleep is bounded, since
+# nothing wakes a reader if the other side is dropped.)
+LONGEST_PAUSE = 1e-3
+LONGEST_SLEEP = 0.05
+# A reader pauses until its pauses are longer than this, and then sleeps.
+LAST_PAUSE = 6e-5
+
+
+def wake(sleepers: Sleepers) -> None:
+    """Wakes the readers that sleep."""
+    while sleepers:
+        with contextlib.suppress(IndexError, RuntimeError):
+            sleepers.pop().release()
+
+
+def sleep(
+    sleepers: Sleepers, attempt: typing.Callable[[], typing.Optional[T]], left: typing.Optional[float]
+) -> typing.Optional[T]:
+    """Makes an attempt, and sleeps if that returns None, until a writer wakes the thread, or for `left` seconds at
+    most."""
+    lock = threading.Lock()
+    lock.acquire()
+    sleepers.append(lock)
+    try:
+        found = attempt()
+        if found is None:
+            lock.acquire(True, LONGEST_SLEEP if left is None else min(left, LONGEST_SLEEP))
+        return found
+    finally:
+        with contextlib.suppress(ValueError):
+            sleepers.remove(lock)
+
+
 def wait_for(
     attempt: typing.Callable[[], typing.Optional[T]],
     timeout: typing.Optional[float],
     is_abandoned: typing.Callable[[], bool],
+    sleepers: typing.Optional[Sleepers] = None,
 ) -> typing.Optional[T]:
-    """What an attempt returns that is not None, tried for so many seconds (None: for ever, 0: once). After the timeout
-    it is None. Raises Disconnected if the other side is gone, and an attempt after that had nothing."""
+    """Makes an attempt again and again until it returns something that is not None, for `timeout` seconds. With the
+    timeout 0 there is one attempt, and with None there is no end. Returns None after the timeout. With a list of
+    sleepers the thread sleeps between attempts until a writer wakes it, and otherwise it pauses. Raises Disconnected if
+    the other side is gone, and an attempt after that returned None."""
+    refuse_none_number(timeout)
     if timeout == 0:
         return attempt()
     end = None if timeout is None else time.monotonic() + timeout
     pause = 0.0
     while True:
-        # (looked at first: what was written before the other side went is then still taken)
+        # (this comes first: so the last attempt finds what was written before the other side was gone)
         is_last = is_abandoned()
         found = attempt()
         if found is not None:
@@ -32,63 +84,125 @@ def wait_for(
         left = None if end is None else end - time.monotonic()
         if left is not None and left <= 0:
             return None
-        time.sleep(pause if left is None else min(pause, left))
-        pause = min(pause * 2 or 1e-6, 1e-3)
+        if sleepers is not None and pause > LAST_PAUSE:
+            found = sleep(sleepers, attempt, left)
+            if found is not None:
+                return found
+        else:
+            time.sleep(pause if left is None else min(pause, left))
+            pause = min(pause * 2 or 1e-6, LONGEST_PAUSE)
+
+
+async def wait_as_task(
+    attempt: typing.Callable[[], typing.Optional[T]],
+    timeout: typing.Optional[float],
+    is_abandoned: typing.Callable[[], bool],
+    sleepers: Sleepers,
+) -> typing.Optional[T]:
+    """Does what `wait_for` does, in a task of asyncio. The loop goes on meanwhile, and a write wakes the task by a
+    doorbell."""
+    import asyncio
+
+    refuse_none_number(timeout)
+    found, end = attempt(), None if timeout is None else time.monotonic() + timeout
+    if found is not None or timeout == 0:
+        return found
+    loop, rung = asyncio.get_running_loop(), asyncio.Event()
+    with Doorbell() as bell:
+        loop.add_reader(bell.fileno(), rung.set)
+        try:
+            while True:
+                is_last = is_abandoned()
+                with Listed(sleepers, bell):
+                    found = attempt()
+                    if found is not None:
+                        return found
+                    if is_last:
+                        raise Disconnected("the other side is gone")
+                    left = LONGEST_SLEEP if end is None else end - time.monotonic()
+                    if left <= 0:
+                        return None
+                    with contextlib.suppress(asyncio.TimeoutError):
+                        await asyncio.wait_for(rung.wait(), min(left, LONGEST_SLEEP))
+                rung.clear()
+        finally:
+            loop.remove_reader(bell.fileno())
+
+
+class Listed:
+    """Puts a doorbell into a list of sleepers, so that the next wake rings it. The wake runs no code of Python, since
+    destructors of claims and handles wake sleepers too."""
+
+    def __init__(self, sleepers: Sleepers, bell: "Doorbell") -> None:
+        self._sleepers, self._bell = sleepers, bell
+        self._waker = types.SimpleNamespace(release=functools.partial(bell._writes.write, ONE))
+
+    def __enter__(self) -> None:
+        self._sleepers.append(self._waker)
+
+    def __exit__(self, *_: object) -> None:
+        try:
+            self._sleepers.remove(self._waker)
+        except ValueError:
+            # (another thread has taken the waker out, and rings soon: until then the descriptor must stay open)
+            self._bell.wait(1)
+            self._bell.clear()
+
+
+# What `Doorbell.ring` writes.
+ONE = (1).to_bytes(8, "little")
 
 
 class Doorbell:
-    """A number in the kernel (an eventfd) for event loops: `fileno` is readable while it was rung and not yet cleared.
+    """An eventfd of Linux, for event loops. `fileno` is readable after the doorbell was rung, until it is cleared.
 
-    Whoever wrote into a ring rings it; a ring does not. Whoever waits clears it and then reads until nothing is there.
+    Writers ring the doorbell after they have written: a ring does not do that itself. The reader clears the doorbell
+    first, and then reads until no message is there.
 
         loop.add_reader(bell.fileno(), on_ring)     # asyncio
+
+    Close a doorbell, or use it as a context manager. A doorbell that is dropped is closed too, with a ResourceWarning.
     """
 
     def __init__(self) -> None:
-        # (before Python 3.10 a pipe does the same)
+        # (the files close themselves when they are dropped: in a destructor in Python an interrupt would be swallowed)
         if hasattr(os, "eventfd"):
-            self._reads = self._writes = os.eventfd(0, os.EFD_CLOEXEC | os.EFD_NONBLOCK)
+            self._reads = self._writes = io.FileIO(os.eventfd(0, os.EFD_CLOEXEC | os.EFD_NONBLOCK), "r+")
         else:
-            self._reads, self._writes = os.pipe()
-            os.set_blocking(self._reads, False)
-            os.set_blocking(self._writes, False)
+            # (before Python 3.10 a pipe does the same)
+            reads, writes = os.pipe()
+            self._reads, self._writes = io.FileIO(reads, "r"), io.FileIO(writes, "w")
+            os.set_blocking(reads, False)
+            os.set_blocking(writes, False)
 
     def fileno(self) -> int:
-        """The descriptor to wait for."""
-        return self._reads
+        """The descriptor for event loops."""
+        return -1 if self._reads.closed else self._reads.fileno()
 
     def ring(self) -> None:
-        """Rings it. Any thread may."""
-        try:
-            os.write(self._writes, (1).to_bytes(8, "little"))
-        except BlockingIOError:
-            pass
+        """Rings the doorbell. Any thread may call this."""
+        # (None means that the count or the pipe is full: the doorbell is rung already)
+        self._writes.write(ONE)
 
     def clear(self) -> bool:
-        """Takes back that it was rung, and returns whether it was."""
-        try:
-            return bool(os.read(self._reads, 8 if self._reads == self._writes else 65536))
-        except BlockingIOError:
-            return False
+        """Clears the doorbell, and returns whether it was rung."""
+        return bool(self._reads.read(8 if self._reads is self._writes else 65536))
 
     def wait(self, timeout: typing.Optional[float] = None) -> bool:
-        """Waits until it is rung, for at most so many seconds (None: for ever), and returns whether it was rung."""
+        """Waits until the doorbell is rung, for at most `timeout` seconds, or for ever if that is None. Returns whether
+        it was rung."""
+        refuse_none_number(timeout)
         poll = select.poll()
         poll.register(self._reads, select.POLLIN)
         return bool(poll.poll(None if timeout is None else max(0, timeout * 1000)))
 
     def close(self) -> None:
-        """Closes it. It may be called again."""
-        for it in {self._reads, self._writes} - {-1}:
-            os.close(it)
-        self._reads = self._writes = -1
+        """Closes the doorbell. This may be called again."""
+        self._reads.close()
+        self._writes.close()
 
     def __enter__(self) -> "Doorbell":
         return self
 
     def __exit__(self, *_: object) -> None:
         self.close()
-
-    def __del__(self) -> None:
-        if getattr(self, "_writes", -1) != -1:
-            self.close()

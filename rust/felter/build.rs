@@ -1,6 +1,7 @@
-//! Links libfelter.a: from the folder that FELTER_DIR names (a relative one counts from where cargo was started), or
-//! else from `native` in this crate, from where pkg-config has felter, or from the repository's `c/out`, where `c/build`
-//! puts it. Where there is none, DOCS_RS lets the documentation be built all the same.
+//! Links libfelter.a. Its folder is the one that FELTER_DIR names; a relative path counts from where cargo was started.
+//! Otherwise it is the first of these that has the archive: `native` in this crate, the folder that pkg-config names for
+//! felter, and the repository's `c/out`, in which `c/build` puts it. If no folder has the archive, the documentation can
+//! still be built with DOCS_RS.
 use std::env;
 use std::path::{Path, PathBuf};
 use std::process::Command;
@@ -18,7 +19,7 @@ fn named() -> Option<PathBuf> {
 fn packaged() -> Option<PathBuf> {
     let said = Command::new("pkg-config").args(["--variable=libdir", "felter"]).output().ok()?;
     let folder = String::from_utf8(said.stdout).ok()?;
-    // (it puts a backslash before each space)
+    // (pkg-config puts a backslash before each space)
     said.status.success().then(|| PathBuf::from(folder.trim().replace("\\ ", " ")))
 }
 

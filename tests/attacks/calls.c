@@ -142,6 +142,18 @@ int32_t after_call(int32_t code, int32_t wanted, const char *call, const char *f
     return code;
 }
 
+/* (the header's count begins at 1) */
+uint64_t some_number(void) {
+    static uint64_t drawn = (uint64_t)1 << 40;
+    return drawn++;
+}
+
+void look_at_sizes(felter_handle *handle, uint32_t capacity) {
+    uint32_t found = UNTOUCHED, longest = UNTOUCHED;
+    if (CALL(FELTER_OK, felter_capacity(handle, &found, &longest)) == FELTER_OK)
+        CHECK(found == capacity && longest == capacity / 8);
+}
+
 /* One sequence: steps of all parts, then all handles are freed and no memory is left. */
 static void run_sequence(int steps) {
     for (int k = 0; k < steps && (!chosen || chosen_left); k++) {

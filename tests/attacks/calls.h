@@ -20,7 +20,7 @@ static inline uint64_t some_start(uint64_t capacity) {
     return ONE_OF(0, capacity, 77 * capacity, LAST - capacity, LAST, LAST + capacity, 8);
 }
 
-/* Bytes to be read by a call, and a buffer to be written; each ends where a page begins that nobody may touch. */
+/* Bytes to be read by a call, and a buffer to be written; each ends at the beginning of a page that no call may touch. */
 uint8_t *input(size_t len);
 uint8_t *output(size_t room);
 
@@ -39,6 +39,17 @@ int32_t after_call(int32_t code, int32_t wanted, const char *call, const char *f
 
 /* What a number has before a call that must not write it. */
 #define UNTOUCHED 0x5a5a5a5a
+
+/* A number for what is made next, apart from those that the header draws. */
+uint64_t some_number(void);
+/* Asks a handle for its sizes. */
+void look_at_sizes(felter_handle *handle, uint32_t capacity);
+
+/* Each asks a conductor about its counters, and compares the result with the model. `drawn` is how many correlation ids
+ * were drawn. */
+void look_at_conducted(felter_conductor *conductor, const struct model_counters *counters);
+void look_at_conducted_texts(felter_conductor *conductor, const struct model_counters *counters);
+void find_conducted(felter_conductor *conductor, const struct model_counters *counters, uint64_t drawn);
 
 /* A step of each part, and its end, in which all handles are freed. */
 void ring_step(void);

@@ -33,8 +33,11 @@ static void make(struct board *board) {
     uint32_t capacity = (uint32_t)ONE_OF(256, 256, 512, 1024, 8192, 16384, 0, 128, 300);
     uint64_t start = is_at ? some_start(capacity) : 0;
     int32_t wanted = model_capacity(capacity, 256, start);
-    int32_t code = is_at ? CALL(wanted, felter_board_new_at(capacity, start, &board->transmitter))
-                         : CALL(wanted, felter_board_new(capacity, &board->transmitter));
+    felter_transmitter *to = &board->transmitter;
+    int32_t code = once_in(3) ? is_at ? CALL(wanted, felter_board_new_at_numbered(some_number(), capacity, start, to))
+                                      : CALL(wanted, felter_board_new_numbered(some_number(), capacity, to))
+        : is_at               ? CALL(wanted, felter_board_new_at(capacity, start, to))
+                              : CALL(wanted, felter_board_new(capacity, to));
     CHECK((code == FELTER_OK) == (board->transmitter.handle.at != NULL));
     if (code) return;
     board->is_there = board->has_transmitter = true;
@@ -67,7 +70,7 @@ static void subscribe(struct board *board) {
     seat->is_there = true;
     seat->is_raw = is_raw;
     seat->has_record = false;
-    seat->model = (struct model_receiver){board->model.latest, 0};
+    seat->model = (struct model_receiver){board->model.latest, 0, 0, 0};
     board->shares--;
 }
 
@@ -122,6 +125,20 @@ static void look_at_laps(struct seat *seat) {
     if (code == FELTER_OK) CHECK(count == seat->model.lapped);
 }
 
+/* Where a receiver is, and how it was lapped last. */
+static void look_at_place(struct board *board, struct seat *seat) {
+    uint64_t place = UNTOUCHED, from = UNTOUCHED, intent = UNTOUCHED;
+    int32_t code = seat->is_raw ? CALL(FELTER_OK, felter_raw_receiver_place(&seat->raw, &place))
+                                : CALL(FELTER_OK, felter_receiver_place(&seat->receiver, &place));
+    if (code == FELTER_OK) CHECK(place == seat->model.place);
+    int32_t wanted = seat->model.lapped ? FELTER_OK : FELTER_NO_MESSAGE;
+    code = seat->is_raw ? CALL(wanted, felter_raw_receiver_lap(&seat->raw, &from, &intent))
+                        : CALL(wanted, felter_receiver_lap(&seat->receiver, &from, &intent));
+    if (code) CHECK(from == UNTOUCHED && intent == UNTOUCHED);
+    else CHECK(from == seat->model.lap_place && intent == seat->model.lap_intent);
+    look_at_sizes(seat->is_raw ? &seat->raw.handle : &seat->receiver.handle, board->model.records.capacity);
+}
+
 static void join(struct board *board, struct seat *seat) {
     struct board *of = once_in(4) ? &boards[pick(BOARDS)] : board;
     if (!of->has_transmitter) return;
@@ -144,7 +161,9 @@ static void free_seat(struct board *board, struct seat *seat) {
 
 static void close_board(struct board *board) {
     uint64_t tail = UNTOUCHED;
-    int32_t wanted = board->shares == ALL_SHARES ? FELTER_OK : FELTER_RECEIVERS_OUT;
+    int32_t wanted = FELTER_OK;
+    for (int k = 0; k < RECEIVERS; k++)
+        if (board->seats[k].is_there) wanted = FELTER_RECEIVERS_OUT;
     if (CALL(wanted, felter_board_close(&board->transmitter, &tail))) return;
     CHECK(board->transmitter.handle.at == NULL && tail == board->model.records.tail);
     board->has_transmitter = false;
@@ -169,6 +188,7 @@ void board_step(void) {
         case 0: case 1: case 2: case 3: case 4: transmit(board); break;
         case 5: case 6: subscribe(board); break;
         case 7: if (once_in(8)) close_board(board); break;
+        case 9: look_at_sizes(&board->transmitter.handle, board->model.records.capacity); break;
         case 8: if (once_in(40)) free_transmitter(board); break;
         default: break;
         }
@@ -179,6 +199,7 @@ void board_step(void) {
             break;
         case 6: case 7: if (seat->is_raw) look_at_record(board, seat); break;
         case 8: look_at_laps(seat); break;
+        case 11: look_at_place(board, seat); break;
         case 9: if (once_in(3)) join(board, seat); break;
         case 10: if (once_in(20)) free_seat(board, seat); break;
         default: break;

@@ -7,7 +7,6 @@
 
 enum command { ALLOCATE = 1, FREE = 2, SET = 3, ALLOCATE_OWNED = 4, CLOSE = 5 };
 
-
 /* What a seat is: a receiver gets all replies and sends nothing, a reader loads values. */
 enum kind { CLIENT, RECEIVER, READER };
 
@@ -45,7 +44,10 @@ static void make(void) {
     int32_t wanted = model_capacity(capacity, 128, 0);
     if (!wanted) wanted = model_capacity(replies, 256, 0);
     if (!wanted && count == 0) wanted = FELTER_BAD_COUNT;
-    if (CALL(wanted, felter_conductor_new(capacity, replies, count, reuse_ms, &its.conductor))) return;
+    if (once_in(3) ? CALL(wanted, felter_conductor_new_numbered(some_number(), capacity, replies, count, reuse_ms,
+                                                                &its.conductor))
+                   : CALL(wanted, felter_conductor_new(capacity, replies, count, reuse_ms, &its.conductor)))
+        return;
     its.is_there = its.has_conductor = true;
     its.received = 0;
     its.ring_shares = its.board_shares = 0;
@@ -63,7 +65,7 @@ static void add_client(struct client *client) {
         return;
     client->is_there = true;
     client->kind = kind;
-    client->model = (struct model_receiver){its.board.latest, 0};
+    client->model = (struct model_receiver){its.board.latest, 0, 0, 0};
     client->sent = UINT64_MAX;
     its.ring_shares += kind == CLIENT;
     its.board_shares += kind != READER;
@@ -274,9 +276,9 @@ static void join(struct client *client) {
     its.board_shares -= kind != READER;
 }
 
-static bool has_reader(void) {
+static bool has_handles(void) {
     for (int k = 0; k < CLIENTS; k++)
-        if (its.clients[k].is_there && its.clients[k].kind == READER) return true;
+        if (its.clients[k].is_there) return true;
     return false;
 }
 
@@ -292,10 +294,11 @@ static void free_client(struct client *client) {
 
 static void finish(void) {
     uint64_t received = UNTOUCHED, left = UNTOUCHED;
-    int32_t wanted = its.ring_shares ? FELTER_PRODUCERS_OUT
-        : its.board_shares           ? FELTER_RECEIVERS_OUT
-        : has_reader()               ? FELTER_IN_USE
-                                     : FELTER_OK;
+    /* Only what is in a handle is missed. */
+    int32_t wanted = !has_handles() ? FELTER_OK
+        : its.ring_shares           ? FELTER_PRODUCERS_OUT
+        : its.board_shares          ? FELTER_RECEIVERS_OUT
+                                    : FELTER_IN_USE;
     if (CALL(wanted, felter_conductor_finish(&its.conductor, &received, &left))) {
         CHECK(received == UNTOUCHED && left == UNTOUCHED);
         return;
@@ -323,6 +326,9 @@ void conductor_step(void) {
         case 6: if (client->is_there && once_in(6)) join(client); break;
         case 7: if (once_in(8)) finish(); break;
         case 8: if (once_in(60)) free_conductor(); break;
+        case 9: look_at_conducted(&its.conductor, &its.counters); break;
+        case 10: look_at_conducted_texts(&its.conductor, &its.counters); break;
+        case 11: find_conducted(&its.conductor, &its.counters, its.ring.drawn); break;
         default: break;
         }
     if (!client->is_there) return;

@@ -23,7 +23,9 @@ static void make(struct counters *set) {
     uint32_t count = (uint32_t)ONE_OF(1, 2, 5, MAX_COUNTERS, MAX_COUNTERS, 0, 4097);
     uint32_t reuse_ms = (uint32_t)ONE_OF(0, 1, 50, UINT32_MAX);
     int32_t wanted = count < 1 || count > 4096 ? FELTER_BAD_COUNT : FELTER_OK;
-    int32_t code = CALL(wanted, felter_counters_new(count, reuse_ms, &set->counters));
+    int32_t code = once_in(3)
+        ? CALL(wanted, felter_counters_new_numbered(some_number(), count, reuse_ms, &set->counters))
+        : CALL(wanted, felter_counters_new(count, reuse_ms, &set->counters));
     CHECK((code == FELTER_OK) == (set->counters.handle.at != NULL));
     if (code) return;
     set->is_there = set->has_owner = true;
@@ -84,6 +86,29 @@ static void change(struct counters *set) {
     } else {
         CHECK(before == UNTOUCHED);
     }
+}
+
+static void raise_value(struct counters *set) {
+    uint32_t id = some_id(set), raised = UNTOUCHED;
+    int64_t value = (int64_t)ONE_OF(0, 1, pick(1000), UINT64_MAX, INT64_MAX, (uint64_t)INT64_MIN);
+    int32_t code = CALL(model_used(&set->model, id), felter_counter_propose_max(&set->counters, id, value, &raised));
+    if (code) {
+        CHECK(raised == UNTOUCHED);
+        return;
+    }
+    CHECK(raised == (set->model.of[id].value < value));
+    if (raised) set->model.of[id].value = value;
+}
+
+/* Of each record, also of one that is not in use. */
+static void look_at_state(struct counters *set) {
+    uint32_t id = some_id(set);
+    uint64_t deadline = UNTOUCHED;
+    int32_t state = UNTOUCHED, wanted = id < set->model.count ? FELTER_OK : FELTER_BAD_ID;
+    int32_t code = CALL(wanted, felter_counter_state(&set->counters, id, &state));
+    CHECK(state == (code ? UNTOUCHED : model_state(&set->model, id)));
+    code = CALL(wanted, felter_counter_deadline(&set->counters, id, &deadline));
+    CHECK(deadline == (code ? UNTOUCHED : model_deadline(&set->model, id)));
 }
 
 static void look_at_texts(struct counters *set, uint32_t id, int32_t wanted) {
@@ -189,7 +214,8 @@ void counter_step(void) {
         case 0: case 1: case 2: allocate(set); break;
         case 3: case 4: free_one(set); break;
         case 5: case 6: case 7: change(set); break;
-        case 8: look_at(set); break;
+        case 8: look_at(set); look_at_state(set); break;
+        case 13: raise_value(set); break;
         case 9: find(set); break;
         case 10: close_owner(set); break;
         case 11: lend(set); break;

@@ -1,23 +1,13 @@
 /* Random calls of rings of both kinds. */
-#include "calls.h"
+#include "calls_rings.h"
 
 #define RINGS 2
-#define PRODUCERS 4
-
-struct ring {
-    bool is_there, is_one, has_consumer, has_closed;
-    bool has[PRODUCERS];
-    uint32_t shares[PRODUCERS];
-    felter_producer producers[PRODUCERS];
-    felter_consumer consumer;
-    struct model_ring model;
-};
 
 static struct ring rings[RINGS];
 static const felter_producer no_producer = FELTER_EMPTY;
 
 /* Which producers there are; a ring is gone with its last handle. */
-static int some_producer(const struct ring *ring) {
+int ring_some_producer(const struct ring *ring) {
     int all = 0, found[PRODUCERS];
     for (int k = 0; k < PRODUCERS; k++)
         if (ring->has[k]) found[all++] = k;
@@ -30,10 +20,36 @@ static int no_producer_at(const struct ring *ring) {
     return -1;
 }
 
+/* Whether another producer is in a handle: only then a close misses shares. */
+static bool has_another(const struct ring *ring, int at) {
+    for (int k = 0; k < PRODUCERS; k++)
+        if (k != at && ring->has[k]) return true;
+    return false;
+}
+
 static void look_whether_gone(struct ring *ring) {
     bool is_there = ring->has_consumer;
     for (int k = 0; k < PRODUCERS; k++) is_there |= ring->has[k];
     ring->is_there = is_there;
+}
+
+/* Makes a ring by one of the eight calls that do. */
+static int32_t make_by(struct ring *ring, int32_t wanted, bool is_one, bool is_at, uint32_t capacity, uint64_t start) {
+    felter_producer *producer = &ring->producers[0];
+    felter_consumer *consumer = &ring->consumer;
+    if (once_in(2)) {
+        uint64_t number = some_number();
+        if (is_one && is_at)
+            return CALL(wanted, felter_one_to_one_new_at_numbered(number, capacity, start, producer, consumer));
+        if (is_one) return CALL(wanted, felter_one_to_one_new_numbered(number, capacity, producer, consumer));
+        if (is_at)
+            return CALL(wanted, felter_many_to_one_new_at_numbered(number, capacity, start, producer, consumer));
+        return CALL(wanted, felter_many_to_one_new_numbered(number, capacity, producer, consumer));
+    }
+    if (is_one && is_at) return CALL(wanted, felter_one_to_one_new_at(capacity, start, producer, consumer));
+    if (is_one) return CALL(wanted, felter_one_to_one_new(capacity, producer, consumer));
+    if (is_at) return CALL(wanted, felter_many_to_one_new_at(capacity, start, producer, consumer));
+    return CALL(wanted, felter_many_to_one_new(capacity, producer, consumer));
 }
 
 static void make(struct ring *ring) {
@@ -42,10 +58,7 @@ static void make(struct ring *ring) {
     uint64_t start = is_at ? some_start(capacity) : 0;
     int32_t wanted = model_capacity(capacity, 128, start);
     felter_producer *producer = &ring->producers[0];
-    int32_t code = is_one ? is_at ? CALL(wanted, felter_one_to_one_new_at(capacity, start, producer, &ring->consumer))
-                                  : CALL(wanted, felter_one_to_one_new(capacity, producer, &ring->consumer))
-        : is_at           ? CALL(wanted, felter_many_to_one_new_at(capacity, start, producer, &ring->consumer))
-                          : CALL(wanted, felter_many_to_one_new(capacity, producer, &ring->consumer));
+    int32_t code = make_by(ring, wanted, is_one, is_at, capacity, start);
     CHECK((code == FELTER_OK) == (producer->handle.at != NULL));
     CHECK((code == FELTER_OK) == (ring->consumer.handle.at != NULL));
     if (code) return;
@@ -147,7 +160,7 @@ static void split(struct ring *ring, int at) {
 
 static void join(struct ring *ring, int at) {
     struct ring *of = once_in(4) ? &rings[pick(RINGS)] : ring;
-    int other = some_producer(of);
+    int other = ring_some_producer(of);
     if (other < 0 || (of == ring && other == at)) return;
     int32_t wanted = ring->is_one || of->is_one ? FELTER_WRONG_HANDLE : of == ring ? FELTER_OK : FELTER_OTHER_RING;
     if (CALL(wanted, felter_join(&ring->producers[at], &of->producers[other]))) return;
@@ -158,16 +171,6 @@ static void join(struct ring *ring, int at) {
         struct record *record = model_at(&ring->model.records, k);
         if (record->owner == other) record->owner = at;
     }
-}
-
-/* The head may have passed what no message is of; the model follows it. */
-static void look_at_positions(struct ring *ring) {
-    int at = some_producer(ring);
-    uint64_t head = UNTOUCHED, tail = UNTOUCHED;
-    if (at < 0) return;
-    if (CALL(FELTER_OK, felter_positions(&ring->producers[at], &head, &tail))) return;
-    CHECK(tail == ring->model.records.tail);
-    CHECK(model_pass(&ring->model, head));
 }
 
 static void look_at_words(struct ring *ring, int at) {
@@ -181,58 +184,6 @@ static void look_at_words(struct ring *ring, int at) {
     if (CALL(FELTER_OK, felter_heartbeat(&ring->producers[at], &heartbeat)) == FELTER_OK)
         CHECK(heartbeat == ring->model.heartbeat);
     if (CALL(FELTER_OK, felter_shares(&ring->producers[at], &shares)) == FELTER_OK) CHECK(shares == ring->shares[at]);
-}
-
-/* Passes a message that was read. */
-static void take(struct ring *ring, const struct record *record) {
-    uint64_t place = record->place, end = place + record->span;
-    CHECK(model_pass(&ring->model, place));
-    model_at(&ring->model.records, 0)->state = ABORTED;
-    CHECK(model_pass(&ring->model, end));
-}
-
-static void read_one(struct ring *ring) {
-    struct record *next = model_next(&ring->model);
-    size_t most = ring->model.records.capacity / 8, its = next ? next->len : 0;
-    size_t room = (size_t)ONE_OF(most, most, its, its + 1, its ? its - 1 : 0, pick(most + 1)), len = UNTOUCHED;
-    int32_t type_id = UNTOUCHED;
-    uint8_t *buffer = output(room);
-    int32_t wanted = !next ? FELTER_NO_MESSAGE : room < its ? FELTER_SHORT_BUFFER : FELTER_OK;
-    int32_t code = CALL(wanted, felter_read(&ring->consumer, &type_id, &len, buffer, room));
-    if (code == FELTER_SHORT_BUFFER) CHECK(len == its && type_id == next->type_id);
-    if (code == FELTER_NO_MESSAGE) CHECK(len == UNTOUCHED && type_id == UNTOUCHED);
-    if (code == FELTER_OK) {
-        CHECK(type_id == next->type_id && len == its);
-        CHECK(!len || memcmp(buffer, model_body(&ring->model.records, next), len) == 0);
-        for (size_t k = len; k < room; k++) CHECK(buffer[k] == 0xa5);
-        take(ring, next);
-    }
-    look_at_positions(ring);
-}
-
-static void read_batch(struct ring *ring) {
-    struct record *next = model_next(&ring->model);
-    uint32_t limit = (uint32_t)ONE_OF(0, 1, 2, 5, UINT32_MAX), count = UNTOUCHED;
-    size_t most = FELTER_SPAN(ring->model.records.capacity / 8), its = next ? FELTER_SPAN(next->len) : 0;
-    size_t room = (size_t)ONE_OF(most, 4 * most, its, its ? its - 1 : 0, pick(2 * most)), used = UNTOUCHED, at = 0;
-    uint8_t *buffer = output(room);
-    int32_t wanted = !next || !limit ? FELTER_NO_MESSAGE : room < its ? FELTER_SHORT_BUFFER : FELTER_OK;
-    int32_t code = CALL(wanted, felter_read_batch(&ring->consumer, limit, &count, &used, buffer, room));
-    if (code) CHECK(count == UNTOUCHED && used == UNTOUCHED);
-    else CHECK(count >= 1 && count <= limit && used <= room);
-    for (uint32_t k = 0; !code && k < count; k++) {
-        felter_record record;
-        next = model_next(&ring->model);
-        CHECK(next && at + sizeof record <= used);
-        memcpy(&record, buffer + at, sizeof record);
-        CHECK(record.len == next->len && record.type_id == next->type_id && at + FELTER_SPAN(record.len) <= used);
-        const uint8_t *body = model_body(&ring->model.records, next);
-        CHECK(!record.len || memcmp(buffer + at + sizeof record, body, next->len) == 0);
-        at += FELTER_SPAN(record.len);
-        take(ring, next);
-    }
-    if (!code) CHECK(at == used);
-    look_at_positions(ring);
 }
 
 /* Writes a batch, of which the last record may reach beyond its bytes. */
@@ -272,11 +223,11 @@ static bool has_open(struct ring *ring, int at) {
 
 static void close_ring(struct ring *ring) {
     struct ring *of = once_in(4) ? &rings[pick(RINGS)] : ring;
-    int at = some_producer(of);
+    int at = ring_some_producer(of);
     if (at < 0) return;
     int32_t wanted = of != ring || ring->has_closed ? FELTER_OTHER_RING
         : has_open(ring, at)                        ? FELTER_CLAIMS_OPEN
-        : ring->shares[at] != ALL_SHARES            ? FELTER_PRODUCERS_OUT
+        : has_another(ring, at)                     ? FELTER_PRODUCERS_OUT
                                                     : FELTER_OK;
     if (CALL(wanted, felter_close(&ring->consumer, &of->producers[at]))) return;
     CHECK(of->producers[at].handle.at == NULL);
@@ -286,7 +237,7 @@ static void close_ring(struct ring *ring) {
 
 static void finish(struct ring *ring) {
     uint64_t left = UNTOUCHED;
-    int32_t wanted = ring->has_closed ? FELTER_OK : FELTER_PRODUCERS_OUT;
+    int32_t wanted = !ring->has_closed && has_another(ring, -1) ? FELTER_PRODUCERS_OUT : FELTER_OK;
     if (CALL(wanted, felter_finish(&ring->consumer, &left))) return;
     CHECK(ring->consumer.handle.at == NULL && left == model_left(&ring->model));
     ring->has_consumer = false;
@@ -324,12 +275,16 @@ static void misuse(struct ring *ring) {
     CALL(FELTER_NULL_POINTER, felter_write(&none, 1, NULL, 1));
     CALL(FELTER_NULL_POINTER, felter_claim(&none, 1, 0, NULL));
     CALL(FELTER_NO_HANDLE, felter_read(&nobody, &type_id, &len, NULL, 0));
+    CALL(FELTER_NO_HANDLE, felter_peek(&nobody, &type_id, &len, NULL, 0));
+    CALL(FELTER_NO_HANDLE, felter_take(&nobody));
+    CALL(FELTER_NO_HANDLE, felter_write_batch(&none, NULL, 0, &(uint32_t){0}));
+    CHECK(felter_version() == FELTER_VERSION_NUMBER && strlen(felter_text((int32_t)pick(112))) > 0);
     felter_free(&none.handle);
     if (ring->has_consumer) {
         CALL(FELTER_WRONG_HANDLE, felter_write((felter_producer *)&ring->consumer, 1, NULL, 0));
         CALL(FELTER_WRONG_HANDLE, felter_counter_set((felter_counters *)&ring->consumer, 0, 1));
     }
-    int at = some_producer(ring);
+    int at = ring_some_producer(ring);
     felter_consumer *wrong = at < 0 ? NULL : (felter_consumer *)&ring->producers[at];
     if (wrong) CALL(FELTER_WRONG_HANDLE, felter_read(wrong, &type_id, &len, NULL, 0));
     CHECK(number == UNTOUCHED && len == UNTOUCHED && type_id == UNTOUCHED);
@@ -341,7 +296,9 @@ void ring_step(void) {
         make(ring);
         return;
     }
-    int at = some_producer(ring);
+    int at = ring_some_producer(ring);
+    if (at >= 0 && once_in(20)) look_at_sizes(&ring->producers[at].handle, ring->model.records.capacity);
+    if (at >= 0 && ring->has_consumer && once_in(20)) ring_look_ahead(ring, at);
     if (at >= 0) switch (pick(24)) {
         case 0: case 1: case 2: case 3: case 4: case 5: case 6: write_message(ring, at); break;
         case 7: case 8: case 9: claim(ring, at); break;
@@ -350,15 +307,18 @@ void ring_step(void) {
         case 15: split(ring, at); break;
         case 16: join(ring, at); break;
         case 17: look_at_words(ring, at); break;
-        case 18: look_at_positions(ring); break;
+        case 18: ring_look_at_positions(ring); break;
         case 19: misuse(ring); break;
         case 20: if (once_in(4)) free_producer(ring, at); break;
         case 21: write_batch(ring, at); break;
         default: break;
         }
     if (ring->has_consumer) switch (pick(14)) {
-        case 0: case 1: case 2: case 3: read_one(ring); break;
-        case 4: case 5: case 6: read_batch(ring); break;
+        case 0: case 1: case 2: ring_read_one(ring, false); break;
+        case 3: ring_read_one(ring, true); break;
+        case 10: ring_take_one(ring); break;
+        case 11: look_at_sizes(&ring->consumer.handle, ring->model.records.capacity); break;
+        case 4: case 5: case 6: ring_read_batch(ring); break;
         case 7: if (once_in(8)) close_ring(ring); break;
         case 8: if (once_in(4)) finish(ring); break;
         case 9: if (once_in(40)) free_consumer(ring); break;

@@ -128,6 +128,8 @@ int32_t model_receive(struct model_board *board, struct model_receiver *receiver
     if (board->records.tail <= receiver->place) return FELTER_NO_MESSAGE;
     if (!model_is_whole(board, receiver->place)) {
         receiver->lapped++;
+        receiver->lap_place = receiver->place;
+        receiver->lap_intent = board->records.tail;
         receiver->place = board->latest;
         return FELTER_LAPPED;
     }
@@ -190,6 +192,14 @@ void model_free(struct model_counters *counters, uint64_t now, uint32_t id) {
     counters->of[id].is_used = false;
     counters->of[id].due = now + counters->reuse_ms;
     counters->freed[counters->waiting++] = id;
+}
+
+int32_t model_state(const struct model_counters *counters, uint32_t id) {
+    return !counters->of[id].was_used ? 0 : counters->of[id].is_used ? 1 : -1;
+}
+
+uint64_t model_deadline(const struct model_counters *counters, uint32_t id) {
+    return !counters->of[id].was_used ? 0 : counters->of[id].is_used ? INT64_MAX : counters->of[id].due;
 }
 
 uint32_t model_close_owner(struct model_counters *counters, uint64_t now, uint64_t owner) {

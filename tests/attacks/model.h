@@ -46,6 +46,7 @@ struct model_board {
 /* What a receiver has seen. */
 struct model_receiver {
     uint64_t place, lapped;
+    uint64_t lap_place, lap_intent; /* of the last lap */
 };
 
 struct model_counter {
@@ -95,6 +96,9 @@ void model_counters_open(struct model_counters *counters, uint32_t count, uint32
 int32_t model_allocate(struct model_counters *counters, uint64_t now, const struct description *of, uint32_t *id);
 int32_t model_used(const struct model_counters *counters, uint32_t id);
 void model_free(struct model_counters *counters, uint64_t now, uint32_t id);
+/* The state of a record, and the moment from which its id may be allocated again. */
+int32_t model_state(const struct model_counters *counters, uint32_t id);
+uint64_t model_deadline(const struct model_counters *counters, uint32_t id);
 uint32_t model_close_owner(struct model_counters *counters, uint64_t now, uint64_t owner);
 
 #endif

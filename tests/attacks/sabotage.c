@@ -106,3 +106,56 @@ int32_t __wrap_felter_poll(felter_client *client, uint64_t correlation, int32_t 
     return FELTER_OK;
 }
 #endif
+
+#if defined SABOTAGE_TAKING_PEEK
+int32_t __real_felter_peek(felter_consumer *consumer, int32_t *type_id, size_t *len, void *buffer, size_t room);
+
+/* A message that is looked at does not stay. */
+int32_t __wrap_felter_peek(felter_consumer *consumer, int32_t *type_id, size_t *len, void *buffer, size_t room) {
+    int32_t code = __real_felter_peek(consumer, type_id, len, buffer, room);
+    if (code == FELTER_OK && ONCE_IN(50) && felter_take(consumer) != FELTER_OK) return FELTER_NO_MESSAGE;
+    return code;
+}
+#endif
+
+#if defined SABOTAGE_UNTAKEN
+int32_t __real_felter_take(felter_consumer *consumer);
+
+/* A message that is taken stays. */
+int32_t __wrap_felter_take(felter_consumer *consumer) {
+    return ONCE_IN(50) ? FELTER_OK : __real_felter_take(consumer);
+}
+#endif
+
+#if defined SABOTAGE_UNRAISED
+int32_t __real_felter_counter_propose_max(felter_counters *counters, uint32_t id, int64_t value, uint32_t *raised);
+
+/* A value that was raised is said to be as it was. */
+int32_t __wrap_felter_counter_propose_max(felter_counters *counters, uint32_t id, int64_t value, uint32_t *raised) {
+    int32_t code = __real_felter_counter_propose_max(counters, id, value, raised);
+    if (code == FELTER_OK && ONCE_IN(20)) *raised = 0;
+    return code;
+}
+#endif
+
+#if defined SABOTAGE_SHORT_LAP
+int32_t __real_felter_receiver_lap(felter_receiver *receiver, uint64_t *place, uint64_t *intent);
+
+/* A receiver is said to have been further on when it was lapped. */
+int32_t __wrap_felter_receiver_lap(felter_receiver *receiver, uint64_t *place, uint64_t *intent) {
+    int32_t code = __real_felter_receiver_lap(receiver, place, intent);
+    if (code == FELTER_OK && ONCE_IN(5)) *place += 8;
+    return code;
+}
+#endif
+
+#if defined SABOTAGE_EARLY_DEADLINE
+int32_t __real_felter_conductor_deadline(felter_conductor *conductor, uint32_t id, uint64_t *deadline);
+
+/* A freed id is said to rest for a millisecond less. */
+int32_t __wrap_felter_conductor_deadline(felter_conductor *conductor, uint32_t id, uint64_t *deadline) {
+    int32_t code = __real_felter_conductor_deadline(conductor, id, deadline);
+    if (code == FELTER_OK && *deadline > 0 && *deadline < INT64_MAX && ONCE_IN(5)) --*deadline;
+    return code;
+}
+#endif

@@ -18,6 +18,11 @@ SABOTAGES = {
     "UNSAID_LAP": "felter_receive",   # a receiver does not learn that it missed something
     "STALE": "felter_reader_value",   # a reader gets the value that it loaded before
     "OTHER_REPLY": "felter_poll",     # a client takes the reply to another command for its own
+    "TAKING_PEEK": "felter_peek",     # a message that is looked at does not stay
+    "UNTAKEN": "felter_take",         # one that is taken stays
+    "UNRAISED": "felter_counter_propose_max",         # a value that was raised is said to be as it was
+    "SHORT_LAP": "felter_receiver_lap",               # a receiver is said to have been further on when it was lapped
+    "EARLY_DEADLINE": "felter_conductor_deadline",    # a freed id is said to rest for less
 }
 SECONDS = 4
 

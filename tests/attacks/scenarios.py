@@ -1,7 +1,7 @@
 """Random scenarios and options: ring_run against the model."""
-import os
 import random
 import subprocess
+import tempfile
 
 from model import scenario
 
@@ -137,8 +137,9 @@ def compare(path, options, data):
         return
     left, right = (f"{status} {out}{err}".split("\n") for status, out, err in (wanted, found))
     at = next((k for k, (a, b) in enumerate(zip(left, right)) if a != b), min(len(left), len(right)))
-    kept = os.path.join("/tmp", "attack-scenario.ring")
-    with open(kept, "wb") as file:
+    # (of a name that no other user can know before, who could put a link there)
+    descriptor, kept = tempfile.mkstemp(prefix="attack-scenario.", suffix=".ring")
+    with open(descriptor, "wb") as file:
         file.write(data)
     raise Finding(f"{kept} with {flags(options)}: the model has {left[at:at + 2]}, the program {right[at:at + 2]}")
 

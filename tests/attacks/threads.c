@@ -109,7 +109,7 @@ static void *send_all(void *with) {
         if (mix(&sender->dice) % 8) continue;
         felter_producer other = FELTER_EMPTY;
         CHECK(felter_split(&sender->producer, &other) == FELTER_OK);
-        /* (with a claim open it must not wait for room, which may be behind that claim) */
+        /* (with a claim open it must not wait for room, which may be after that claim) */
         if (mix(&sender->dice) % 2) sender->came_to_limit |= !send(sender, &other);
         claim_and_go(sender, &other);
         felter_free(&other.handle);

@@ -1,4 +1,4 @@
-"""Threads of C that free what they hold under load, on 4, 2 and 1 processors."""
+"""Threads of C that free what they hold under load, and lanes of messages of all kinds, on 4, 2 and 1 processors."""
 import os
 import tempfile
 
@@ -12,12 +12,12 @@ def processors_of(counts):
 
 
 def run(seconds, seed):
-    said = []
+    said, sets = [], processors_of((4, 2, 1))
     with tempfile.TemporaryDirectory() as folder:
-        program = compiled(os.path.join(folder, "threads"), ("threads.c",), "-O1")
-        sets = processors_of((4, 2, 1))
-        for processors in sets:
-            done = run_program([program, str(max(0.1, (seconds - 1) / len(sets))), str(seed)],
-                               preexec_fn=lambda mine=processors: os.sched_setaffinity(0, mine))
-            said.append(f"on {len(processors)}: {ended(done, 'threads')}")
+        for name in "threads", "lanes":
+            program = compiled(os.path.join(folder, name), (name + ".c",), "-O1")
+            for processors in sets:
+                done = run_program([program, str(max(0.1, (seconds - 2) / len(sets) / 2)), str(seed)],
+                                   preexec_fn=lambda mine=processors: os.sched_setaffinity(0, mine))
+                said.append(f"on {len(processors)}: {ended(done, name)}")
     return "; ".join(said)

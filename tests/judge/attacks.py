@@ -2,7 +2,6 @@
 import os
 import re
 
-from .edits import read
 from .log import LIMIT
 
 # A message that names what is not there, or says that the text cannot be read: it tells nothing of the record.
@@ -74,11 +73,6 @@ class Attack:
         if not log.is_verdict:
             return "undecided", "the check gives no verdict"
         return "ACCEPTED", f"an instance of {self.record} is proved"
-
-
-def stored_attack(_top, crate, path):
-    """Reads an attack on a definition that the crate has or sees."""
-    return Attack(crate, os.path.basename(path)[: -len(".attack")], read(path))
 
 
 def put_attacks(folder, attacks):

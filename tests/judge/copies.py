@@ -127,6 +127,17 @@ class Trial:
             self.lines[it] = [*kept[: len(it.additions)], spans[self.copies[it]]] if it in self.copies else kept
         put_attacks(folder, [it for it in self.its if isinstance(it, Attack)])
 
+    def modules_alone(self, folder):
+        """Returns the modules that a check of these has to read, if those are copies in a small part of the crate.
+
+        Otherwise it returns none, and has to check the whole crate.
+        """
+        files = {it.file for it in self.copies.values()}
+        sizes = {f"{at}/{it}": os.path.getsize(f"{at}/{it}") for at, _, its in os.walk(f"{folder}/src") for it in its}
+        is_small = 4 * sum(sizes[f"{folder}/{it}"] for it in files) < sum(sizes.values())
+        modules = [module_of(it).replace("/", "::") for it in sorted(files)]
+        return modules if len(self.copies) == len(self.its) and is_small and all(modules) else []
+
     def targets(self, it):
         """Returns the functions whose goals decide on an edit."""
         return [self.copies[it].target] if it in self.copies else it.targets

@@ -72,27 +72,6 @@ class Edit:
         self.is_shared = len(self.additions) + len(self.targets) < len(self.changes)
 
 
-def stored(top, crate, path):
-    """Reads an edit from a file of lines `file: FILE`, `old: TEXT`, `new: TEXT`.
-
-    A line `fn: NAME` or `fn: TYPE::NAME` before an `old:` names the function whose body has the text once.
-    """
-    edit, file, of, old = Edit(crate, os.path.basename(path)[: -len(".edit")]), None, None, None
-    for line in read(path).split("\n"):
-        word, _, rest = line.partition(" ")
-        if word == "file:":
-            file, of = rest.strip(), None
-        elif word == "fn:":
-            of = rest.strip()
-        elif word == "old:":
-            old = rest
-        elif word == "new:" and not edit.verdict:
-            add_pair(edit, f"{top}/crates/{crate}", file, of, old, rest)
-    if not edit.changes and not edit.verdict:
-        edit.settle("bad", "it has no pair of texts")
-    return edit
-
-
 def unchanged(edit):
     """Returns an edit that changes nothing, to be tried on a copy of the function that this edit changes."""
     it = Edit(edit.crate, f"copy of {edit.targets[0].name} in {edit.changes[-1][0]}")

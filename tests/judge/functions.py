@@ -40,6 +40,9 @@ class Function:
         """Returns those of a check's names that may be its own: one, if the check has it and has no other like it."""
         end = f"+{self.cycle}" if self.cycle else "\0"
         found = [it for it in names if self.pattern.search(it) or it.endswith(end)]
+        kind, plus, _ = self.argument.partition("+")
+        # (one of an impl for other arguments is none of them, also if there is no other)
+        found = [it for it in found if not plus or self.argument in it or f"::{kind}+" not in it]
         for word in (self.argument, f"{self.module}::"):
             found = [it for it in found if word in it] if len(found) > 1 else found
         return found

@@ -21,7 +21,7 @@ class Log:
     def __init__(self, crate, text, status):
         self.text, self.status, self.functions = text, status, {}
         self.own, self.gone = collections.defaultdict(list), collections.defaultdict(list)
-        self.is_verdict = status == 3 or bool(re.search(r"^logic=(not-)?proved", text, re.M))
+        self.is_verdict = status == 3 or bool(re.search(r"^(logic=(not-)?proved|only=\d+ proved=)", text, re.M))
         errors = self.read_lines(text)
         names = {it.removeprefix(f"{crate}::").replace("::", "/"): it for it in self.functions}
         marked = {names[path] for path, said in errors if path in names and f"`{MARK}`" in said}

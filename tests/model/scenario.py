@@ -24,7 +24,11 @@ SERVICE = {"send", "allocate", "own", "free", "set", "close", "work", "listen", 
 
 
 class BadLine(Exception):
-    pass
+    """A line that is bad, and why."""
+
+
+class BadWords(BadLine):
+    """A line whose words ask for no call."""
 
 
 def hex_of(data):
@@ -37,17 +41,32 @@ def value_of(word, kind):
         if word == b"-":
             return b""
         if len(word) % 2 or not re.fullmatch(rb"[0-9a-fA-F]+", word):
-            raise BadLine
+            raise BadWords("a word is not hexadecimal digits, two for each byte")
         return bytes.fromhex(word.decode())
     if kind == "LETTERS":
         if word != b"-" and not re.fullmatch(rb"[abcn]+", word):
-            raise BadLine
+            raise BadWords("a letter is not a, b, c or n")
         return "" if word == b"-" else word.decode()
+    if not re.fullmatch(rb"-?[0-9]+", word):
+        raise BadWords("a word is not a number")
     least, most = KINDS[kind]
-    digits = rb"-?[0-9]+" if least < 0 else rb"[0-9]+"
-    if not re.fullmatch(digits, word) or not least <= int(word) <= most:
-        raise BadLine
+    if least == 0 and word.startswith(b"-") or not least <= int(word) <= most:
+        raise BadWords("a number is out of its range")
     return int(word)
+
+
+def parsed(words):
+    """The name of a call, and the values of its words."""
+    name, rest, values = words[0].decode("latin-1"), words[1:], []
+    if name not in LINES:
+        raise BadWords("no call has this name")
+    for kind in LINES[name]:
+        if not rest:
+            raise BadWords("a word is missing")
+        values.append(value_of(rest.pop(0), kind))
+    if rest:
+        raise BadWords("there is a word too many")
+    return name, values
 
 
 class Held:
@@ -68,7 +87,7 @@ class Held:
 
     def get(self, number):
         if number not in self.of:
-            raise BadLine
+            raise BadLine("nothing is held under this number")
         return self.of[number]
 
     def take(self, number):
@@ -86,10 +105,9 @@ class Run:
 
     def line(self, words):
         """What a line prints."""
-        name = words[0].decode("latin-1")
-        if self.has_ended or name not in LINES or len(words) != 1 + len(LINES[name]):
-            raise BadLine
-        values = [value_of(word, kind) for word, kind in zip(words[1:], LINES[name])]
+        name, values = parsed(words)
+        if self.has_ended:
+            raise BadLine("a line follows `end`")
         self.has_service |= name in SERVICE
         try:
             return getattr(self, "do_" + name)(*values)
@@ -181,12 +199,12 @@ class Run:
 
     def do_allocate(self, type_id, key, label):
         if 20 + len(key) + len(label) > MAX_COMMAND:
-            raise BadLine
+            raise BadLine("the command has more than 4096 bytes")
         return self.send(protocol.ALLOCATE, lambda correlation: protocol.allocate(correlation, type_id, key, label))
 
     def do_own(self, owner, type_id, key, label):
         if 28 + len(key) + len(label) > MAX_COMMAND:
-            raise BadLine
+            raise BadLine("the command has more than 4096 bytes")
         return self.send(protocol.ALLOCATE_OWNED, lambda it: protocol.allocate(it, type_id, key, label, owner))
 
     def do_free(self, number):
@@ -269,8 +287,10 @@ def run(data, **changed):
             continue
         try:
             out.append(held.line(words))
-        except BadLine:
-            return 1, "".join(out), f"fault: 25 BadLine {number}\n"
+        except BadLine as bad:
+            is_carriage_return = isinstance(bad, BadWords) and line.endswith(b"\r")
+            why = "the line ends in a carriage return" if is_carriage_return else bad
+            return 1, "".join(out), f"fault: 25 BadLine {number}\nreason: {why}\n"
     if not held.has_ended:
-        return 1, "".join(out), f"fault: 25 BadLine {len(lines) + 1}\n"
+        return 1, "".join(out), f"fault: 25 BadLine {len(lines) + 1}\nreason: the scenario has no `end`\n"
     return 0, "".join(out), ""

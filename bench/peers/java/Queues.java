@@ -6,7 +6,7 @@ import java.util.function.Consumer;
 import org.jctools.queues.MpscArrayQueue;
 import org.jctools.queues.SpscArrayQueue;
 
-/** The queues, behind one face: JCTools' hold references to new arrays, the Disruptor arrays that stay. */
+/** The queues, with one face for all: JCTools' hold references to new arrays, the Disruptor arrays that stay. */
 final class Queues {
     interface Queue {
         /** Whether there was room. */

@@ -7,7 +7,7 @@ import java.util.List;
 import java.util.concurrent.atomic.AtomicLong;
 import java.util.function.Consumer;
 
-/** The workloads of bench/README.md: each is done so many times, and returns the nanoseconds that took. */
+/** The workloads of bench/README.md: each is done a given number of times, and returns the nanoseconds that took. */
 final class Workloads {
     private static final int BATCH = 16, COMMAND = 20, REPLY = 12;
     private static final VarHandle LONGS = MethodHandles.byteArrayViewVarHandle(long[].class, ByteOrder.LITTLE_ENDIAN);

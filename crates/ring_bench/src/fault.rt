@@ -1,8 +1,8 @@
 //! Why a measurement gives no figures.
 use ring_board::SubscribeFault;
-use ring_conductor::SendFault;
 use ring_counters::{IdFault, MakeFault as CountersFault};
 use ring_rings::{MakeFault, NoShares};
+use ring_service::SendFault;
 use ring_storm::StormFault;
 use std::alloc::{AllocError, AllocFailed};
 use std::io;

@@ -2,8 +2,8 @@
 ghost use Rattle.std.specs.Prelude.{◌≡◌, IfOk};
 ghost use Rattle.ring_rings.specs.Seats.{IsConsumerOf};
 ghost use Rattle.ring_board.specs.Seats.{IsReceiverOf};
-ghost use Rattle.ring_conductor.specs.Asking.{producer_of, receiver_of, IsSeatedAt};
-ghost use Rattle.ring_conductor.specs.Conducting.{IsConductorOf};
+ghost use Rattle.ring_service.specs.Asking.{producer_of, receiver_of, IsSeatedAt};
+ghost use Rattle.ring_service.specs.Conducting.{IsConductorOf};
 
 use crate::fault::Fault;
 use crate::request::Request;
@@ -11,10 +11,10 @@ use crate::rest::{Rest, TRIES};
 use crate::sample::{Detail, Sample};
 use crate::task::{Task, time};
 use ring_board::Board;
-use ring_conductor::Request::{Allocate, Set};
-use ring_conductor::{Client, Conductor, Polled, Reply, Request as Command};
 use ring_counters::{CounterValues, CountersManager};
 use ring_rings::{Bodies, Kind, Ring};
+use ring_service::Request::{Allocate, Set};
+use ring_service::{Client, Conductor, Polled, Reply, Request as Command};
 use std::alloc::Global;
 use std::rt::Clock;
 use std::sync::atomic::{AtomicBool, Ordering};

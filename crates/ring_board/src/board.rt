@@ -38,8 +38,8 @@ pub struct Transmitter {
     ghost held: { (seat.me.0.shares ≡ shares) × (0 < shares) × (shares ≤ all_shares) },
 }
 
-/// A transmission whose intent is stored. It owns the transmitter.
-#[derive(Drop)]
+/// A transmission whose intent is stored. It owns the transmitter. It is not `Drop`: a program that forgets one does not
+/// compile, since receivers are lapped by its intent though nothing is ever shown.
 pub struct Begun {
     pub(crate) seat: BoardSeat,
     pub(crate) tail: u64,
@@ -56,8 +56,7 @@ pub struct Begun {
     ghost held: { (seat.me.0.shares ≡ shares) × (0 < shares) × (shares ≤ all_shares) },
 }
 
-/// A transmission whose record is stored, and not yet shown. It owns the transmitter.
-#[derive(Drop)]
+/// A transmission whose record is stored, and not yet shown. It owns the transmitter. It is not `Drop`, like `Begun`.
 pub struct Filled {
     pub(crate) seat: BoardSeat,
     pub(crate) place: u64,

@@ -119,6 +119,18 @@ impl Board {
                 transmitter,
             });
         }
+        Ok(self.rescue(transmitter))
+    }
+
+    /// Takes the broadcast buffer apart with its transmitter alone, however many receivers are still out or were lost.
+    /// The transmitter's list and the words that show it are whole, and so are the copies of the receivers that were
+    /// joined. This call refuses nothing. The value of the buffer shows that no thread is still inside a call on it.
+    pub fn rescue(self, transmitter: Transmitter) -> ClosedBoard
+        requires { IsTransmitterOf self transmitter }
+        ensures runs { AreAllRuns (transmitted transmitter) (heard_by transmitter) }
+        ensures closed { (closed_capacity result ≡ capacity_of self)
+            × IsClosed (capacity_of self) (start_of self) (transmitted transmitter) (closed_words result) }
+    {
         let Transmitter {
             seat,
             tail: _,
@@ -132,7 +144,7 @@ impl Board {
         let closed = table.close_with(seat);
         copy_words(&closed, &mut words);
         closed.free();
-        Ok(ClosedBoard { words, capacity })
+        ClosedBoard { words, capacity }
     }
 }
 

@@ -255,6 +255,34 @@ impl Board {
     }
 }
 
+impl Begun {
+    /// Leaves the transmission unfinished for good, on purpose, and gives its transmitter up with it. Nothing more can
+    /// then be transmitted, and the broadcast buffer can never be closed.
+    pub fn leak(self) {
+        let Begun {
+            seat: _,
+            tail: _,
+            place: _,
+            end: _,
+            shares: _,
+            type_id: _,
+            len: _,
+        } = self;
+    }
+}
+
+impl Filled {
+    /// Leaves the record unshown for good, on purpose, as `Begun::leak` does.
+    pub fn leak(self) {
+        let Filled {
+            seat: _,
+            place: _,
+            next_tail: _,
+            shares: _,
+        } = self;
+    }
+}
+
 impl Board {
     /// Stores the intent: a transmission begins that will end at `end`.
     pub(crate) fn store_intent(&self, seat: &mut BoardSeat, end: u64)

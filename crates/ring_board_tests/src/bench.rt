@@ -67,7 +67,6 @@ pub enum Answer {
 }
 
 /// A board with its seats.
-#[derive(Drop)]
 pub struct Bench {
     board: Board,
     transmitter: Option<Transmitter>,
@@ -105,6 +104,39 @@ fn done(sent: Result<(), TransmitFault>) -> Answer {
 
 fn lapped_as(lapped: Lapped) -> Answer {
     Answer::Lapped(lapped.count, lapped.place, lapped.intent)
+}
+
+/// Leaves a transmission that began unfinished, if there is one.
+fn leave_begun(begun: Option<Begun>) {
+    match begun {
+        Some(begun) => begun.leak(),
+        None => {}
+    }
+}
+
+/// Leaves a filled transmission unshown, if there is one.
+fn leave_filled(filled: Option<Filled>) {
+    match filled {
+        Some(filled) => filled.leak(),
+        None => {}
+    }
+}
+
+impl Drop for Bench {
+    fn drop(self) {
+        let Bench {
+            board: _,
+            transmitter: _,
+            begun,
+            len: _,
+            filled,
+            receiver: _,
+            raw: _,
+            kept: _,
+        } = self;
+        leave_begun(begun);
+        leave_filled(filled);
+    }
 }
 
 impl Bench {
@@ -148,8 +180,9 @@ impl Bench {
         };
         match self.board.begin(transmitter, type_id, len) {
             Ok(begun) => {
-                self.begun = Some(begun);
+                leave_begun(self.begun.take());
                 self.len = len;
+                leave_begun(self.begun.replace(begun));
                 Answer::Done
             }
             Err(refused) => {
@@ -165,10 +198,14 @@ impl Bench {
         let len = self.len;
         match self.begun.take() {
             Some(begun) if len <= 32 => {
-                self.filled = Some(self.board.fill(begun, &body[..len]));
+                let filled = self.board.fill(begun, &body[..len]);
+                leave_filled(self.filled.replace(filled));
                 Answer::Done
             }
-            _ => Answer::Missing,
+            other => {
+                leave_begun(other);
+                Answer::Missing
+            }
         }
     }
 
@@ -345,8 +382,15 @@ impl Bench {
         let Bench {
             board,
             transmitter,
-            ..
+            begun,
+            len: _,
+            filled,
+            receiver: _,
+            raw: _,
+            kept: _,
         } = self;
+        leave_begun(begun);
+        leave_filled(filled);
         board.close(transmitter?).ok()
     }
 }

@@ -147,3 +147,23 @@ fn closes_once_receivers_are_back(rt: HostRuntime) {
     let closed = board.close(transmitter).ok().expect(&rt, "a closed board");
     assert_eq!(rt; closed.tail(), 0);
 }
+
+#[test]
+fn is_rescued_though_receivers_are_lost(rt: HostRuntime) {
+    let (board, mut transmitter) = Board::new(rt.alloc(), 256).expect(&rt, "a board");
+    let lost = board
+        .subscribe(rt.alloc(), &mut transmitter)
+        .expect(&rt, "a receiver");
+    let raw = board.subscribe_raw(&mut transmitter).expect(&rt, "a share");
+    let sent = board.transmit(&mut transmitter, 3, &[7; 5]);
+    assert_eq!(rt; sent, Ok(()));
+    let _lost = (lost, raw);
+    let closed = board.rescue(transmitter);
+    assert_eq!(rt;
+        [closed.intent(), closed.tail(), closed.latest()],
+        [16, 16, 0]
+    );
+    let words = [closed.word(0), closed.word(1), closed.word(2)];
+    let wanted = [0x0000_0003_0000_000D, 0x07_0707_0707, 0];
+    assert_eq!(rt; words, wanted.map(Some));
+}

@@ -1,28 +1,15 @@
-//! The conductor: it takes commands from a ring, applies them to counters, and transmits one reply to each.
+//! The conductor and its storms under one name: all public items of `ring_service` and of `ring_storm`.
 //!
-//! - `Request`, `Command`, `Reply`, `RefusalCode`: the protocol, and its bytes.
-//! - `Client`: the client's side, which sends commands and receives replies.
-//! - `Conductor`: takes a ring's consumer, a broadcast buffer's transmitter and counters, and works.
-//! - `finish`: closes ring and broadcast buffer, and returns all that is left. Its contract is the headline.
-//! - `whole_run`: one run of all of that, the part to read first.
-//! - the laws: what holds of the protocol and of the fold of commands.
+//! - `Command`, `Reply`, `Client`, `Conductor`, `finish` and `whole_run` are of `ring_service`.
+//! - `storm`, `StormPlan`, `StormReport`, `Gate` and `OpenGate` are of `ring_storm`.
 #![tactic(auto)]
 
-mod client;
-mod conductor;
-mod finishing;
-mod laws;
-mod whole;
-
-pub use client::{Client, Polled, SendFault};
-pub use conductor::{Conductor, Cycle, Work, WorkStop};
-pub use finishing::fault::{FinishFault, FinishRefused};
-pub use finishing::{Finished, finish};
-pub use laws::{fold_ignores_receivers, fold_lengthens, fold_of_fold};
-pub use ring_protocol::{
-    Bad, Command, LONGEST_COMMAND, LONGEST_REPLY, RefusalCode, Reply, Request, UnknownCode,
-    command_round_trip, command_type_ids, decode_command, decode_reply, encode_command,
-    encode_reply, encode_request, longest_command, one_command, one_reply, reply_round_trip,
-    reply_type_ids,
+pub use ring_service::{
+    Bad, Client, Command, Conductor, Cycle, FinishFault, FinishRefused, Finished, FinishedWithout,
+    LONGEST_COMMAND, LONGEST_REPLY, Parties, Polled, RefusalCode, Reply, Request, SendFault,
+    UnknownCode, WholeFault, WholeRun, Work, WorkStop, command_round_trip, command_type_ids,
+    decode_command, decode_reply, encode_command, encode_reply, encode_request, finish,
+    fold_ignores_receivers, fold_lengthens, fold_of_fold, longest_command, one_command, one_reply,
+    reply_round_trip, reply_type_ids, whole_run, whole_run_over,
 };
-pub use whole::{Parties, WholeFault, WholeRun, whole_run, whole_run_over};
+pub use ring_storm::{Gate, OpenGate, StormFault, StormPlan, StormReport, storm, storm_over};

@@ -2,13 +2,13 @@
 ghost use Rattle.std.specs.Prelude.{◌≡◌, ◌≤◌, ◌^◌, All};
 ghost use Rattle.ring_rings.specs.Seats.{all_shares, shares_of, IsConsumerOf, IsProducerOf};
 ghost use Rattle.ring_board.specs.Seats.{IsReceiverOf};
-ghost use Rattle.ring_conductor.specs.Conducting.{IsConductorOf};
+ghost use Rattle.ring_service.specs.Conducting.{IsConductorOf};
 
 use crate::sending::{receives, send};
 use ring_board::{Board, CopyReceiver};
-use ring_conductor::{Command, Conductor, Cycle, FinishFault, Finished, Reply, Work, WorkStop};
 use ring_counters::{CounterValues, CountersManager, IdFault};
 use ring_rings::{Bodies, InWords, Kind, Producer, Ring};
+use ring_service::{Command, Conductor, Cycle, FinishFault, Finished, Reply, Work, WorkStop};
 use std::alloc::Global;
 use std::process::Abort;
 
@@ -163,7 +163,7 @@ impl<K: Kind, B: Bodies> Bench<K, B> {
             producer,
             listener,
         } = self;
-        match ring_conductor::finish(ring, board, values, conductor, producer) {
+        match ring_service::finish(ring, board, values, conductor, producer) {
             Ok(finished) => Ok(finished),
             Err(back) => Err((
                 back.reason,
@@ -190,7 +190,7 @@ impl<K: Kind, B: Bodies> Bench<K, B> {
             listener,
         } = self;
         conductor.join_receiver(&board, listener);
-        ring_conductor::finish(ring, board, values, conductor, producer).ok()
+        ring_service::finish(ring, board, values, conductor, producer).ok()
     }
 }
 

@@ -2,8 +2,8 @@
 use crate::bench::Answer::{Done, Value, Worked};
 use crate::bench::Call::{Send, Work};
 use crate::bench::{Answer, Bench, Call};
-use ring_conductor::{Command, Finished, WorkStop};
 use ring_rings::ManyToOne;
+use ring_service::{Command, Finished, WorkStop};
 use std::alloc::Global;
 use std::process::Abort;
 

@@ -5,9 +5,9 @@ use crate::talk::Call::{Poll, Send, SendAs, Work};
 use crate::talk::Said::{Full, Id, Sent, TooLong};
 use crate::talk::{Call, Said, Talk, goes};
 use ring_board::{Board, Lapped, Transmitter};
-use ring_conductor::Polled::{Another, Answered, Nothing};
-use ring_conductor::{Client, Command, Polled, Reply, Request, WorkStop, encode_command};
 use ring_rings::{Kind, ManyToOne, ManyToOneRing, OneToOne};
+use ring_service::Polled::{Another, Answered, Nothing};
+use ring_service::{Client, Command, Polled, Reply, Request, WorkStop, encode_command};
 use std::alloc::Global;
 use std::process::Abort;
 

@@ -1,6 +1,6 @@
 //! Commands and replies as bytes.
-use ring_conductor::Command::{Allocate, AllocateOwned, Close, Free, Set};
-use ring_conductor::{
+use ring_service::Command::{Allocate, AllocateOwned, Close, Free, Set};
+use ring_service::{
     Bad, Command, Reply, decode_command, decode_reply, encode_command, encode_reply,
 };
 use std::process::Abort;

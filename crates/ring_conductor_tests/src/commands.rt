@@ -3,8 +3,8 @@ use crate::bench::Answer::{Done, State, Worked};
 use crate::bench::Call::{Receive, Send, Work, Write};
 use crate::bench::{Answer, Bench, Call, plays};
 use crate::sending::work;
-use ring_conductor::{Command, Cycle, FinishFault, Reply, WorkStop};
 use ring_rings::{Kind, ManyToOne, OneToOne};
+use ring_service::{Command, Cycle, FinishFault, Reply, WorkStop};
 use std::alloc::Global;
 use std::process::Abort;
 

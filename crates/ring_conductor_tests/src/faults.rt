@@ -1,5 +1,5 @@
 //! The text of each refusal: number and name.
-use ring_conductor::{Bad, FinishFault, SendFault, WholeFault};
+use ring_service::{Bad, FinishFault, SendFault, WholeFault};
 use ring_storm::StormFault;
 use std::alloc::Global;
 use std::fmt;

@@ -1,14 +1,14 @@
 //! When a conductor finishes, and what it hands out.
 ghost use Rattle.std.specs.Prelude.{◌≡◌};
 ghost use Rattle.ring_rings.specs.Seats.{IsConsumerOf, IsProducerOf};
-ghost use Rattle.ring_conductor.specs.Conducting.{IsConductorOf};
+ghost use Rattle.ring_service.specs.Conducting.{IsConductorOf};
 
 use crate::bench::Bench;
 use crate::sending::work;
 use ring_board::Board;
-use ring_conductor::{Conductor, FinishFault, FinishRefused, WorkStop, finish};
 use ring_counters::CounterValues;
 use ring_rings::{Bodies, InSlots, InWords, ManyToOne, Producer, Ring};
+use ring_service::{Conductor, FinishFault, FinishRefused, WorkStop, finish};
 use std::alloc::Global;
 use std::process::Abort;
 

@@ -193,3 +193,107 @@ fn no_answer_is_told_before_the_conductor_works(rt: HostRuntime) {
     let told = (gate.told_before.load(SeqCst), gate.told.load(SeqCst));
     assert_eq!(rt; (report.seen, told), (2, (0, 2)));
 }
+
+/// The turns of each wait of the storms below.
+const TURNS: u32 = 2_000;
+
+/// Lets no client send. Client 0 spends its turns at once and gives up; client 1 sleeps in each of its own, so that they
+/// would last for 40 seconds. The conductor, which would give up too, is kept back until client 1 asks no more.
+#[derive(Drop)]
+struct GivesUp<'a> {
+    rt: &'a HostRuntime,
+    asked_first: AtomicU32,
+    asked_second: AtomicU32,
+    stopped: AtomicBool,
+}
+
+impl GivesUp<'_> {
+    /// Whether client 0 has given up, and client 1 did not ask for 400 milliseconds.
+    fn has_stopped(&self) -> bool {
+        let before = self.asked_second.load(SeqCst);
+        sleep(self.rt, Duration::from_millis(400));
+        self.asked_first.load(SeqCst) == TURNS && self.asked_second.load(SeqCst) == before
+    }
+}
+
+impl Gate for GivesUp<'_> {
+    fn may_send(&self, client: u32, _number: u32) -> bool {
+        if client == 0 {
+            self.asked_first.fetch_add(1, SeqCst);
+        } else {
+            sleep(self.rt, Duration::from_millis(20));
+            self.asked_second.fetch_add(1, SeqCst);
+        }
+        false
+    }
+
+    fn answered(&self, _client: u32, _number: u32) {}
+
+    fn may_start(&self, thread: u32) -> bool {
+        if thread < 2 {
+            return true;
+        }
+        for _ in 0..60 {
+            if self.has_stopped() {
+                self.stopped.store(true, SeqCst);
+                break;
+            }
+        }
+        true
+    }
+}
+
+#[test]
+fn a_client_that_gives_up_stops_the_others(rt: HostRuntime) {
+    let gate = GivesUp {
+        rt: &rt,
+        asked_first: AtomicU32::new(0),
+        asked_second: AtomicU32::new(0),
+        stopped: AtomicBool::new(false),
+    };
+    let plan = StormPlan {
+        clients: 2,
+        commands: 1,
+        ring: 256,
+        turns: u64::from(TURNS),
+    };
+    let report = run_in(&rt, rt.alloc(), Form::InWords, &plan, &gate);
+    assert_eq!(rt; report, Err(StormFault::TurnsSpent));
+    assert!(rt; gate.stopped.load(SeqCst));
+    assert!(rt; gate.asked_second.load(SeqCst) < TURNS);
+}
+
+/// Lets no client send, and lets each sleep in its turns, so that they would last for 40 seconds: the conductor spends
+/// its own first.
+#[derive(Drop)]
+struct Slow<'a> {
+    rt: &'a HostRuntime,
+    asked: AtomicU32,
+}
+
+impl Gate for Slow<'_> {
+    fn may_send(&self, _client: u32, _number: u32) -> bool {
+        sleep(self.rt, Duration::from_millis(20));
+        self.asked.fetch_add(1, SeqCst);
+        false
+    }
+
+    fn answered(&self, _client: u32, _number: u32) {}
+}
+
+#[test]
+fn a_conductor_that_gives_up_stops_the_clients(rt: HostRuntime) {
+    let gate = Slow {
+        rt: &rt,
+        asked: AtomicU32::new(0),
+    };
+    let plan = StormPlan {
+        clients: 1,
+        commands: 1,
+        ring: 256,
+        turns: u64::from(TURNS),
+    };
+    let report = run_in(&rt, rt.alloc(), Form::InWords, &plan, &gate);
+    assert_eq!(rt; report, Err(StormFault::TurnsSpent));
+    assert!(rt; gate.asked.load(SeqCst) < TURNS);
+}

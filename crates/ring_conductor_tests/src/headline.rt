@@ -2,15 +2,15 @@
 ghost use Rattle.std.specs.Prelude.{IfErr, IfOk};
 ghost use Rattle.ring_rings.specs.Closing.{IsRefusedAs};
 ghost use Rattle.ring_rings.specs.Seats.{capacity_of, start_of, IsConsumerOf, IsProducerOf};
-ghost use Rattle.ring_conductor.specs.Conducting.{IsConductorOf};
-ghost use Rattle.ring_conductor.specs.Finishing.{ComesBack, HandsOn, Headline, handed_back, refusal_to};
+ghost use Rattle.ring_service.specs.Conducting.{IsConductorOf};
+ghost use Rattle.ring_service.specs.Finishing.{ComesBack, HandsOn, Headline, handed_back, refusal_to};
 
 use crate::bench::Bench;
 use crate::sending::work;
 use ring_board::Board;
-use ring_conductor::{Command, Conductor, FinishRefused, Finished, WorkStop, finish};
 use ring_counters::CounterValues;
 use ring_rings::{InSlots, ManyToOne, Producer, Ring};
+use ring_service::{Command, Conductor, FinishRefused, Finished, WorkStop, finish};
 
 /// Finishes over a ring whose bodies lie in slots, with the clauses of `finish`.
 fn finish_over_slots(

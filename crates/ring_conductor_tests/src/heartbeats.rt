@@ -1,8 +1,8 @@
 //! The conductor's heartbeat, as clients load it.
 use crate::bench::Answer::{Done, Heartbeat, Worked};
 use crate::bench::{Answer, Call, plays};
-use ring_conductor::WorkStop;
 use ring_rings::{ManyToOne, OneToOne};
+use ring_service::WorkStop;
 
 static BEATS: [(Call<'static>, Answer); 8] = [
     (Call::Heartbeat, Heartbeat(0)),

@@ -1,10 +1,10 @@
 //! Numbers and lengths of the protocol, as clients name them.
 use crate::faults::tells;
-use ring_conductor::{
+use ring_counters::{AllocateRefused, BadOwner, IdFault};
+use ring_service::{
     Bad, Command, LONGEST_COMMAND, LONGEST_REPLY, RefusalCode, UnknownCode, command_type_ids,
     encode_command, reply_type_ids,
 };
-use ring_counters::{AllocateRefused, BadOwner, IdFault};
 use std::alloc::Global;
 use std::fmt;
 use std::process::Abort;

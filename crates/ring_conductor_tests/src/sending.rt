@@ -4,8 +4,8 @@ ghost use Rattle.ring_rings.specs.Seats.{all_shares, shares_of, IsProducerOf};
 ghost use Rattle.ring_board.specs.Seats.{IsReceiverOf};
 
 use ring_board::{Board, Copied, CopyReceiver, Lapped};
-use ring_conductor::{Command, Reply, Work, WorkStop, decode_reply, encode_command};
 use ring_rings::{Bodies, Kind, Producer, Ring};
+use ring_service::{Command, Reply, Work, WorkStop, decode_reply, encode_command};
 
 /// Sends a command, and tests whether there was room for it.
 fn send_one<K: Kind, B: Bodies>(

@@ -1,16 +1,16 @@
 //! A client that talks to a conductor, with all that both need.
 ghost use Rattle.ring_rings.specs.Seats.{IsConsumerOf, IsProducerOf, MayClaim};
 ghost use Rattle.ring_board.specs.Seats.{IsReceiverOf};
-ghost use Rattle.ring_conductor.specs.Asking.{producer_of, receiver_of};
-ghost use Rattle.ring_conductor.specs.Conducting.{IsConductorOf};
+ghost use Rattle.ring_service.specs.Asking.{producer_of, receiver_of};
+ghost use Rattle.ring_service.specs.Conducting.{IsConductorOf};
 
 use crate::bench::Bench;
 use ring_board::Board;
-use ring_conductor::{
-    Client, Conductor, Finished, Polled, Request, SendFault, Work, WorkStop, finish,
-};
 use ring_counters::{CounterValues, IdFault};
 use ring_rings::{ClaimFault, Kind, Ring, TryFault};
+use ring_service::{
+    Client, Conductor, Finished, Polled, Request, SendFault, Work, WorkStop, finish,
+};
 use std::alloc::Global;
 use std::process::Abort;
 

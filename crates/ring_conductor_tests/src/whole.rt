@@ -1,6 +1,6 @@
 //! One run of the whole, as a user sees what comes out.
-use ring_conductor::{Polled, Reply, WholeRun, Work, WorkStop, whole_run, whole_run_over};
 use ring_rings::InSlots;
+use ring_service::{Polled, Reply, WholeRun, Work, WorkStop, whole_run, whole_run_over};
 use std::process::Abort;
 
 /// A run that took both commands, and left a counter with 7.

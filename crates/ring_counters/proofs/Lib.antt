@@ -6,3 +6,4 @@ pub mod ShownLemmas
 pub mod ValueSteps
 pub mod ListingLemmas
 pub mod AgreeLemmas
+mod AvailableLemmas

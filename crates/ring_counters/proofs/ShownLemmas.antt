@@ -292,7 +292,8 @@ position_tells p ids i e =
           ∙ e in cc)
     ]
 
-position_misses : (p : ℕ → Bool) (ids : List ℕ) → position p ids ≡ None → length ids ≤ position_or_len p ids
+pub position_misses : {X : Type 0} (p : X → Bool) (ids : List X) → position p ids ≡ None
+    → length ids ≤ position_or_len p ids
 position_misses p ids e =
     let n = position_or_len p ids in
     elim (cases_lt n (length ids)) as (λ _. length ids ≤ n) [

@@ -12,3 +12,4 @@ pub mod Seats
 pub mod Agree
 pub mod Infos
 pub mod Manager
+pub mod Available

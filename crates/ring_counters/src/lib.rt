@@ -2,9 +2,9 @@
 //!
 //! - `manager`: the counters of one owner, with their values. `calls`: what it is asked, by kind.
 //! - `records`: the counters' words: values and `metadata`, what a counter is allocated with (`wanted`), and how `ids`
-//!   are given and freed.
+//!   are given and freed, and how many are `available`.
 //! - `values`: what threads share: what each seat knows (`view`), the `rule` between any two steps, what each step
-//!   says (`plays`), the `seats` of writer and readers, and the `calls` that set and load values.
+//!   says (`plays`), the `seats` of writer and readers, and the `calls` that set and load values or make `changes`.
 //! - `fault`, `info`: why calls refuse, and what a listing says of a counter.
 #![tactic(auto)]
 

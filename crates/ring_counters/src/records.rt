@@ -1,4 +1,5 @@
 //! The counters over vectors of records: their values, their metadata, and which ids are in use.
+mod available;
 pub(crate) mod bytes;
 mod ids;
 pub(crate) mod metadata;

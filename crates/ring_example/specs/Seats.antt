@@ -1,9 +1,9 @@
 -- Whose seats the threads hold.
 use Rattle.ring_rings.specs.Seats.{IsConsumerOf, IsProducerOf}
 use Rattle.ring_board.specs.Seats.{IsReceiverOf}
-use Rattle.ring_conductor.specs.declared.conductor.Conductor.{Conductor}
-use Rattle.ring_conductor.specs.Asking.{producer_of, receiver_of}
-use Rattle.ring_conductor.specs.Conducting.{IsConductorOf}
+use Rattle.ring_service.specs.declared.conductor.Conductor.{Conductor}
+use Rattle.ring_service.specs.Asking.{producer_of, receiver_of}
+use Rattle.ring_service.specs.Conducting.{IsConductorOf}
 use Rattle.ring_example.specs.declared.client.Caller.{Caller}
 use Rattle.ring_example.specs.declared.shared.Shared.{Shared}
 

@@ -4,8 +4,8 @@ ghost use Rattle.ring_example.specs.Seats.{IsCallerOf};
 
 use crate::shared::Shared;
 use crossbeam_utils::Backoff;
-use ring_conductor::{Client, Polled, Reply, Request, SendFault};
 use ring_rings::{ClaimFault, TryFault};
+use ring_service::{Client, Polled, Reply, Request, SendFault};
 use std::sync::Wait;
 
 /// The number of commands that are sent before their replies are waited for. Those of two callers fill the ring.

@@ -12,9 +12,9 @@ ghost use Rattle.ring_example.specs.Seats.{AreCallersOf, IsConductorAt, IsCaller
 
 use client::Caller;
 use ring_board::Board;
-use ring_conductor::{Client, Conductor, Finished, finish};
 use ring_counters::{CounterInfo, CountersManager, ValueReader};
 use ring_rings::{PlainManyToOneRing, Producer};
+use ring_service::{Client, Conductor, Finished, finish};
 use service::{COUNTERS, conduct, watch};
 use shared::Shared;
 use std::alloc::Global;

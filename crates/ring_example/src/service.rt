@@ -4,8 +4,8 @@ ghost use Rattle.ring_example.specs.Seats.{IsConductorAt};
 
 use crate::shared::Shared;
 use crossbeam_utils::Backoff;
-use ring_conductor::{Conductor, WorkStop};
 use ring_counters::ValueReader;
+use ring_service::{Conductor, WorkStop};
 use std::sync::Wait;
 use std::sync::atomic::Ordering::SeqCst;
 

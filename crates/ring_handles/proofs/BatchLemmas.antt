@@ -14,10 +14,10 @@ use Rattle.ring_table.specs.declared.claim.PlacedMessage.{PlacedMessage}
 use Rattle.ring_table.specs.declared.view.View.{View}
 use Rattle.ring_rings.specs.Reading.{Controls, EndsAt, FoundUnsettled, IsNext, Reads, messages_of}
 use Rattle.ring_handles.specs.declared.batch.Laying.{Laying}
-use Rattle.ring_handles.specs.Batch.{LaysIn, Batch, IsShort, LaidNone, Lays, LeavesOut, ReadBatch, ReadsBatch, TookBatch, TookSome, batch, laid, laid_end, span_in}
-use Rattle.ring_handles.specs.Consuming.{RanOut, TookNone}
+use Rattle.ring_handles.specs.Batch.{Batch, HasNoRoomAt, IsShort, LaidNone, LaysIn, Lays, LeavesOut, NoMoreCame, ReadBatch, ReadsBatch, TookBatch, TookSome, batch, laid, laid_end, span_in}
+use Rattle.ring_handles.specs.Consuming.{CameToEnd, RanOut, TookNone}
 use Rattle.ring_handles.specs.Side.{Reading, having_read}
-use Rattle.ring_handles.proofs.EndLemmas.{both, had_none, in_words, next_on, none_twice, ran_out}
+use Rattle.ring_handles.proofs.EndLemmas.{blocked_on, both, had_none, in_words, next_on, none_twice, over, ran_out}
 
 -- these messages were laid after what was used
 record WereLaid (s : Laying) (ms : List PlacedMessage) (t : Laying) : Type 0 where
@@ -75,9 +75,6 @@ left s t m (inl adds) = let clash : Abort ≡ Continue = adds.action in absurd c
 
 -- How a read ends ---------------------------------------------------------------
 
-from_zero : (n k : ℕ) → n < 0 + k → n < k
-from_zero n k less = omega arith
-
 below : (n m : ℕ) → n ≡ 0 → n ≤ m
 below n m is = subst (λ (k : ℕ). k ≤ m) (sym is) (omega arith)
 
@@ -89,35 +86,46 @@ record Ends (limit : ℕ) (v w : View) (s t : Laying) (end : ReadEnd) : Type 0 w
   pub buffer : t.buffer.now ≡ between.buffer.now
   pub used : t.used ≡ between.used
   pub borrow : t.buffer.ghost_name ≡ between.buffer.ghost_name
-  pub full : (t.is_full ≡ between.is_full)
-      ⊎ ((m : Message) × IsNext v w m × (length between.buffer.now < between.used + span_in (length m.body)))
+  pub full : (t.is_full ≡ between.is_full) ⊎ HasNoRoomAt between.used between.buffer.now v w
+  pub stops : EndsAt limit v w end → (end.messages ≡ limit)
+      ⊎ (HasNoRoomAt between.used between.buffer.now v w ⊎ (FoundUnsettled v w ⊎ CameToEnd v w))
+
+-- the same among more reasons
+why_over : {All R A B C D : Type 0} → All ⊎ ((A × B) ⊎ (C × D)) → All ⊎ (R ⊎ (B ⊎ D))
+why_over (inl all) = inl all
+why_over (inr (inl (is, found))) = inr (inr (inl found))
+why_over (inr (inr (is, came))) = inr (inr (inr came))
 
 ends : (limit : ℕ) (v w : View) (s t : Laying) (end : ReadEnd) → s.used ≡ 0 → Controls Lays limit v w s t end
     → Ends limit v w s t end
 ends limit v w s t end fresh (inl on) = record {
   between = t;
-  reads = on.reads;
-  were = were_laid s t on.reads.messages on.reads.actions on.reads.handled on.went_on (below s.used _ fresh);
+  reads = on.reads.reads;
+  were = were_laid s t on.reads.reads.messages on.reads.reads.actions on.reads.reads.handled on.went_on (below s.used _ fresh);
   buffer = refl;
   used = refl;
   borrow = refl;
   full = inl refl;
+  stops = λ to. why_over (over Lays limit v w s t end on to.bytes to.blocked);
 }
 ends limit v w s t end fresh (inr (inl broke)) =
-    absurd (never_broke s t broke.reads.messages broke.before
-    (subst (λ (answers : List Action). Handles Lays s (messages_of broke.reads.messages) answers t) broke.broke
-    broke.reads.handled))
+    absurd (never_broke s t broke.reads.reads.messages broke.before
+    (subst (λ (answers : List Action). Handles Lays s (messages_of broke.reads.reads.messages) answers t) broke.broke
+    broke.reads.reads.handled))
 ends limit v w s t end fresh (inr (inr aborts)) =
     let leaves = left aborts.before t aborts.message aborts.aborted in
+    let short : HasNoRoomAt aborts.before.used aborts.before.buffer.now v w =
+    record { message = aborts.message; next = aborts.next; short = leaves.short } in
     record {
       between = aborts.before;
-      reads = aborts.reads;
-      were = were_laid s aborts.before aborts.reads.messages aborts.reads.actions aborts.reads.handled aborts.went_on
+      reads = aborts.reads.reads;
+      were = were_laid s aborts.before aborts.reads.reads.messages aborts.reads.reads.actions aborts.reads.reads.handled aborts.went_on
           (below s.used _ fresh);
       buffer = leaves.buffer;
       used = leaves.used;
       borrow = leaves.borrow;
-      full = inr (aborts.message, aborts.next, leaves.short);
+      full = inr short;
+      stops = λ to. inr (inl short);
     }
 
 -- the buffer is the same one
@@ -131,11 +139,25 @@ no_messages : (ms : List PlacedMessage) (n : ℕ) → n ≡ length ms → n ≡ 
 no_messages [] n counted none = refl
 no_messages (m ∷ ms) n counted none = let clash : suc (length ms) ≡ zero = sym counted ∙ none in absurd cc
 
+-- the same of the bytes before, and of the messages that were laid
+no_more : {limit used : ℕ} {v w : View} (ms : List PlacedMessage) (bytes now : List ℕ) (n : ℕ)
+    → n ≡ length ms → used ≡ laid_end 0 (messages_of ms) → length now ≡ length bytes
+    → (n ≡ limit) ⊎ (HasNoRoomAt used now v w ⊎ (FoundUnsettled v w ⊎ CameToEnd v w))
+    → NoMoreCame limit v w bytes ms
+no_more ms bytes now n counted is size (inl all) = inl (sym counted ∙ all)
+no_more ms bytes now n counted is size (inr (inl full)) = inr (inl (record {
+  message = full.message;
+  next = full.next;
+  short = subst (λ (k : ℕ). k < laid_end 0 (messages_of ms) + span_in (length full.message.body)) size
+      (subst (λ (k : ℕ). length now < k + span_in (length full.message.body)) is full.short);
+}))
+no_more ms bytes now n counted is size (inr (inr rest)) = inr (inr rest)
+
 -- some messages were taken
-pub some_taken : (limit : ℕ) (v w : View) (s t : Laying) (end : ReadEnd) → s.used ≡ 0 → end.messages ≤ limit
+pub some_taken : (limit : ℕ) (v w : View) (s t : Laying) (end : ReadEnd) → s.used ≡ 0 → EndsAt limit v w end
     → Controls Lays limit v w s t end → end.messages ≢ 0
     → TookSome limit v w s.buffer.now (batch end.messages t.used t.buffer.now)
-some_taken limit v w s t end fresh within controls some =
+some_taken limit v w s t end fresh to controls some =
     let e = ends limit v w s t end fresh controls in
     let ms = messages_of e.reads.messages in
     let used : t.used ≡ laid_end 0 ms = e.used ∙ (e.were.used ∙ ap (λ (n : ℕ). laid_end n ms) fresh) in
@@ -145,8 +167,9 @@ some_taken limit v w s t end fresh within controls some =
       messages = e.reads.messages;
       some = λ none. some (e.reads.counted ∙ ap length none);
       taken = e.reads.taken;
-      within = subst (λ (n : ℕ). n ≤ limit) e.reads.counted within;
+      within = subst (λ (n : ℕ). n ≤ limit) e.reads.counted to.within;
       room = subst (λ (n : ℕ). n ≤ length s.buffer.now) (sym e.used ∙ used) e.were.room;
+      stops = no_more e.reads.messages s.buffer.now e.between.buffer.now end.messages e.reads.counted (sym e.used ∙ used) e.were.size (e.stops to);
       outs = λ i. batch (e.reads.counted i) (used i) (buffer i);
     }
 
@@ -172,16 +195,15 @@ none_fits limit v w s t end fresh open_yet controls none is_full =
     short e nothing_used e.full
   where
     short : (e : Ends limit v w s t end) → e.between.used ≡ 0
-        → (t.is_full ≡ e.between.is_full)
-        ⊎ ((m : Message) × IsNext v w m × (length e.between.buffer.now < e.between.used + span_in (length m.body)))
+        → (t.is_full ≡ e.between.is_full) ⊎ HasNoRoomAt e.between.used e.between.buffer.now v w
         → IsShort s.buffer.now v w
     short e used (inl same) =
         let clash : true ≡ false = sym is_full ∙ (same ∙ (e.were.full ∙ open_yet)) in absurd cc
-    short e used (inr (m, next, less)) = record {
-      message = m;
-      next = next;
-      short = subst (λ (n : ℕ). n < span_in (length m.body)) e.were.size (from_zero _ _
-          (subst (λ (n : ℕ). length e.between.buffer.now < n + span_in (length m.body)) used less));
+    short e used (inr full) = record {
+      message = full.message;
+      next = full.next;
+      short = subst (λ (n : ℕ). n < 0 + span_in (length full.message.body)) e.were.size
+          (subst (λ (n : ℕ). length e.between.buffer.now < n + span_in (length full.message.body)) used full.short);
     }
 
 -- no message came
@@ -190,9 +212,9 @@ none_came : (limit : ℕ) (v w : View) (s t : Laying) (end : ReadEnd)
     → Controls Lays limit v w s t end → end.messages ≡ 0 → t.is_full ≡ false → RanOut limit end.stopped v w
 none_came limit v w s t end bytes blocked (inl on) none open_yet = ran_out Lays limit v w s t end on none bytes blocked
 none_came limit v w s t end bytes blocked (inr (inl broke)) none open_yet =
-    absurd (never_broke s t broke.reads.messages broke.before
-    (subst (λ (answers : List Action). Handles Lays s (messages_of broke.reads.messages) answers t) broke.broke
-    broke.reads.handled))
+    absurd (never_broke s t broke.reads.reads.messages broke.before
+    (subst (λ (answers : List Action). Handles Lays s (messages_of broke.reads.reads.messages) answers t) broke.broke
+    broke.reads.reads.handled))
 none_came limit v w s t end bytes blocked (inr (inr aborts)) none open_yet =
     let clash : true ≡ false = sym (left aborts.before t aborts.message aborts.aborted).full ∙ open_yet in absurd cc
 
@@ -224,6 +246,20 @@ batch_twice limit one two o o' o'' r s t first code is ended (same, on, took) (s
     none : TookNone (RanOut limit one) r.view s.view o o'
     none = had_none first is took
 
+    no_room : {used : ℕ} {bytes : List ℕ} → HasNoRoomAt used bytes s.view t.view → HasNoRoomAt used bytes r.view t.view
+    no_room full = record {
+      message = full.message;
+      next = next_on r.view s.view t.view on full.message full.next;
+      short = full.short;
+    }
+
+    stops : {bytes : List ℕ} (ms : List PlacedMessage) → NoMoreCame limit s.view t.view bytes ms
+        → NoMoreCame limit r.view t.view bytes ms
+    stops ms (inl all) = inl all
+    stops ms (inr (inl full)) = inr (inl (no_room full))
+    stops ms (inr (inr (inl found))) = inr (inr (inl (blocked_on r.view s.view t.view on found)))
+    stops ms (inr (inr (inr came))) = inr (inr (inr (record { on = omega (arith, on.on, came.on); end = came.end })))
+
     takes : TookSome limit s.view t.view o.buffer o'' → TookSome limit r.view t.view o.buffer o''
     takes k = record {
       messages = k.messages;
@@ -231,16 +267,13 @@ batch_twice limit one two o o' o'' r s t first code is ended (same, on, took) (s
       taken = k.taken ∙ ap (λ (ms : List PlacedMessage). ms ++ k.messages) none.taken;
       within = k.within;
       room = k.room;
+      stops = stops k.messages k.stops;
       outs = k.outs;
     }
 
     short : TookNone (IsShort o.buffer) s.view t.view o o'' → TookNone (IsShort o.buffer) r.view t.view o o''
     short k = record {
       taken = k.taken ∙ none.taken;
-      why = record {
-        message = k.why.message;
-        next = next_on r.view s.view t.view on k.why.message k.why.next;
-        short = k.why.short;
-      };
+      why = no_room k.why;
       outs = k.outs;
     }

@@ -1,5 +1,5 @@
 -- How a read that its handler controls leaves the consumer, why it took nothing, and two reads as one.
-use Rattle.std.proofs.Common.{◌≡◌, inl, inr, ℕ, ◌+◌, ◌%◌, ◌<◌, ◌&&◌, ◌==◌, nat_lt, if◌then◌else◌, ℤ, pos, List, ◌++◌, arith, sym, ap, ◌∙◌, subst}
+use Rattle.std.proofs.Common.{◌≡◌, ◌⊎◌, false, inl, inr, ℕ, ◌+◌, ◌%◌, ◌<◌, ◌&&◌, ◌==◌, nat_lt, if◌then◌else◌, ℤ, pos, List, ◌++◌, arith, sym, ap, ◌∙◌, subst}
 use Rattle.std.proofs.lemmas.Bool.{and_parts, cases_Bool, cases_lt, cond-true, cond-false, eqb-true, ltb-true, ne_eqb}
 use Rattle.std.proofs.lemmas.List.{append_assoc}
 use Rattle.ring_layout.specs.declared.message.Message.{Message}
@@ -9,14 +9,18 @@ use Rattle.ring_words.specs.declared.read.end.Stop.{Stop}
 use Rattle.ring_words.specs.declared.read.end.Stop.TheVariants.{Limit, Block, Unpublished}
 use Rattle.ring_table.specs.declared.view.View.{View}
 use Rattle.ring_rings.specs.Reading.{Controls, FoundUnsettled, IsNext, MovesHead, WentOn}
-use Rattle.ring_handles.specs.Consuming.{HadNone, RanOut, ReadCode, ReadsOn, TookNone}
+use Rattle.ring_handles.specs.Consuming.{CameToEnd, HadNone, RanOut, ReadCode, ReadsOn, TookNone}
+
+-- no settled record was at the new head, or the read came to the end of the buffer
+abbrev Ended : Stop → View → View → Type 0
+Ended stopped v w = ((stopped ≡ Unpublished) × FoundUnsettled v w) ⊎ ((stopped ≡ Block) × CameToEnd v w)
 
 module _ {S : Type 0} (step : S → Message → S → Action → Type 0) (limit : ℕ) (v w : View) (s t : S)
     (end : ReadEnd) where
   moves_head : Controls step limit v w s t end → MovesHead v w
-  moves_head (inl on) = on.reads.moves
-  moves_head (inr (inl broke)) = broke.reads.moves
-  moves_head (inr (inr aborts)) = aborts.reads.moves
+  moves_head (inl on) = on.reads.reads.moves
+  moves_head (inr (inl broke)) = broke.reads.reads.moves
+  moves_head (inr (inr aborts)) = aborts.reads.reads.moves
 
   pub reads_on : Controls step limit v w s t end → ReadsOn v w
   reads_on controls =
@@ -31,35 +35,45 @@ module _ {S : Type 0} (step : S → Message → S → Action → Type 0) (limit 
       }
 
   -- below its limit a read that nothing stopped ended at a head without a settled record, or at the end of the buffer
-  ran_on : WentOn step limit v w s t end → end.messages ≡ 0 → 0 < limit
+  stopped_so : WentOn step limit v w s t end → (end.messages == limit) ≡ false
       → v.consumer.head + end.bytes ≡ w.consumer.head → (end.stopped ≡ Unpublished → FoundUnsettled v w)
-      → RanOut limit end.stopped v w
-  ran_on on none some bytes blocked =
+      → Ended end.stopped v w
+  stopped_so on more bytes blocked =
       let zero_there = w.consumer.head % w.capacity == 0 in
       let at_end = zero_there && nat_lt 0 end.bytes in
       let rest : Stop = if at_end then Block else Unpublished in
       let below : end.stopped ≡ rest = on.stopped
-      ∙ cond-false (end.messages == limit) Limit rest (ne_eqb end.messages limit (λ e. omega arith)) in
-      elim (cases_Bool at_end) as (λ _. RanOut limit end.stopped v w) [
+      ∙ cond-false (end.messages == limit) Limit rest more in
+      elim (cases_Bool at_end) as (λ _. Ended end.stopped v w) [
         | inl e ↦
             let both = and_parts zero_there (nat_lt 0 end.bytes) e in
             let passed = ltb-true 0 end.bytes both.1 in
-            inr (inr (
+            inr (
               below ∙ cond-true at_end Block Unpublished e,
               record { on = omega arith; end = eqb-true (w.consumer.head % w.capacity) 0 both.0 },
-            ))
+            )
         | inr e ↦
             let is = below ∙ cond-false at_end Block Unpublished e in
-            inr (inl (is, blocked is))
+            inl (is, blocked is)
+      ]
+
+  -- a read that nothing stopped took as many messages as it may, or ended so
+  pub over : WentOn step limit v w s t end → v.consumer.head + end.bytes ≡ w.consumer.head
+      → (end.stopped ≡ Unpublished → FoundUnsettled v w) → (end.messages ≡ limit) ⊎ Ended end.stopped v w
+  over on bytes blocked =
+      elim (cases_Bool (end.messages == limit)) as (λ _. (end.messages ≡ limit) ⊎ Ended end.stopped v w) [
+        | inl all ↦ inl (eqb-true end.messages limit all)
+        | inr more ↦ inr (stopped_so on more bytes blocked)
       ]
 
   pub ran_out : WentOn step limit v w s t end → end.messages ≡ 0
       → v.consumer.head + end.bytes ≡ w.consumer.head → (end.stopped ≡ Unpublished → FoundUnsettled v w)
       → RanOut limit end.stopped v w
-  ran_out on none bytes blocked = elim (cases_lt 0 limit) as (λ _. RanOut limit end.stopped v w) [
-    | inl some ↦ ran_on on none some bytes blocked
-    | inr at_zero ↦ inl (omega arith)
-  ]
+  ran_out on none bytes blocked =
+      elim (over on bytes blocked) as (λ _. RanOut limit end.stopped v w) [
+        | inl all ↦ inl (sym all ∙ none)
+        | inr end_of ↦ inr end_of
+      ]
 
 -- Two reads ----------------------------------------------------------------------
 

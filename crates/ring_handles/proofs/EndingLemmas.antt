@@ -1,12 +1,25 @@
--- What a finished conductor's messages add up to.
-use Rattle.std.proofs.Common.{◌≡◌, ℕ, ◌+◌, List, ◌++◌, length, length-append, refl, ap, arith, Option, Some, None, Result, Ok}
+-- What the messages of a ring that ended add up to.
+use Rattle.std.proofs.Common.{◌≡◌, ℕ, ◌+◌, List, ◌++◌, length, length-append, refl, sym, ap, ◌∙◌, arith, Option, Some, None, Result, Ok}
 use Rattle.ring_layout.specs.Refusals.{IsRefusedAs}
+use Rattle.ring_layout.specs.History.{committed_of}
+use Rattle.ring_layout.specs.declared.message.Claim.{Claim}
 use Rattle.ring_layout.specs.declared.message.Message.{Message}
-use Rattle.ring_rings.specs.Closing.{close_refusal_of}
+use Rattle.ring_words.specs.Drain.{AllSettled}
+use Rattle.ring_words.specs.Ring.{Has}
+use Rattle.ring_table.specs.Passing.{placed_committed_of}
+use Rattle.ring_table.specs.Staged.{unplaced}
 use Rattle.ring_table.specs.declared.claim.PlacedMessage.{PlacedMessage}
+use Rattle.ring_table.specs.declared.claim.StagedClaim.{StagedClaim}
+use Rattle.ring_table.specs.declared.view.View.{View}
+use Rattle.ring_rings.specs.Closing.{close_refusal_of}
 use Rattle.ring_rings.specs.Reading.{messages_of}
-use Rattle.ring_conductor.specs.declared.finishing.fault.FinishFault.{FinishFault}
+use Rattle.ring_rings.specs.Rescuing.{IsRescued}
+use Rattle.ring_rings.specs.declared.rescue.Rescued.{Rescued}
 use Rattle.ring_rings.proofs.ReceivedLemmas.{lengths}
+use Rattle.ring_rings.proofs.SentLemmas.{messages_of-append, placed_committed_of-append}
+use Rattle.ring_service.specs.declared.finishing.fault.FinishFault.{FinishFault}
+use Rattle.ring_service.proofs.FinishLemmas.{all_settled}
+use Rattle.ring_handles.specs.Finishing.{LeavesCommitted}
 
 -- if it succeeded there was no refusal
 pub no_refusal : {T E : Type 0} (error : FinishFault → E) (o : Option FinishFault) (r : Result T E) (x : T)
@@ -27,3 +40,25 @@ rest_counts received all rest count whole counted =
 -- if a producer may close its ring, none of its claims is open
 pub none_is_open : (open_claims shares : ℕ) → close_refusal_of open_claims shares ≡ None → open_claims ≡ 0
 none_is_open open_claims shares e = grind arith
+
+-- what a ring with lost producers leaves is what its rest has
+pub leaves_committed : (C start : ℕ) (v : View) (out : Rescued) → IsRescued C start v out → (count : ℕ)
+    → ((h : List Claim) → Has out.rest h → AllSettled h → count ≡ length (committed_of h))
+    → LeavesCommitted C start v count
+leaves_committed C start v out r count drains =
+    let rest = messages_of (placed_committed_of r.left) in
+    let here = all_settled r.now r.done in
+    record {
+      hist = r.hist;
+      id = r.id;
+      own = r.own;
+      unread = record {
+        ordered = r.ordered;
+        rest = rest;
+        left_is = drains (unplaced r.now) r.has here ∙ ap length (r.unread (unplaced r.now) r.has);
+        whole = ap (λ (ms : List PlacedMessage). messages_of ms ++ rest) r.messages
+            ∙ sym (messages_of-append (placed_committed_of r.passed) (placed_committed_of r.left))
+            ∙ sym (ap messages_of (placed_committed_of-append r.passed r.left))
+            ∙ sym (ap (λ (cs : List StagedClaim). messages_of (placed_committed_of cs)) r.whole);
+      };
+    }

@@ -75,34 +75,34 @@ pub copied_one : (v w : View) (s t : Copying) (end : ReadEnd) → s.code ≡ pos
     → Controls Copies 1 v w s t end
     → CopiedOne s.takes (RanOut 1 end.stopped) v w (outs s) (outs t) t.code
 copied_one v w s t end waits bytes blocked (inl on) =
-    let none = shown_none Copies never_on s t on.reads.messages on.reads.actions on.reads.handled on.went_on in
+    let none = shown_none Copies never_on s t on.reads.reads.messages on.reads.reads.actions on.reads.reads.handled on.went_on in
     inr (inl (
       ap (λ (u : Copying). u.code) (sym none.1)
           ∙ waits,
       record {
-        taken = none_more v w on.reads.messages on.reads.taken none.0;
+        taken = none_more v w on.reads.reads.messages on.reads.reads.taken none.0;
         why = ran_out Copies 1 v w s t end on
-            (uncounted end.messages on.reads.messages on.reads.counted none.0) bytes blocked;
+            (uncounted end.messages on.reads.reads.messages on.reads.reads.counted none.0) bytes blocked;
         outs = ap outs (sym none.1);
       },
     ))
 copied_one v w s t end waits bytes blocked (inr (inl broke)) =
-    let one = shown_one Copies never_on s t broke.reads.messages broke.reads.actions broke.before broke.reads.handled broke.went_on
+    let one = shown_one Copies never_on s t broke.reads.reads.messages broke.reads.reads.actions broke.before broke.reads.reads.handled broke.went_on
     broke.broke in
     let fits = broken s t one.0.message one.2 in
     inl (
       fits.code,
       taken s.takes fits.action record {
         message = one.0;
-        taken = broke.reads.taken ∙ ap (λ (ns : List PlacedMessage). v.consumer.taken ++ ns) one.1;
+        taken = broke.reads.reads.taken ∙ ap (λ (ns : List PlacedMessage). v.consumer.taken ++ ns) one.1;
         room = fits.room;
         outs = λ i. out (fits.tells.type_id i) (fits.tells.len i) (fits.buffer i);
       },
     )
 copied_one v w s t end waits bytes blocked (inr (inr aborts)) =
     let none =
-    shown_none Copies never_on s aborts.before aborts.reads.messages aborts.reads.actions aborts.reads.handled aborts.went_on in
-    left s t aborts.message (none_more v w aborts.reads.messages aborts.reads.taken none.0) aborts.next
+    shown_none Copies never_on s aborts.before aborts.reads.reads.messages aborts.reads.reads.actions aborts.reads.reads.handled aborts.went_on in
+    left s t aborts.message (none_more v w aborts.reads.reads.messages aborts.reads.reads.taken none.0) aborts.next
     (subst (λ (u : Copying). Copies u aborts.message t Abort) (sym none.1) aborts.aborted)
 
 -- the same if these are what it says
@@ -122,14 +122,14 @@ pub same_borrow : (limit : ℕ) (v w : View) (s t : Copying) (end : ReadEnd) →
     → t.buffer.ghost_name ≡ s.buffer.ghost_name
 same_borrow limit v w s t end (inl on) =
     ap (λ (u : Copying). u.buffer.ghost_name)
-    (sym (shown_none Copies never_on s t on.reads.messages on.reads.actions on.reads.handled on.went_on).1)
+    (sym (shown_none Copies never_on s t on.reads.reads.messages on.reads.reads.actions on.reads.reads.handled on.went_on).1)
 same_borrow limit v w s t end (inr (inl broke)) =
-    let one = shown_one Copies never_on s t broke.reads.messages broke.reads.actions broke.before broke.reads.handled broke.went_on
+    let one = shown_one Copies never_on s t broke.reads.reads.messages broke.reads.reads.actions broke.before broke.reads.reads.handled broke.went_on
     broke.broke in
     (broken s t one.0.message one.2).borrow
 same_borrow limit v w s t end (inr (inr aborts)) =
     let none =
-    shown_none Copies never_on s aborts.before aborts.reads.messages aborts.reads.actions aborts.reads.handled aborts.went_on in
+    shown_none Copies never_on s aborts.before aborts.reads.reads.messages aborts.reads.reads.actions aborts.reads.reads.handled aborts.went_on in
     same_copies s t aborts.message (subst (λ (u : Copying). Copies u aborts.message t Abort) (sym none.1) aborts.aborted)
 
 -- Two reads as one -----------------------------------------------------------------

@@ -27,20 +27,20 @@ pub took_next : (v w : View) (s t : Taking) (end : ReadEnd) → s.code ≡ pos 1
     → v.consumer.head + end.bytes ≡ w.consumer.head → (end.stopped ≡ Unpublished → FoundUnsettled v w)
     → Controls Takes 1 v w s t end → TakenOne (RanOut 1 end.stopped) v w t.code
 took_next v w s t end waits bytes blocked (inl on) =
-    let none = shown_none Takes never_takes_on s t on.reads.messages on.reads.actions on.reads.handled on.went_on in
+    let none = shown_none Takes never_takes_on s t on.reads.reads.messages on.reads.reads.actions on.reads.reads.handled on.went_on in
     inr (
       ap (λ (u : Taking). u.code) (sym none.1) ∙ waits,
-      none_more v w on.reads.messages on.reads.taken none.0,
-      ran_out Takes 1 v w s t end on (uncounted end.messages on.reads.messages on.reads.counted none.0) bytes blocked,
+      none_more v w on.reads.reads.messages on.reads.reads.taken none.0,
+      ran_out Takes 1 v w s t end on (uncounted end.messages on.reads.reads.messages on.reads.reads.counted none.0) bytes blocked,
     )
 took_next v w s t end waits bytes blocked (inr (inl broke)) =
-    let one = shown_one Takes never_takes_on s t broke.reads.messages broke.reads.actions broke.before
-    broke.reads.handled broke.went_on broke.broke in
+    let one = shown_one Takes never_takes_on s t broke.reads.reads.messages broke.reads.reads.actions broke.before
+    broke.reads.reads.handled broke.went_on broke.broke in
     inl (
       one.2.code,
       record {
         message = one.0;
-        taken = broke.reads.taken ∙ ap (λ (ns : List PlacedMessage). v.consumer.taken ++ ns) one.1;
+        taken = broke.reads.reads.taken ∙ ap (λ (ns : List PlacedMessage). v.consumer.taken ++ ns) one.1;
       },
     )
 took_next v w s t end waits bytes blocked (inr (inr aborts)) = absurd (no_break (sym aborts.aborted.action))

@@ -8,8 +8,8 @@ use Rattle.ring_table.specs.declared.view.View.{View}
 use Rattle.ring_words.specs.declared.read.action.Action.{Action}
 use Rattle.ring_words.specs.declared.read.action.Action.TheVariants.{Abort, Continue}
 use Rattle.ring_words.specs.declared.read.end.Stop.{Stop}
-use Rattle.ring_rings.specs.Reading.{IsNext, messages_of}
-use Rattle.ring_handles.specs.Consuming.{HadNone, RanOut, ReadCode, ReadsOn, TookNone}
+use Rattle.ring_rings.specs.Reading.{FoundUnsettled, IsNext, messages_of}
+use Rattle.ring_handles.specs.Consuming.{CameToEnd, HadNone, RanOut, ReadCode, ReadsOn, TookNone}
 use Rattle.ring_handles.specs.Side.{Reading, having_read}
 use Rattle.ring_handles.specs.declared.batch.Laying.{Laying}
 
@@ -70,6 +70,18 @@ pub record Batch : Type 0 where
 abbrev pub batch : ℕ → ℕ → List ℕ → Batch
 batch count used buffer = record { count = count; used = used; buffer = buffer }
 
+-- after this many of the bytes there is no room for the message at the new head
+pub record HasNoRoomAt (used : ℕ) (bytes : List ℕ) (v w : View) : Type 0 where
+  pub message : Message
+  pub next : IsNext v w message
+  pub short : length bytes < used + span_in (length message.body)
+
+-- why no more messages came than these: they are as many as were asked for, there is no room for the next one, no
+-- settled record was at the new head, or the read came to the end of the ring's buffer
+abbrev pub NoMoreCame : ℕ → View → View → List ℕ → List PlacedMessage → Type 0
+NoMoreCame limit v w bytes messages = (length messages ≡ limit)
+    ⊎ (HasNoRoomAt (laid_end 0 (messages_of messages)) bytes v w ⊎ (FoundUnsettled v w ⊎ CameToEnd v w))
+
 -- some messages were taken, at most this many, and are at the front of the buffer, which was these bytes
 pub record TookSome (limit : ℕ) (v w : View) (bytes : List ℕ) (after : Batch) : Type 0 where
   pub messages : List PlacedMessage
@@ -77,13 +89,12 @@ pub record TookSome (limit : ℕ) (v w : View) (bytes : List ℕ) (after : Batch
   pub taken : w.consumer.taken ≡ v.consumer.taken ++ messages
   pub within : length messages ≤ limit
   pub room : laid_end 0 (messages_of messages) ≤ length bytes
+  pub stops : NoMoreCame limit v w bytes messages
   pub outs : after ≡ batch (length messages) (laid_end 0 (messages_of messages)) (laid 0 (messages_of messages) bytes)
 
 -- the bytes have no room for the message at the new head
-pub record IsShort (bytes : List ℕ) (v w : View) : Type 0 where
-  pub message : Message
-  pub next : IsNext v w message
-  pub short : length bytes < span_in (length message.body)
+abbrev pub IsShort : List ℕ → View → View → Type 0
+IsShort = HasNoRoomAt 0
 
 -- none was taken, and the buffer is as before: it is too short for the first one, or the read ran out
 pub record LaidNone (limit : ℕ) (stopped : Stop) (v w : View) (s t : Laying) : Type 0 where

@@ -11,10 +11,10 @@ use Rattle.ring_protocol.specs.declared.reply.Reply.{Reply}
 use Rattle.ring_protocol.specs.declared.reply.Reply.TheVariants.{Allocated, Done, Refused, Closed}
 use Rattle.ring_protocol.specs.Command.{LentRequest as Request}
 use Rattle.ring_protocol.specs.Reply.{type_id_of}
-use Rattle.ring_conductor.specs.declared.client.Polled.TheVariants as told
-use Rattle.ring_conductor.specs.declared.client.SendFault.{SendFault}
-use Rattle.ring_conductor.specs.declared.client.SendFault.TheVariants as fault
-use Rattle.ring_conductor.specs.Asking.{client_seat, client_view, receiver_of, producer_of, IsHeard, IsSendable, RefusesSend, Sends}
+use Rattle.ring_service.specs.declared.client.Polled.TheVariants as told
+use Rattle.ring_service.specs.declared.client.SendFault.{SendFault}
+use Rattle.ring_service.specs.declared.client.SendFault.TheVariants as fault
+use Rattle.ring_service.specs.Asking.{client_seat, client_view, receiver_of, producer_of, IsHeard, IsSendable, RefusesSend, Sends}
 use Rattle.ring_handles.specs.declared.client.ClientSide.{ClientSide}
 
 -- the bytes of the ring into which its commands go

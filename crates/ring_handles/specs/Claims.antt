@@ -1,12 +1,12 @@
 -- The open claims of a producer, the oldest first. The number of a claim is its place.
-use Rattle.std.specs.Prelude.{◌≡◌, ◌==◌, ℕ, ◌<◌, List, [], ◌∷◌, Option, Some, None, Bool, true, false, if◌then◌else◌, length, slice_index_or, slice_set, vec_capacity, vec_len}
+use Rattle.std.specs.Prelude.{◌≡◌, ◌==◌, ℕ, ◌<◌, List, [], ◌∷◌, Option, Some, None, Bool, true, false, if◌then◌else◌, length, slice_index_or, slice_set}
 use Rattle.ring_layout.specs.declared.message.ClaimState.TheVariants.{Aborted}
 use Rattle.ring_words.specs.Open.{ClaimAt}
 use Rattle.ring_table.specs.declared.claim.StagedClaim.{StagedClaim}
 use Rattle.ring_table.specs.declared.claim.Stage.TheVariants.{Stored}
 use Rattle.ring_table.specs.Changes.{changed, staged}
 use Rattle.ring_rings.specs.Holding.{in_slots}
-use Rattle.ring_handles.specs.declared.open_claims.OpenClaims.{OpenClaims}
+use Rattle.ring_handles.specs.Slots.{ClaimSlots}
 
 -- Claims by number ---------------------------------------------------------------
 
@@ -33,17 +33,21 @@ pub record Takes (number : ℕ) (t : ClaimAt) (old new : List ClaimAt) : Type 0 
 -- Slots --------------------------------------------------------------------------
 
 -- the claims that a producer keeps, the oldest first
-abbrev pub claims_in : OpenClaims → List ClaimAt
-claims_in kept = in_slots kept.slots.items
+abbrev pub claims_in : ClaimSlots → List ClaimAt
+claims_in kept = in_slots kept.slots
 
 -- there is room to keep one more
-abbrev pub HasRoomToKeep : OpenClaims → Type 0
-HasRoomToKeep kept = vec_len kept.slots < vec_capacity kept.slots
+abbrev pub HasRoomToKeep : ClaimSlots → Type 0
+HasRoomToKeep kept = length kept.slots < kept.room
 
 -- the slot has the claim of this number
 abbrev pub has_numbered : ℕ → Option ClaimAt → Bool
 has_numbered number None = false
 has_numbered number (Some t) = t.place == number
+
+-- the slot at this index does not have it
+abbrev pub LacksAt : ℕ → List (Option ClaimAt) → ℕ → Type 0
+LacksAt number slots i = has_numbered number (slice_index_or slots i None) ≡ false
 
 -- the slot at this index has it
 pub record IsSlotOf (number : ℕ) (slots : List (Option ClaimAt)) (index : ℕ) : Type 0 where

@@ -1,31 +1,35 @@
 -- How a conductor ends.
-use Rattle.std.specs.Prelude.{◌≡◌, ℕ, ℤ, pos, List, ◌++◌, length, MatchOption, None}
-use Rattle.ring_layout.specs.declared.message.Message.{Message}
-use Rattle.ring_rings.specs.Closing.{AreOrdered}
-use Rattle.ring_rings.specs.Reading.{messages_of}
-use Rattle.ring_rings.specs.Ring.{sent}
+use Rattle.std.specs.Prelude.{◌≡◌, ℕ, ℤ, pos, length, MatchOption}
 use Rattle.ring_rings.specs.Seats.{capacity_of, claims_of, start_of}
+use Rattle.ring_rings.specs.declared.ring.Producer.{Producer}
 use Rattle.ring_board.specs.Runs.{AreAllRuns}
-use Rattle.ring_conductor.specs.Conducting.{manager_in, received_of}
-use Rattle.ring_conductor.specs.Finishing.{finish_code, joined_by, refusal_to, replies_of, IsFoldOfReceived}
+use Rattle.ring_service.specs.declared.conductor.Conductor.{Conductor}
+use Rattle.ring_service.specs.Conducting.{manager_in, received_of, ring_view}
+use Rattle.ring_service.specs.Finishing.{finish_code, joined_by, refusal_to, replies_of, IsFoldOfReceived}
 use Rattle.ring_handles.specs.declared.conductor.ConductorSide.{ConductorSide}
+use Rattle.ring_handles.specs.declared.lending.Shared.{Shared}
 use Rattle.ring_handles.specs.Conducting.{shared_by}
+use Rattle.ring_handles.specs.Finishing.{LeavesCommitted, LeavesUnread}
 
--- The claims of all producers are one after the other from the ring's start on. What was received, followed by what
--- was left, is their committed messages, each whole and once. What was received makes of fresh counters, each message
--- at a moment, these counters, all value writes and the replies. What each receiver that was taken back copied are runs
--- of the replies
-pub record TellsEnd (c : ConductorSide) (received left : ℕ) : Type 0 where
-  pub ready : refusal_to c.conductor c.producer ≡ None
-  pub ordered : AreOrdered (capacity_of (shared_by c).ring) (start_of (shared_by c).ring) (claims_of c.producer)
-  pub received_is : received ≡ length (received_of c.conductor)
-  pub rest : List Message
-  pub left_is : left ≡ length rest
-  pub whole : messages_of (received_of c.conductor) ++ rest ≡ sent c.producer
-  pub folded : ∥ IsFoldOfReceived c.conductor (manager_in c.conductor) ∥₁
-  pub runs : AreAllRuns (replies_of c.conductor) (joined_by c.conductor)
+-- This many commands were received, and Unread holds of the number that were left. What was received makes of fresh
+-- counters, each message at a moment, these counters, all value writes and the replies. What each receiver that was
+-- taken back copied are runs of the replies
+pub record EndsWith (Unread : ℕ → Type 0) (c : Conductor) (received left : ℕ) : Type 0 where
+  pub received_is : received ≡ length (received_of c)
+  pub unread : Unread left
+  pub folded : ∥ IsFoldOfReceived c (manager_in c) ∥₁
+  pub runs : AreAllRuns (replies_of c) (joined_by c)
 
--- it does not end with the number of the library's refusal; if there is none, another handle holds what it shares
+-- The ring's claims are those of the producer p, if all shares are back; otherwise those of lost producers are among them
+abbrev pub Concludes : Shared → Conductor → Producer → ℕ → ℕ → Type 0
+Concludes s c p = EndsWith (λ left. MatchOption (refusal_to c p)
+    (LeavesUnread (capacity_of s.ring) (start_of s.ring) (claims_of p) (received_of c) left)
+    (λ _. LeavesCommitted (capacity_of s.ring) (start_of s.ring) (ring_view c) left)) c
+
+abbrev pub TellsEnd : ConductorSide → ℕ → ℕ → Type 0
+TellsEnd c = Concludes (shared_by c) c.conductor c.producer
+
+-- another handle holds what it shares: that of a client or a receiver, if shares are missing
 abbrev pub WhyNotFinished : ConductorSide → ℤ → Type 0
 WhyNotFinished c code =
     MatchOption (refusal_to c.conductor c.producer) (code ≡ pos 110) (λ fault. code ≡ finish_code fault)

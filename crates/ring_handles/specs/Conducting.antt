@@ -16,11 +16,11 @@ use Rattle.ring_counters.specs.declared.manager.CountersManager.{CountersManager
 use Rattle.ring_counters.specs.Codes.{make_code}
 use Rattle.ring_counters.specs.Manager.{registry_of, writes_of}
 use Rattle.ring_counters.specs.Registry.{fresh_registry, make_refusal_of}
-use Rattle.ring_conductor.specs.declared.conductor.Work.{Work}
-use Rattle.ring_conductor.specs.declared.conductor.WorkStop.{WorkStop}
-use Rattle.ring_conductor.specs.declared.conductor.WorkStop.TheVariants.{Limit, Block, Unpublished, BoardEnd}
-use Rattle.ring_conductor.specs.Asking.{client_seat, client_view}
-use Rattle.ring_conductor.specs.Conducting.{board_view, manager_in, ledger_of, ring_view, value_shares_of, KeepsTheRest, KeepsWhatItServes, Works}
+use Rattle.ring_service.specs.declared.conductor.Work.{Work}
+use Rattle.ring_service.specs.declared.conductor.WorkStop.{WorkStop}
+use Rattle.ring_service.specs.declared.conductor.WorkStop.TheVariants.{Limit, Block, Unpublished, BoardEnd}
+use Rattle.ring_service.specs.Asking.{client_seat, client_view}
+use Rattle.ring_service.specs.Conducting.{board_view, manager_in, ledger_of, ring_view, value_shares_of, KeepsTheRest, KeepsWhatItServes, Works}
 use Rattle.ring_handles.specs.declared.client.ClientSide.{ClientSide}
 use Rattle.ring_handles.specs.declared.conductor.ConductorSide.{ConductorSide}
 use Rattle.ring_handles.specs.declared.identity.Identity.{Identity}

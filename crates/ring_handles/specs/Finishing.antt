@@ -2,20 +2,25 @@
 -- returned.
 use Rattle.std.specs.Prelude.{◌≡◌, ◌≢◌, ◌⊎◌, ℕ, ℤ, pos, List, ◌++◌, length, MatchOption, None, Some, IsSome}
 use Rattle.ring_layout.specs.declared.message.Message.{Message}
+use Rattle.ring_table.specs.OpenClaims.{open_count}
+use Rattle.ring_table.specs.Owners.{OwnedHistory, all_of, owned_by}
 use Rattle.ring_table.specs.Passing.{placed_committed_of}
+use Rattle.ring_table.specs.Views.{with_consumer_of}
 use Rattle.ring_table.specs.declared.claim.PlacedMessage.{PlacedMessage}
 use Rattle.ring_table.specs.declared.claim.StagedClaim.{StagedClaim}
+use Rattle.ring_table.specs.declared.view.View.{View}
 use Rattle.ring_rings.specs.Closing.{close_code, AreOrdered}
 use Rattle.ring_rings.specs.Reading.{messages_of}
 use Rattle.ring_handles.specs.Side.{Reading, Side, close_refusal}
 
 -- Closing ------------------------------------------------------------------------
 
--- the producer of the same number was taken in, which has all shares and no open claim
+-- The producer of the same number was taken in, which has no open claim. No clause can count handles: that no other
+-- producer is in a handle is tested if this one does not have all shares
 pub record TakesLast (r : Reading) (p : Side) (s : Reading) : Type 0 where
   pub kind : r.many ≡ p.many
   pub identity : r.identity ≡ p.identity
-  pub ready : close_refusal p.view ≡ None
+  pub ready : open_count p.view.producer.claims ≡ 0
   pub first : r.last ≡ None
   pub rest : s ≡ record r { last = Some p.view }
 
@@ -28,20 +33,31 @@ IsNotLast r p code = ((code ≡ pos 108) × (IsSome r.last ⊎ ((r.many ≢ p.ma
 
 -- Finishing ----------------------------------------------------------------------
 
--- The claims are one after the other from a start on. What was received, followed by what was left, is their committed
--- messages, each whole and once
-pub record LeavesUnread (capacity : ℕ) (claims : List StagedClaim) (taken : List PlacedMessage)
+-- These claims are one after the other from the start on. What was received, followed by what was left, is their
+-- committed messages, each whole and once
+pub record LeavesUnread (capacity start : ℕ) (claims : List StagedClaim) (taken : List PlacedMessage)
     (left : ℕ) : Type 0 where
-  pub start : ℕ
   pub ordered : AreOrdered capacity start claims
   pub rest : List Message
   pub left_is : left ≡ length rest
   pub whole : messages_of taken ++ rest ≡ messages_of (placed_committed_of claims)
 
--- the claims are those of the producer that was taken in
-abbrev pub Finishes : Reading → ℕ → Type 0
-Finishes r left = MatchOption r.last ⊥ (λ v. LeavesUnread r.capacity v.producer.claims r.view.consumer.taken left)
+-- There is one history of all claims, those of lost producers among them, of which v's own claims are a part, and with
+-- which nothing is left unread but what was committed
+pub record LeavesCommitted (capacity start : ℕ) (v : View) (left : ℕ) : Type 0 where
+  pub hist : OwnedHistory
+  pub id : ℕ
+  pub own : v.producer.claims ≡ owned_by id hist
+  pub unread : LeavesUnread capacity start (all_of hist) v.consumer.taken left
 
--- no producer was taken in, or another handle holds the ring
+-- The claims are those of the producer that was taken in, if it has all shares. Otherwise producers are lost, and its
+-- claims, if there is one, are its part of a history
+abbrev pub Finishes : Reading → ℕ → Type 0
+Finishes r left = MatchOption r.last (LeavesCommitted r.capacity r.start r.view left)
+    (λ v. MatchOption (close_refusal v)
+    (LeavesUnread r.capacity r.start v.producer.claims r.view.consumer.taken left)
+    (λ _. LeavesCommitted r.capacity r.start (with_consumer_of v r.view) left))
+
+-- another handle holds the ring: that of a producer, if none was taken in
 abbrev pub IsUnfinished : Reading → ℤ → Type 0
 IsUnfinished r code = MatchOption r.last (code ≡ pos 11) (λ _. code ≡ pos 110)

@@ -18,4 +18,5 @@ pub mod Returning
 pub mod Seating
 pub mod Serving
 pub mod Side
+pub mod Slots
 pub mod Taking

@@ -27,7 +27,7 @@ IsMakeCode C start code =
     (λ fault. code ≡ make_code fault)
 
 -- a producer and the consumer of one ring, with its number, which know this
-pub record ArePaired (many : Bool) (i : Identity) (C : ℕ) (v w : View) (p : Side) (c : Reading) : Type 0 where
+pub record ArePaired (many : Bool) (i : Identity) (C start : ℕ) (v w : View) (p : Side) (c : Reading) : Type 0 where
   pub producer : p ≡ record {
     many = many;
     table = p.table;
@@ -41,16 +41,18 @@ pub record ArePaired (many : Bool) (i : Identity) (C : ℕ) (v w : View) (p : Si
     table = p.table;
     identity = i;
     capacity = C;
+    start = start;
     view = w;
     last = None;
   }
 
-abbrev pub HoldPair : Bool → Identity → ℕ → View → View → Option Held → Option Held → Type 0
-HoldPair many i C v w p c = HoldsOne a_producer (λ s. HoldsOne a_consumer (λ r. ArePaired many i C v w s r) c) p
+abbrev pub HoldPair : Bool → Identity → ℕ → ℕ → View → View → Option Held → Option Held → Type 0
+HoldPair many i C start v w p c =
+    HoldsOne a_producer (λ s. HoldsOne a_consumer (λ r. ArePaired many i C start v w s r) c) p
 
 -- the producer holds all shares, and both are at the start
 abbrev pub HoldFresh : Bool → Identity → ℕ → ℕ → Option Held → Option Held → Type 0
-HoldFresh many i C start p c = HoldPair many i C (first_producer C start) (first_consumer C start) p c
+HoldFresh many i C start p c = HoldPair many i C start (first_producer C start) (first_consumer C start) p c
 
 -- Boards ------------------------------------------------------------------------
 

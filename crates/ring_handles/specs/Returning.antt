@@ -54,14 +54,12 @@ IsRawAstray p r code = (code ≡ pos 108) × (p.identity ≢ r.identity)
 
 -- The end of a board -------------------------------------------------------------
 
--- all shares were back, the last transmission ended here, and what each receiver that was taken back copied are runs of
--- the transmitted list
+-- the last transmission ended here, and what each receiver that was taken back copied are runs of the transmitted list
 pub record BoardEndsAt (p : Sending) (tail : ℕ) : Type 0 where
-  pub ready : close_refusal_of p.view.shares ≡ None
   pub tail_is : tail ≡ tail_in p
   pub runs : AreAllRuns p.view.sent p.view.heard
 
--- shares are with receivers; if none is, another handle holds the board
+-- another handle holds the board: that of a receiver, if shares are missing
 abbrev pub IsBoardKept : Sending → ℤ → Type 0
 IsBoardKept p code = MatchOption (close_refusal_of p.view.shares) (code ≡ pos 110) (λ _. code ≡ pos 14)
 

@@ -12,8 +12,8 @@ use Rattle.ring_board.specs.Views.{Sat, fewer, joined, newcomer}
 use Rattle.ring_counters.specs.Manager.{registry_of, writes_of}
 use Rattle.ring_counters.specs.Seats.{loads_of, made_of, seen_by}
 use Rattle.ring_counters.specs.ValueWrites.{AreLoads}
-use Rattle.ring_conductor.specs.Asking.{client_seat, client_view}
-use Rattle.ring_conductor.specs.Conducting.{board_view, manager_in, value_shares_of, KeepsSeats, KeepsTheRest}
+use Rattle.ring_service.specs.Asking.{client_seat, client_view}
+use Rattle.ring_service.specs.Conducting.{board_view, manager_in, value_shares_of, KeepsSeats, KeepsTheRest}
 use Rattle.ring_handles.specs.declared.client.ClientSide.{ClientSide}
 use Rattle.ring_handles.specs.declared.conductor.ConductorSide.{ConductorSide}
 use Rattle.ring_handles.specs.declared.counters.ReaderSide.{ReaderSide}

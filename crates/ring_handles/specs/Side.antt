@@ -13,7 +13,7 @@ use Rattle.ring_rings.specs.declared.bodies.Bodies.{Ghosts}
 use Rattle.ring_rings.specs.declared.ring.Producer.{Producer}
 use Rattle.ring_rings.specs.declared.ring.Consumer.{Consumer}
 use Rattle.ring_rings.specs.Holding.{AreOpen}
-use Rattle.ring_rings.specs.Seats.{capacity_of, shares_of, view_of, IsConsumerOf, IsProducerOf}
+use Rattle.ring_rings.specs.Seats.{capacity_of, shares_of, start_of, view_of, IsConsumerOf, IsProducerOf}
 use Rattle.ring_handles.specs.declared.identity.Identity.{Identity}
 use Rattle.ring_handles.specs.declared.ring.AnyRing.{AnyRing}
 use Rattle.ring_handles.specs.declared.ring.AnyRing.TheVariants.{Many, One}
@@ -34,6 +34,11 @@ table_in (One ring) = (arc_value ring).table.shared.table_id
 abbrev pub capacity_in : AnyRing → ℕ
 capacity_in (Many ring) = capacity_of (arc_value ring)
 capacity_in (One ring) = capacity_of (arc_value ring)
+
+-- the position of its first claim
+abbrev pub start_in : AnyRing → ℕ
+start_in (Many ring) = start_of (arc_value ring)
+start_in (One ring) = start_of (arc_value ring)
 
 -- a producer of it, which holds all shares if the ring has no other
 abbrev pub IsProducerIn : AnyRing → Producer → Type 0
@@ -107,23 +112,25 @@ AreOfOneRing p other = p.identity ≡ other.identity → (p.table ≡ other.tabl
 
 -- Consumers ----------------------------------------------------------------------
 
--- why a producer that knows this does not close its ring
+-- why a producer that knows this is not all that may write its ring
 abbrev pub close_refusal : View → Option CloseFault
 close_refusal v = close_refusal_of (open_count v.producer.claims) v.producer.shares
 
--- a producer that was taken in is the ring's, with all shares and no open claim
+-- a producer that was taken in is the ring's
 abbrev pub IsLastIn : AnyRing → Option Producer → Type 0
 IsLastIn ring None = Unit {0}
-IsLastIn ring (Some p) = IsProducerIn ring p × (close_refusal (view_of p) ≡ None)
+IsLastIn ring (Some p) = IsProducerIn ring p
 
 pub record Reading : Type 0 where
   pub many : Bool
   pub table : TableId
   pub identity : Identity
   pub capacity : ℕ
+  -- the position of the ring's first claim
+  pub start : ℕ
   -- what the consumer knows
   pub view : View
-  -- what the ring's producer knows, where it was taken in and nothing is written any more
+  -- what the ring's producer knows, if it was taken in
   pub last : Option View
 
 -- the consumer that knows this

@@ -55,34 +55,32 @@ impl TransmitterSide {
         Ok(())
     }
 
-    /// Takes the broadcast buffer apart, if all shares are back and no other handle has it, and returns the end of the
-    /// last transmission. Otherwise the transmitter comes back.
+    /// Takes the broadcast buffer apart if no other handle has it, and returns the end of the last transmission.
+    /// Receivers that were freed are not missed. Otherwise the transmitter comes back.
     pub fn close(self) -> Result<u64, (i32, TransmitterSide)>
         ensures closed { IfOk result (BoardEndsAt self) }
         ensures refused { IfErr result (λ r. (r.1 ≡ self) × IsBoardKept self r.0) }
     {
-        if self.transmitter.shares() != ALL_SHARES {
-            return Err((RECEIVERS_OUT, self));
-        }
         let TransmitterSide {
             board,
             identity,
             transmitter,
         } = self;
-        let board = match Arc::try_unwrap(board) {
-            Ok(board) => board,
+        match Arc::try_unwrap(board) {
+            Ok(board) => Ok(board.rescue(transmitter).tail()),
             Err(board) => {
+                let code = if transmitter.shares() == ALL_SHARES {
+                    IN_USE
+                } else {
+                    RECEIVERS_OUT
+                };
                 let kept = TransmitterSide {
                     board,
                     identity,
                     transmitter,
                 };
-                return Err((IN_USE, kept));
+                Err((code, kept))
             }
-        };
-        match board.close(transmitter) {
-            Ok(closed) => Ok(closed.tail()),
-            Err(_refused) => unreachable!(),
         }
     }
 }

@@ -5,10 +5,10 @@ ghost use Rattle.std.specs.Prelude.{◌≡◌};
 ghost use Rattle.std.specs.Arc.{arc_value};
 ghost use Rattle.ring_rings.specs.Seats.{open_claims_of, IsProducerOf};
 ghost use Rattle.ring_board.specs.Seats.{IsReceiverOf};
-ghost use Rattle.ring_conductor.specs.Asking.{producer_of, receiver_of};
+ghost use Rattle.ring_service.specs.Asking.{producer_of, receiver_of};
 
 use crate::lending::Shared;
-use ring_conductor::Client;
+use ring_service::Client;
 use std::sync::Arc;
 
 /// A client, with what its conductor shares.

@@ -9,11 +9,11 @@ ghost use Rattle.std.specs.Prelude.{◌≡◌};
 ghost use Rattle.std.specs.Arc.{arc_value};
 ghost use Rattle.ring_rings.specs.Seats.{open_claims_of, IsConsumerOf, IsProducerOf};
 ghost use Rattle.ring_board.specs.Seats.{shares_of as board_shares_of};
-ghost use Rattle.ring_conductor.specs.Conducting.{transmitter_of, IsConductorOf};
+ghost use Rattle.ring_service.specs.Conducting.{transmitter_of, IsConductorOf};
 
 use crate::lending::Shared;
-use ring_conductor::Conductor;
 use ring_rings::Producer;
+use ring_service::Conductor;
 use std::sync::Arc;
 
 /// A conductor, with what it shares with its handles, and the producer that those of clients are split from.

@@ -17,14 +17,14 @@ pub struct ConsumerSide {
     /// The ring's.
     pub(crate) identity: Identity,
     pub(crate) consumer: Consumer,
-    /// The ring's producer, once nothing is written any more.
+    /// The ring's producer, once it was taken in.
     pub(crate) last: Option<Producer>,
 }
 
 impl Model for ConsumerSide {
     ghost use Rattle.std.specs.Option.{option_map};
     ghost use Rattle.ring_rings.specs.Seats.{consumer_view, view_of};
-    ghost use Rattle.ring_handles.specs.Side.{capacity_in, is_many, table_in, IsConsumerIn, IsLastIn, Reading};
+    ghost use Rattle.ring_handles.specs.Side.{capacity_in, is_many, start_in, table_in, IsConsumerIn, IsLastIn, Reading};
 
     ghost Value = { Reading };
 
@@ -33,6 +33,7 @@ impl Model for ConsumerSide {
       table = table_in a.ring;
       identity = a.identity;
       capacity = capacity_in a.ring;
+      start = start_in a.ring;
       view = consumer_view a.consumer;
       last =
           option_map view_of a.last;

@@ -6,7 +6,7 @@ ghost use Rattle.ring_rings.specs.Seats.{consumer_view, view_of};
 ghost use Rattle.ring_handles.specs.Conducting.{IsConductorCode};
 ghost use Rattle.ring_handles.specs.Opening.{HoldFresh, HoldFreshCounters, HoldNewBoard, HoldNewConductor, HoldPair};
 ghost use Rattle.ring_handles.specs.Opening.{IsBoardCode, IsCountersCode, IsMakeCode};
-ghost use Rattle.ring_handles.specs.Side.{capacity_in, is_many, table_in, IsConsumerIn, IsProducerIn};
+ghost use Rattle.ring_handles.specs.Side.{capacity_in, is_many, start_in, table_in, IsConsumerIn, IsProducerIn};
 
 use crate::boards::TransmitterSide;
 use crate::code::OUT_OF_MEMORY;
@@ -80,11 +80,11 @@ fn box_both(
     consumer: Consumer,
 ) -> Result<Pair, i32>
     requires same { (is_many same ≡ is_many ring) × (table_in same ≡ table_in ring)
-        × (capacity_in same ≡ capacity_in ring) }
+        × (capacity_in same ≡ capacity_in ring) × (start_in same ≡ start_in ring) }
     requires producer { IsProducerIn ring producer }
     requires consumer { IsConsumerIn same consumer }
     ensures made { IfOk result (λ made. HoldPair (is_many ring) identity (capacity_in ring)
-        (view_of producer) (consumer_view consumer) (Some made.0.value) (Some made.1.value)) }
+        (start_in ring) (view_of producer) (consumer_view consumer) (Some made.0.value) (Some made.1.value)) }
     ensures refused { IfErr result (λ code. code ≡ pos 3) }
 {
     let one = Held::Producer(ProducerSide {

@@ -1,10 +1,12 @@
 //! What a line asks of the conductor's side, commands among it.
+ghost use Rattle.ring_lines.specs.Forms.{kinds_of, Refuses};
 ghost use Rattle.ring_lines.specs.Text.{words_of};
-ghost use Rattle.std.specs.Prelude.{◌∷◌, IfOk, codes};
+ghost use Rattle.std.specs.Prelude.{◌∷◌, IfErr, IfOk, codes};
 
 use crate::fault::LineFault;
 use crate::lines::Words;
 use crate::moment::Moment;
+use crate::name::Name;
 use ring_protocol::Request;
 use std::alloc::Global;
 
@@ -37,110 +39,92 @@ pub enum ServiceCall {
 impl ServiceCall {
     ghost use Rattle.ring_lines.specs.ServiceLines.{AsksToServe};
 
-    /// Parses the words after the first one, which names the call.
-    pub(crate) fn parse(
-        alloc: Global,
-        name: &[u8],
-        words: &mut Words,
-    ) -> Result<ServiceCall, LineFault>
-        ensures { IfOk result (λ call. AsksToServe call (name.now ∷ words_of words.old.rest.now)) }
+    pub(crate) fn send(alloc: Global, words: &mut Words) -> Result<ServiceCall, LineFault>
+        ensures call { IfOk result (λ call. AsksToServe call (codes "send" ∷ words_of words.old.rest.now)) }
+        ensures bad { IfErr result (Refuses (kinds_of Name.Send) words.old) }
     {
-        match name {
-            _ if name == b"send".as_slice() => Self::send(alloc, words),
-            _ if name == b"work".as_slice() => Self::work(words),
-            _ if name == b"hear".as_slice() => Self::hear(words),
-            _ if name == b"owner".as_slice() => Self::owner(words),
-            _ if name == b"peek".as_slice() => Self::peek(words),
-            _ if name == b"listen".as_slice() => Self::listen(words),
-            _ if name == b"counters".as_slice() => Self::counters(words),
-            _ if name == b"watch".as_slice() => Self::watch(words),
-            _ if name == b"unwatch".as_slice() => Self::unwatch(words),
-            _ if name == b"free".as_slice() => Self::free(words),
-            _ if name == b"set".as_slice() => Self::set(words),
-            _ if name == b"own".as_slice() => Self::own(alloc, words),
-            _ if name == b"close".as_slice() => Self::close(words),
-            _ if name == b"allocate".as_slice() => Self::allocate(alloc, words),
-            _ => Err(LineFault::Bad),
-        }
-    }
-
-    fn send(alloc: Global, words: &mut Words) -> Result<ServiceCall, LineFault>
-        ensures { IfOk result (λ call. AsksToServe call (codes "send" ∷ words_of words.old.rest.now)) }
-    {
-        let type_id = words.number()?;
+        let type_id = words.i32()?;
         let body = words.bytes(alloc)?;
         words.finish()?;
         Ok(ServiceCall::Send { type_id, body })
     }
 
-    fn work(words: &mut Words) -> Result<ServiceCall, LineFault>
-        ensures { IfOk result (λ call. AsksToServe call (codes "work" ∷ words_of words.old.rest.now)) }
+    pub(crate) fn work(words: &mut Words) -> Result<ServiceCall, LineFault>
+        ensures call { IfOk result (λ call. AsksToServe call (codes "work" ∷ words_of words.old.rest.now)) }
+        ensures bad { IfErr result (Refuses (kinds_of Name.Work) words.old) }
     {
-        let ms = words.number()?;
-        let now = Moment::new(ms).ok_or(LineFault::Bad)?;
-        let limit = words.number()?;
+        let now = words.moment()?;
+        let limit = words.u32()?;
         words.finish()?;
         Ok(ServiceCall::Work { now, limit })
     }
 
-    fn listen(words: &mut Words) -> Result<ServiceCall, LineFault>
-        ensures { IfOk result (λ call. AsksToServe call (codes "listen" ∷ words_of words.old.rest.now)) }
+    pub(crate) fn listen(words: &mut Words) -> Result<ServiceCall, LineFault>
+        ensures call { IfOk result (λ call. AsksToServe call (codes "listen" ∷ words_of words.old.rest.now)) }
+        ensures bad { IfErr result (Refuses (kinds_of Name.Listen) words.old) }
     {
         words.finish()?;
         Ok(ServiceCall::Listen)
     }
 
-    fn hear(words: &mut Words) -> Result<ServiceCall, LineFault>
-        ensures { IfOk result (λ call. AsksToServe call (codes "hear" ∷ words_of words.old.rest.now)) }
+    pub(crate) fn hear(words: &mut Words) -> Result<ServiceCall, LineFault>
+        ensures call { IfOk result (λ call. AsksToServe call (codes "hear" ∷ words_of words.old.rest.now)) }
+        ensures bad { IfErr result (Refuses (kinds_of Name.Hear) words.old) }
     {
-        let number = words.number()?;
+        let number = words.usize()?;
         words.finish()?;
         Ok(ServiceCall::Hear { number })
     }
 
-    fn counters(words: &mut Words) -> Result<ServiceCall, LineFault>
-        ensures { IfOk result (λ call. AsksToServe call (codes "counters" ∷ words_of words.old.rest.now)) }
+    pub(crate) fn counters(words: &mut Words) -> Result<ServiceCall, LineFault>
+        ensures call { IfOk result (λ call. AsksToServe call (codes "counters" ∷ words_of words.old.rest.now)) }
+        ensures bad { IfErr result (Refuses (kinds_of Name.Counters) words.old) }
     {
         words.finish()?;
         Ok(ServiceCall::Counters)
     }
 
-    fn owner(words: &mut Words) -> Result<ServiceCall, LineFault>
-        ensures { IfOk result (λ call. AsksToServe call (codes "owner" ∷ words_of words.old.rest.now)) }
+    pub(crate) fn owner(words: &mut Words) -> Result<ServiceCall, LineFault>
+        ensures call { IfOk result (λ call. AsksToServe call (codes "owner" ∷ words_of words.old.rest.now)) }
+        ensures bad { IfErr result (Refuses (kinds_of Name.Owner) words.old) }
     {
-        let id = words.number()?;
+        let id = words.u32()?;
         words.finish()?;
         Ok(ServiceCall::Owner { id })
     }
 
-    fn watch(words: &mut Words) -> Result<ServiceCall, LineFault>
-        ensures { IfOk result (λ call. AsksToServe call (codes "watch" ∷ words_of words.old.rest.now)) }
+    pub(crate) fn watch(words: &mut Words) -> Result<ServiceCall, LineFault>
+        ensures call { IfOk result (λ call. AsksToServe call (codes "watch" ∷ words_of words.old.rest.now)) }
+        ensures bad { IfErr result (Refuses (kinds_of Name.Watch) words.old) }
     {
         words.finish()?;
         Ok(ServiceCall::Watch)
     }
 
-    fn peek(words: &mut Words) -> Result<ServiceCall, LineFault>
-        ensures { IfOk result (λ call. AsksToServe call (codes "peek" ∷ words_of words.old.rest.now)) }
+    pub(crate) fn peek(words: &mut Words) -> Result<ServiceCall, LineFault>
+        ensures call { IfOk result (λ call. AsksToServe call (codes "peek" ∷ words_of words.old.rest.now)) }
+        ensures bad { IfErr result (Refuses (kinds_of Name.Peek) words.old) }
     {
-        let number = words.number()?;
-        let id = words.number()?;
+        let number = words.usize()?;
+        let id = words.u32()?;
         words.finish()?;
         Ok(ServiceCall::Peek { number, id })
     }
 
-    fn unwatch(words: &mut Words) -> Result<ServiceCall, LineFault>
-        ensures { IfOk result (λ call. AsksToServe call (codes "unwatch" ∷ words_of words.old.rest.now)) }
+    pub(crate) fn unwatch(words: &mut Words) -> Result<ServiceCall, LineFault>
+        ensures call { IfOk result (λ call. AsksToServe call (codes "unwatch" ∷ words_of words.old.rest.now)) }
+        ensures bad { IfErr result (Refuses (kinds_of Name.Unwatch) words.old) }
     {
-        let number = words.number()?;
+        let number = words.usize()?;
         words.finish()?;
         Ok(ServiceCall::Unwatch { number })
     }
 
-    fn allocate(alloc: Global, words: &mut Words) -> Result<ServiceCall, LineFault>
-        ensures { IfOk result (λ call. AsksToServe call (codes "allocate" ∷ words_of words.old.rest.now)) }
+    pub(crate) fn allocate(alloc: Global, words: &mut Words) -> Result<ServiceCall, LineFault>
+        ensures call { IfOk result (λ call. AsksToServe call (codes "allocate" ∷ words_of words.old.rest.now)) }
+        ensures bad { IfErr result (Refuses (kinds_of Name.Allocate) words.old) }
     {
-        let type_id = words.number()?;
+        let type_id = words.i32()?;
         let key = words.bytes(alloc)?;
         let label = words.bytes(alloc)?;
         words.finish()?;
@@ -151,28 +135,31 @@ impl ServiceCall {
         }))
     }
 
-    fn free(words: &mut Words) -> Result<ServiceCall, LineFault>
-        ensures { IfOk result (λ call. AsksToServe call (codes "free" ∷ words_of words.old.rest.now)) }
+    pub(crate) fn free(words: &mut Words) -> Result<ServiceCall, LineFault>
+        ensures call { IfOk result (λ call. AsksToServe call (codes "free" ∷ words_of words.old.rest.now)) }
+        ensures bad { IfErr result (Refuses (kinds_of Name.Free) words.old) }
     {
-        let id = words.number()?;
+        let id = words.u32()?;
         words.finish()?;
         Ok(ServiceCall::Request(Request::Free { id }))
     }
 
-    fn set(words: &mut Words) -> Result<ServiceCall, LineFault>
-        ensures { IfOk result (λ call. AsksToServe call (codes "set" ∷ words_of words.old.rest.now)) }
+    pub(crate) fn set(words: &mut Words) -> Result<ServiceCall, LineFault>
+        ensures call { IfOk result (λ call. AsksToServe call (codes "set" ∷ words_of words.old.rest.now)) }
+        ensures bad { IfErr result (Refuses (kinds_of Name.Set) words.old) }
     {
-        let id = words.number()?;
-        let value = words.number()?;
+        let id = words.u32()?;
+        let value = words.i64()?;
         words.finish()?;
         Ok(ServiceCall::Request(Request::Set { id, value }))
     }
 
-    fn own(alloc: Global, words: &mut Words) -> Result<ServiceCall, LineFault>
-        ensures { IfOk result (λ call. AsksToServe call (codes "own" ∷ words_of words.old.rest.now)) }
+    pub(crate) fn own(alloc: Global, words: &mut Words) -> Result<ServiceCall, LineFault>
+        ensures call { IfOk result (λ call. AsksToServe call (codes "own" ∷ words_of words.old.rest.now)) }
+        ensures bad { IfErr result (Refuses (kinds_of Name.Own) words.old) }
     {
-        let owner = words.number()?;
-        let type_id = words.number()?;
+        let owner = words.u64()?;
+        let type_id = words.i32()?;
         let key = words.bytes(alloc)?;
         let label = words.bytes(alloc)?;
         words.finish()?;
@@ -184,10 +171,11 @@ impl ServiceCall {
         }))
     }
 
-    fn close(words: &mut Words) -> Result<ServiceCall, LineFault>
-        ensures { IfOk result (λ call. AsksToServe call (codes "close" ∷ words_of words.old.rest.now)) }
+    pub(crate) fn close(words: &mut Words) -> Result<ServiceCall, LineFault>
+        ensures call { IfOk result (λ call. AsksToServe call (codes "close" ∷ words_of words.old.rest.now)) }
+        ensures bad { IfErr result (Refuses (kinds_of Name.Close) words.old) }
     {
-        let owner = words.number()?;
+        let owner = words.u64()?;
         words.finish()?;
         Ok(ServiceCall::Request(Request::Close { owner }))
     }

@@ -87,15 +87,28 @@ fn label_cell(alloc: Global, label: Body<'_>) -> Result<Cell, AllocError> {
     bodies::cell(alloc, Bodies::Text, bytes.as_slice())
 }
 
+/// The cells of its value record: its value, its registration id and its owner; nothing if the values are not known.
+fn value_cells(counter: &Counter<'_>, has_values: bool) -> (Cell, Cell, Cell) {
+    if !has_values {
+        return (Cell::Nothing, Cell::Nothing, Cell::Nothing);
+    }
+    (
+        Cell::Signed(counter.value),
+        Cell::Unsigned(counter.registration),
+        Cell::Unsigned(counter.owner),
+    )
+}
+
 /// Its cells up to the label, one for each column.
-fn cells(alloc: Global, counter: &Counter<'_>) -> Result<Vec<Cell>, AllocError> {
+fn cells(alloc: Global, counter: &Counter<'_>, has_values: bool) -> Result<Vec<Cell>, AllocError> {
+    let (value, registration, owner) = value_cells(counter, has_values);
     let cells = vec![in alloc;
         Cell::Unsigned(u64::from(counter.id)),
         Cell::State(state_of(counter.state)),
         Cell::Signed(i64::from(counter.type_id)),
-        Cell::Signed(counter.value),
-        Cell::Unsigned(counter.registration),
-        Cell::Unsigned(counter.owner),
+        value,
+        registration,
+        owner,
         deadline_cell(counter.deadline),
     ]?;
     Ok(cells)
@@ -132,18 +145,49 @@ impl Tally {
     }
 }
 
+/// The words of a value record, of which the first three have the value, the registration id and the owner, and the
+/// others are 0.
+const VALUE_WORDS: usize = 16;
+
+/// The words of a value record in the memory of a program that runs: these three.
+const PACKED_WORDS: usize = 3;
+
+/// The words of a counter's metadata.
+const METADATA_WORDS: usize = 64;
+
+/// The value records with the words that are always 0 added to each, if they are of a program that runs; otherwise as
+/// they are.
+fn spread(alloc: Global, ids: usize, values: &[u64]) -> Result<Vec<u64>, AllocError> {
+    if values.len() / PACKED_WORDS != ids || values.len() % PACKED_WORDS != 0 {
+        return Vec::from_slice(alloc, values);
+    }
+    let mut words = Vec::new(alloc);
+    for record in values.chunks(PACKED_WORDS) {
+        words.extend_from_slice(record)?;
+        words.extend_from_slice(&[0; VALUE_WORDS - PACKED_WORDS])?;
+    }
+    Ok(words)
+}
+
 impl Report {
     /// What is in the words of counters, their metadata and their values, from the first id on, or from the one that
-    /// is asked for. Words that are not those of counters, and ids with a record that no counter has, are its findings.
+    /// is asked for. The records of values have 16 words each, or the three that a program which runs keeps of each;
+    /// `None` if it is not known where they are. Words that are not those of counters, and ids with a record that no
+    /// counter has, are its findings.
     pub fn of_counters(
         alloc: Global,
         metadata: &[u64],
-        values: &[u64],
+        values: Option<&[u64]>,
         view: View,
     ) -> Result<Report, AllocError> {
+        let ids = metadata.len() / METADATA_WORDS;
+        let words = match values {
+            Some(values) => spread(alloc, ids, values)?,
+            None => vec![in alloc; 0; metadata.len() / 4]?,
+        };
         let mut report = Report::empty(alloc, "counters", "counters");
-        match CountersSnapshot::new(metadata, values) {
-            Ok(counters) => report.add_counters(alloc, &counters, view)?,
+        match CountersSnapshot::new(metadata, words.as_slice()) {
+            Ok(counters) => report.add_counters(alloc, &counters, values.is_some(), view)?,
             Err(finding) => report.refuse(alloc, "not counters", finding)?,
         }
         Ok(report)
@@ -154,13 +198,14 @@ impl Report {
         &mut self,
         alloc: Global,
         view: View,
+        has_values: bool,
         counter: Counter<'_>,
     ) -> Result<(), AllocError> {
         if self.rows.len() as u64 >= view.limit.unwrap_or(u64::MAX) {
             self.unlisted = self.unlisted.saturating_add(1);
             return Ok(());
         }
-        let mut row = cells(alloc, &counter)?;
+        let mut row = cells(alloc, &counter, has_values)?;
         push_texts(alloc, &mut row, view.bodies, counter)?;
         self.rows.push(row)?;
         Ok(())
@@ -171,6 +216,7 @@ impl Report {
         &mut self,
         alloc: Global,
         counters: &CountersSnapshot<'_>,
+        has_values: bool,
         view: View,
     ) -> Result<(), AllocError> {
         let mut tally = Tally::default();
@@ -179,7 +225,7 @@ impl Report {
             match entry {
                 Ok(counter) => {
                     tally.count(counter.state);
-                    self.add_counter(alloc, view, counter)?;
+                    self.add_counter(alloc, view, has_values, counter)?;
                 }
                 Err(finding) => self.find(alloc, finding)?,
             }
@@ -189,7 +235,11 @@ impl Report {
         } else {
             &COLUMNS
         };
-        self.sum_up(counters.count(), tally)
+        self.sum_up(counters.count(), tally)?;
+        if !has_values {
+            self.summary.push_str("; their values are not known")?;
+        }
+        Ok(())
     }
 
     /// Adds what holds of the whole, of this many ids.

@@ -1,4 +1,5 @@
 //! Why no words were read.
+use crate::printable::Printable;
 use std::fmt;
 use std::io::ErrorKind;
 
@@ -27,7 +28,7 @@ pub struct InputFault<'a> {
 }
 
 /// What the system said, as people say it.
-fn reason(kind: ErrorKind) -> &'static str {
+pub fn reason(kind: ErrorKind) -> &'static str {
     match kind {
         ErrorKind::NotFound => "no such file",
         ErrorKind::PermissionDenied => "permission denied",
@@ -37,17 +38,26 @@ fn reason(kind: ErrorKind) -> &'static str {
     }
 }
 
+impl Cause {
+    /// What is said before the name of the file, and after it.
+    fn around(self) -> (&'static str, &'static str) {
+        match self {
+            Cause::Unopened(kind) => ("cannot open ", reason(kind)),
+            Cause::Unread(kind) => ("cannot read ", reason(kind)),
+            Cause::TooLarge => (
+                "",
+                "the section is too large: at most 16777984 bytes are read",
+            ),
+            Cause::TooShort => ("", "the file ends before the section does"),
+            Cause::NotWords => ("", "the section is not made of words of 8 bytes"),
+            Cause::OutOfMemory => ("", "out of memory"),
+        }
+    }
+}
+
 impl<'a> fmt::Display for InputFault<'a> {
     fn fmt<W: fmt::Write>(&self, f: &mut fmt::Formatter<W>) -> fmt::Result {
-        let file = self.file;
-        let text = match self.cause {
-            Cause::Unopened(kind) => return write!(f, "cannot open {file}: {}", reason(kind)),
-            Cause::Unread(kind) => return write!(f, "cannot read {file}: {}", reason(kind)),
-            Cause::TooLarge => "the section is too large: at most 16777984 bytes are read",
-            Cause::TooShort => "the file ends before the section does",
-            Cause::NotWords => "the section is not made of words of 8 bytes",
-            Cause::OutOfMemory => "out of memory",
-        };
-        write!(f, "{file}: {text}")
+        let (file, (before, after)) = (Printable(self.file), self.cause.around());
+        write!(f, "{before}{file}: {after}")
     }
 }

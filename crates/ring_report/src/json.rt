@@ -1,4 +1,5 @@
 //! A report as JSON.
+use crate::origin::Origin;
 use crate::report::{Cell, Column, Field, Report};
 use serde_json::{Map, Value, put};
 use std::alloc::{AllocError, Global};
@@ -13,11 +14,30 @@ fn value_of(alloc: Global, cell: &Cell) -> Result<Value, AllocError> {
     })
 }
 
+fn add_cell(
+    object: &mut Map<String, Value>,
+    alloc: Global,
+    column: &Column,
+    cell: &Cell,
+) -> Result<(), AllocError> {
+    put(object, alloc, column.name, value_of(alloc, cell)?)
+}
+
+fn add_cells(
+    object: &mut Map<String, Value>,
+    alloc: Global,
+    columns: &[Column],
+    row: &[Cell],
+) -> Result<(), AllocError> {
+    for (column, cell) in columns.iter().zip(row) {
+        add_cell(object, alloc, column, cell)?;
+    }
+    Ok(())
+}
+
 fn row_value(alloc: Global, columns: &[Column], row: &[Cell]) -> Result<Value, AllocError> {
     let mut object = Map::new(alloc);
-    for (column, cell) in columns.iter().zip(row) {
-        put(&mut object, alloc, column.name, value_of(alloc, cell)?)?;
-    }
+    add_cells(&mut object, alloc, columns, row)?;
     Ok(Value::from(object))
 }
 
@@ -56,20 +76,81 @@ fn object_of(alloc: Global, fields: &[Field]) -> Result<Value, AllocError> {
     Ok(Value::from(object))
 }
 
+/// A number, or `null`.
+fn number_value(number: Option<u64>) -> Value {
+    number.map_or(Value::Null, Value::from)
+}
+
+/// Adds texts with their names.
+fn add_texts(
+    object: &mut Map<String, Value>,
+    alloc: Global,
+    members: &[(&'static str, &str)],
+) -> Result<(), AllocError> {
+    for (name, text) in members {
+        put(object, alloc, name, Value::try_from_str(alloc, text)?)?;
+    }
+    Ok(())
+}
+
+/// Adds the file, the place and the name.
+fn add_origin(
+    object: &mut Map<String, Value>,
+    alloc: Global,
+    origin: Origin<'_>,
+) -> Result<(), AllocError> {
+    let (what, source) = origin.source();
+    put(object, alloc, what, Value::try_from_str(alloc, source)?)?;
+    put(object, alloc, "address", Value::from(origin.at))?;
+    match origin.name {
+        Some(name) => put(object, alloc, "name", Value::try_from_str(alloc, name)?),
+        None => Ok(()),
+    }
+}
+
 impl Report {
-    /// The report as an object of JSON, on lines of its own: what it is, its fields and details, how many of each kind
-    /// there are, the list, how many rows were left out, and the findings.
-    pub fn to_json(&self, alloc: Global) -> Result<String, AllocError> {
-        let mut text = self.object(alloc)?.to_string_pretty(alloc)?;
+    /// The report as an object of JSON, on lines of its own: what it is and from where, its fields and details, how
+    /// many of each kind there are, the list, how many rows were left out, and the findings.
+    pub fn to_json(&self, alloc: Global, origin: Option<Origin<'_>>) -> Result<String, AllocError> {
+        let mut text = self.object(alloc, origin)?.to_string_pretty(alloc)?;
         text.push('\n')?;
         Ok(text)
     }
 
-    fn object(&self, alloc: Global) -> Result<Value, AllocError> {
+    /// The same object with members of a caller, which are texts, on one line: the form of one document of several.
+    pub fn to_json_line(
+        &self,
+        alloc: Global,
+        origin: Option<Origin<'_>>,
+        members: &[(&'static str, &str)],
+    ) -> Result<String, AllocError> {
         let mut object = Map::new(alloc);
-        self.add_whole(&mut object, alloc)?;
-        self.add_list(&mut object, alloc)?;
+        add_texts(&mut object, alloc, members)?;
+        self.add_all(&mut object, alloc, origin)?;
+        let mut text = Value::from(object).to_string(alloc)?;
+        text.push('\n')?;
+        Ok(text)
+    }
+
+    fn object(&self, alloc: Global, origin: Option<Origin<'_>>) -> Result<Value, AllocError> {
+        let mut object = Map::new(alloc);
+        self.add_all(&mut object, alloc, origin)?;
         Ok(Value::from(object))
+    }
+
+    /// Adds all members.
+    fn add_all(
+        &self,
+        object: &mut Map<String, Value>,
+        alloc: Global,
+        origin: Option<Origin<'_>>,
+    ) -> Result<(), AllocError> {
+        if let Some(origin) = origin {
+            add_origin(object, alloc, origin)?;
+        }
+        self.add_whole(object, alloc)?;
+        self.add_standing(object, alloc)?;
+        self.add_list(object, alloc)
     }
 
     /// Adds what it is, its fields and details, and how many of each kind there are.
@@ -80,6 +161,39 @@ impl Report {
         put(object, alloc, "counts", counts)?;
         let kind = Value::try_from_str(alloc, self.kind)?;
         put(object, alloc, "kind", kind)
+    }
+
+    /// Adds where a read of a ring stops, for how long its consumer was blocked there, and whether the positions stayed
+    /// the same.
+    fn add_standing(
+        &self,
+        object: &mut Map<String, Value>,
+        alloc: Global,
+    ) -> Result<(), AllocError> {
+        if self.kind == "counters" {
+            return Ok(());
+        }
+        put(object, alloc, "settled", Value::from(self.is_settled))?;
+        if self.kind == "ring" {
+            let place = self.stop.map(|stop| stop.place);
+            let blocked_at = if self.is_blocked() { place } else { None };
+            put(object, alloc, "stops_at", number_value(place))?;
+            put(object, alloc, "blocked_at", number_value(blocked_at))?;
+            put(object, alloc, "blocked_ms", number_value(self.blocked_ms))?;
+            self.add_claim(object, alloc)?;
+        }
+        Ok(())
+    }
+
+    /// Adds the type id and the length of the open claim at which a read stops.
+    fn add_claim(&self, object: &mut Map<String, Value>, alloc: Global) -> Result<(), AllocError> {
+        let claim = self.stop.and_then(|stop| stop.claim);
+        let (type_id, length) = match claim {
+            Some(claim) => (Value::from(claim.type_id), Value::from(claim.length)),
+            None => (Value::Null, Value::Null),
+        };
+        put(object, alloc, "open_type", type_id)?;
+        put(object, alloc, "open_length", length)
     }
 
     /// Adds the list, how many rows were left out, and the findings.

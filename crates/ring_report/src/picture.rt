@@ -69,17 +69,34 @@ impl Picture {
         }
     }
 
+    /// Adds the letters of the byte indexes that are in this piece.
+    fn push_signs(
+        &self,
+        line: &mut String,
+        piece: usize,
+        signs: &[(char, u64)],
+    ) -> Result<(), AllocError> {
+        for (letter, index) in signs {
+            if self.piece(*index) == piece {
+                line.push(*letter)?;
+            }
+        }
+        Ok(())
+    }
+
+    /// Adds the pieces.
+    fn push_pieces(&self, line: &mut String, signs: &[(char, u64)]) -> Result<(), AllocError> {
+        for (k, mark) in self.marks.iter().enumerate().take(self.width as usize) {
+            self.push_signs(line, k, signs)?;
+            line.push(mark.letter())?;
+        }
+        Ok(())
+    }
+
     /// Adds the line, with letters before the pieces of these byte indexes.
     pub fn push_line(&self, line: &mut String, signs: &[(char, u64)]) -> Result<(), AllocError> {
         line.push('[')?;
-        for (k, mark) in self.marks.iter().enumerate().take(self.width as usize) {
-            for (letter, index) in signs {
-                if self.piece(*index) == k {
-                    line.push(*letter)?;
-                }
-            }
-            line.push(mark.letter())?;
-        }
+        self.push_pieces(line, signs)?;
         line.push(']')
     }
 }

@@ -1,127 +1,214 @@
-//! A report in the text format of Prometheus.
+//! Reports in the text format of Prometheus.
+use crate::origin::{Origin, push_escaped};
 use crate::report::{Cell, Report, number};
 use crate::state::State;
 use std::alloc::{AllocError, Global};
 use std::fmt::Write;
 
-/// A metric without labels: its name, its kind and its help.
-type Metric = (&'static str, &'static str, &'static str);
-
-static RING_CAPACITY: Metric = (
-    "ring_capacity_bytes",
-    "gauge",
-    "The bytes of the ring's buffer.",
-);
-
-static RING_USED: Metric = (
-    "ring_used_bytes",
-    "gauge",
-    "The bytes that are claimed and not yet read.",
-);
-
-static RING_WRITTEN: Metric = (
-    "ring_written_bytes_total",
-    "counter",
-    "The bytes that were claimed in all: the tail.",
-);
-
-static RING_READ: Metric = (
-    "ring_read_bytes_total",
-    "counter",
-    "The bytes that were read in all: the head.",
-);
-
-static RING_BLOCKED: Metric = (
-    "ring_blocked",
-    "gauge",
-    "1 if the consumer is blocked by an open record, otherwise 0.",
-);
-
-static BROADCAST_CAPACITY: Metric = (
-    "broadcast_capacity_bytes",
-    "gauge",
-    "The bytes of the broadcast buffer.",
-);
-
-static BROADCAST_POSITION: Metric = (
-    "broadcast_position_bytes",
-    "counter",
-    "The bytes that were transmitted in all: the tail.",
-);
-
-static FINDINGS: Metric = ("findings", "gauge", "How many findings the memory has.");
-
-/// The lines of a metric.
-fn push_metric(text: &mut String, metric: Metric, value: u64) -> Result<(), AllocError> {
-    let (name, kind, help) = metric;
-    writeln!(
-        text,
-        "\
-# HELP felter_{name} {help}
-# TYPE felter_{name} {kind}
-felter_{name} {value}"
-    )
+/// A report, and its file and place.
+#[derive(Clone, Copy)]
+pub struct Labelled<'a> {
+    /// The report.
+    pub report: &'a Report,
+    /// Its file and place: the labels of its metrics. `None` gives them no label.
+    pub origin: Option<Origin<'a>>,
 }
 
-/// The metrics of a ring. A ring whose positions make no sense has no `used`.
-fn push_ring(text: &mut String, report: &Report) -> Result<(), AllocError> {
-    let (numbers, details) = (report.fields.as_slice(), report.details.as_slice());
-    let Some(capacity) = number(numbers, "capacity") else {
-        return Ok(());
-    };
-    let used = number(details, "free").map(|free| capacity.saturating_sub(free));
-    let is_blocked = number(details, "blocked_at").is_some();
-    for (metric, value) in [
-        (RING_CAPACITY, Some(capacity)),
-        (RING_USED, used),
-        (RING_WRITTEN, number(numbers, "tail").or(Some(0))),
-        (RING_READ, number(numbers, "head").or(Some(0))),
-        (RING_BLOCKED, Some(u64::from(is_blocked))),
-    ] {
-        if let Some(value) = value {
-            push_metric(text, metric, value)?;
+/// The number of a metric.
+#[derive(Clone, Copy)]
+enum Number {
+    /// The number of the whole with this name.
+    Field(&'static str),
+    /// The bytes that are claimed and not yet read.
+    Used,
+    /// 1 if the positions stayed the same.
+    Settled,
+    /// 1 if two looks saw the consumer blocked.
+    Blocked,
+    /// For how many milliseconds they did.
+    BlockedMillis,
+    /// The number of findings.
+    Findings,
+}
+
+/// A metric that a report has at most once.
+struct Metric {
+    /// The kind of report that has it, or any for an empty text.
+    of: &'static str,
+    name: &'static str,
+    /// `gauge` or `counter`.
+    kind: &'static str,
+    help: &'static str,
+    number: Number,
+}
+
+static METRICS: [Metric; 11] = [
+    Metric {
+        of: "ring",
+        name: "ring_capacity_bytes",
+        kind: "gauge",
+        help: "The bytes of the ring's buffer.",
+        number: Number::Field("capacity"),
+    },
+    Metric {
+        of: "ring",
+        name: "ring_used_bytes",
+        kind: "gauge",
+        help: "The bytes that are claimed and not yet read.",
+        number: Number::Used,
+    },
+    Metric {
+        of: "ring",
+        name: "ring_written_bytes_total",
+        kind: "counter",
+        help: "The bytes that were claimed in all: the tail.",
+        number: Number::Field("tail"),
+    },
+    Metric {
+        of: "ring",
+        name: "ring_read_bytes_total",
+        kind: "counter",
+        help: "The bytes that were read in all: the head.",
+        number: Number::Field("head"),
+    },
+    Metric {
+        of: "ring",
+        name: "ring_settled",
+        kind: "gauge",
+        help: "1 if the positions stayed the same while the ring was read, otherwise 0.",
+        number: Number::Settled,
+    },
+    Metric {
+        of: "ring",
+        name: "ring_blocked",
+        kind: "gauge",
+        help: "1 if two looks saw the same open record at which a read stops, and the same head, otherwise 0.",
+        number: Number::Blocked,
+    },
+    Metric {
+        of: "ring",
+        name: "ring_blocked_seconds",
+        kind: "gauge",
+        help: "The time between these two looks, 0 if the ring is not blocked.",
+        number: Number::BlockedMillis,
+    },
+    Metric {
+        of: "board",
+        name: "broadcast_capacity_bytes",
+        kind: "gauge",
+        help: "The bytes of the broadcast buffer.",
+        number: Number::Field("capacity"),
+    },
+    Metric {
+        of: "board",
+        name: "broadcast_transmitted_bytes_total",
+        kind: "counter",
+        help: "The bytes that were transmitted in all: the tail.",
+        number: Number::Field("tail"),
+    },
+    Metric {
+        of: "board",
+        name: "broadcast_settled",
+        kind: "gauge",
+        help: "1 if the positions stayed the same while the broadcast buffer was read, otherwise 0.",
+        number: Number::Settled,
+    },
+    Metric {
+        of: "",
+        name: "findings",
+        kind: "gauge",
+        help: "How many findings the memory has.",
+        number: Number::Findings,
+    },
+];
+
+/// The bytes that are claimed and not yet read. `None` if the positions make no sense.
+fn used(report: &Report) -> Option<u64> {
+    let capacity = report.number("capacity")?;
+    let free = number(report.details.as_slice(), "free")?;
+    Some(capacity.saturating_sub(free))
+}
+
+/// A number of a report.
+fn number_of(report: &Report, wanted: Number) -> Option<u64> {
+    match wanted {
+        Number::Field(name) => report.number(name),
+        Number::Used => used(report),
+        Number::Settled => Some(u64::from(report.is_settled)),
+        Number::Blocked => Some(u64::from(report.is_blocked())),
+        Number::BlockedMillis => Some(report.blocked_ms.unwrap_or(0)),
+        Number::Findings => Some(report.findings.len() as u64),
+    }
+}
+
+impl Metric {
+    /// The number that a report has of this metric, if it has one. Memory that is not what it was said to be has no
+    /// number but that of its findings.
+    fn number_in(&self, report: &Report) -> Option<u64> {
+        if self.of.is_empty() {
+            return number_of(report, self.number);
+        }
+        if self.of != report.kind || report.number("capacity").is_none() {
+            return None;
+        }
+        number_of(report, self.number)
+    }
+
+    /// The lines that come before the first sample.
+    fn push_head(&self, text: &mut String) -> Result<(), AllocError> {
+        let Metric {
+            name,
+            kind,
+            help,
+            ..
+        } = self;
+        write!(
+            text,
+            "# HELP felter_{name} {help}\n# TYPE felter_{name} {kind}\n"
+        )
+    }
+
+    /// The line of a sample. Times are in seconds.
+    fn push_sample(
+        &self,
+        text: &mut String,
+        origin: Option<Origin<'_>>,
+        number: u64,
+    ) -> Result<(), AllocError> {
+        write!(text, "felter_{}", self.name)?;
+        if let Some(origin) = origin {
+            text.push('{')?;
+            origin.push_labels(text)?;
+            text.push('}')?;
+        }
+        match self.number {
+            Number::BlockedMillis => { writeln!(text, " {}.{:03}", number / 1000, number % 1000) }
+            _ => writeln!(text, " {number}"),
         }
     }
-    Ok(())
-}
 
-/// The metrics of a broadcast buffer.
-fn push_board(text: &mut String, report: &Report) -> Result<(), AllocError> {
-    let numbers = report.fields.as_slice();
-    let Some(capacity) = number(numbers, "capacity") else {
-        return Ok(());
-    };
-    push_metric(text, BROADCAST_CAPACITY, capacity)?;
-    push_metric(
-        text,
-        BROADCAST_POSITION,
-        number(numbers, "tail").unwrap_or(0),
-    )
-}
-
-/// How a letter of a label's value is escaped, if it is.
-fn escaped(letter: char) -> Option<&'static str> {
-    match letter {
-        '\\' => Some("\\\\"),
-        '"' => Some("\\\""),
-        '\n' => Some("\\n"),
-        _ => None,
-    }
-}
-
-/// A label's value between quotes, with a backslash before each backslash, quote and line's end.
-fn push_escaped(text: &mut String, value: &str) -> Result<(), AllocError> {
-    for letter in value.chars() {
-        match escaped(letter) {
-            Some(escape) => text.push_str(escape)?,
-            None => text.push(letter)?,
+    /// The lines of this metric in all reports that have it.
+    fn push_all(&self, text: &mut String, reports: &[Labelled<'_>]) -> Result<(), AllocError> {
+        let mut is_first = true;
+        for labelled in reports {
+            if let Some(number) = self.number_in(labelled.report) {
+                if is_first {
+                    self.push_head(text)?;
+                }
+                is_first = false;
+                self.push_sample(text, labelled.origin, number)?;
+            }
         }
+        Ok(())
     }
-    Ok(())
 }
 
-/// The line of a counter in use.
-fn push_counter(text: &mut String, row: &[Cell]) -> Result<(), AllocError> {
+/// The line of a counter in use whose value is known.
+fn push_counter(
+    text: &mut String,
+    origin: Option<Origin<'_>>,
+    row: &[Cell],
+) -> Result<(), AllocError> {
     let [
         Cell::Unsigned(id),
         Cell::State(State::InUse),
@@ -136,39 +223,43 @@ fn push_counter(text: &mut String, row: &[Cell]) -> Result<(), AllocError> {
     else {
         return Ok(());
     };
-    write!(
-        text,
-        "felter_counter{{id=\"{id}\",type=\"{type_id}\",label=\""
-    )?;
+    text.push_str("felter_counter{")?;
+    if let Some(origin) = origin {
+        origin.push_labels(text)?;
+        text.push(',')?;
+    }
+    write!(text, "id=\"{id}\",type=\"{type_id}\",label=\"")?;
     push_escaped(text, label.as_str())?;
     writeln!(text, "\",owner=\"{owner}\"}} {value}")
 }
 
-/// The counters in use.
-fn push_counters(text: &mut String, report: &Report) -> Result<(), AllocError> {
-    text.push_str("# HELP felter_counter The value of a counter in use.\n")?;
-    text.push_str("# TYPE felter_counter gauge\n")?;
-    for row in report.rows.iter() {
-        push_counter(text, row.as_slice())?;
+/// The lines of the counters in use of all reports that have counters.
+fn push_counters(text: &mut String, reports: &[Labelled<'_>]) -> Result<(), AllocError> {
+    text.push_str(
+        "\
+# HELP felter_counter The value of a counter in use, by its id, its type id, its label and its owner.
+# TYPE felter_counter gauge
+",
+    )?;
+    for labelled in reports {
+        for row in labelled.report.rows.iter() {
+            if labelled.report.kind == "counters" {
+                push_counter(text, labelled.origin, row.as_slice())?;
+            }
+        }
     }
     Ok(())
 }
 
-impl Report {
-    /// The report in the text format of Prometheus: a ring's or a broadcast buffer's positions, or the counters in use
-    /// that are listed, and the number of findings.
-    pub fn to_prometheus(&self, alloc: Global) -> Result<String, AllocError> {
-        let mut text = String::new(alloc);
-        self.push_metrics(&mut text)?;
-        push_metric(&mut text, FINDINGS, self.findings.len() as u64)?;
-        Ok(text)
+/// Reports in the text format of Prometheus, which has each metric once: the positions of rings and of broadcast
+/// buffers, the counters in use that are listed, and the number of findings of each report.
+pub fn to_prometheus(alloc: Global, reports: &[Labelled<'_>]) -> Result<String, AllocError> {
+    let mut text = String::new(alloc);
+    if reports.iter().any(|it| it.report.kind == "counters") {
+        push_counters(&mut text, reports)?;
     }
-
-    fn push_metrics(&self, text: &mut String) -> Result<(), AllocError> {
-        match self.kind {
-            "ring" => push_ring(text, self),
-            "board" => push_board(text, self),
-            _ => push_counters(text, self),
-        }
+    for metric in METRICS.iter() {
+        metric.push_all(&mut text, reports)?;
     }
+    Ok(text)
 }

@@ -3,6 +3,7 @@ ghost use Rattle.std.specs.Prelude.{◌≡◌, ◌<◌, ◌≤◌, length, OnOk,
 ghost use Rattle.std.specs.Iterator.{IsFinite};
 ghost use Rattle.ring_report.specs.Rows.{IsAppended, IsRowOf};
 
+use crate::blocked::{OpenClaim, Stop};
 use crate::bodies;
 use crate::picture::{Mark, Picture};
 use crate::report::{Cell, Column, Report, add_finding};
@@ -73,6 +74,17 @@ fn mark(picture: &mut Picture, capacity: u32, shown: &Shown<'_>) {
 }
 
 impl<'a> Shown<'a> {
+    /// Where a reader stops, if it is open.
+    fn open_stop(&self) -> Stop {
+        Stop {
+            place: self.place,
+            claim: Some(OpenClaim {
+                type_id: self.type_id,
+                length: self.length,
+            }),
+        }
+    }
+
     /// Its cells, one for each column.
     fn row(self, alloc: Global, bodies: Bodies) -> Result<Vec<Cell>, AllocError>
         ensures { IfOk result (λ row. IsRowOf self.entry.place self.entry.index self.entry.type_id self.entry.length
@@ -103,14 +115,16 @@ pub struct Tally {
     pub unstored: bool,
     /// The bytes of the records that are messages, from the start of each to the next one's.
     pub message_bytes: u64,
-    /// The place of the first record at which a reader stops.
-    pub blocked: Option<u64>,
+    /// The first record at which a reader stops.
+    pub stop: Option<Stop>,
 }
 
 impl Tally {
-    fn add(&mut self, mark: Mark, place: u64, length: u32) {
+    /// Counts a record.
+    fn add(&mut self, shown: &Shown<'_>) {
+        let mark = shown.state.mark();
         if matches!(mark, Mark::Committed | Mark::Lapped | Mark::Open) {
-            let span = align8(u64::from(length));
+            let span = align8(u64::from(shown.length));
             self.message_bytes = self.message_bytes.saturating_add(span);
         }
         match mark {
@@ -119,11 +133,14 @@ impl Tally {
             Mark::Aborted | Mark::AbortedOrPadding => self.passed = self.passed.saturating_add(1),
             Mark::Open => {
                 self.open = self.open.saturating_add(1);
-                self.blocked = self.blocked.or(Some(place));
+                self.stop = self.stop.or(Some(shown.open_stop()));
             }
             Mark::Unstored => {
                 self.unstored = true;
-                self.blocked = self.blocked.or(Some(place));
+                self.stop = self.stop.or(Some(Stop {
+                    place: shown.place,
+                    claim: None,
+                }));
             }
             Mark::Free => {}
         }
@@ -171,8 +188,7 @@ impl Listed {
         ensures limit { self.new.limit ≡ self.old.limit }
     {
         mark(&mut self.picture, self.capacity, &shown);
-        self.tally
-            .add(shown.state.mark(), shown.place, shown.length);
+        self.tally.add(&shown);
         if rows.len() as u64 >= self.limit {
             self.unlisted = self.unlisted.saturating_add(1);
             return Ok(());

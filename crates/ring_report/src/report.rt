@@ -1,4 +1,5 @@
 //! What is shown, whatever it is and however it is printed.
+use crate::blocked::Stop;
 use crate::state::State;
 use std::alloc::{AllocError, Global};
 use std::fmt::Display;
@@ -71,6 +72,13 @@ pub struct Report {
     pub message_bytes: u64,
     /// The number of each kind, in one line.
     pub summary: String,
+    /// The first record at which the consumer of a ring stops.
+    pub stop: Option<Stop>,
+    /// For how many milliseconds at least the consumer was blocked there, if two looks saw it.
+    pub blocked_ms: Option<u64>,
+    /// Whether the positions stayed the same while the memory was read. If they did not, what is listed can be of
+    /// different moments, so that it is no finding.
+    pub is_settled: bool,
     /// What is wrong with the memory, one text each.
     pub findings: Vec<String>,
 }
@@ -95,6 +103,9 @@ impl Report {
             details: Vec::new(alloc),
             message_bytes: 0,
             summary: String::new(alloc),
+            stop: None,
+            blocked_ms: None,
+            is_settled: true,
             findings: Vec::new(alloc),
         }
     }

@@ -66,16 +66,11 @@ fn add_counts(
         Field::new("open", u64::from(tally.open)),
         Field::new("aborted_or_padding", u64::from(tally.passed)),
     ])?;
-    report.details.extend_from_slice(&[
-        Field {
-            name: "blocked_at",
-            value: tally.blocked,
-        },
-        Field {
-            name: "free",
-            value: free(ring),
-        },
-    ])
+    report.stop = tally.stop;
+    report.details.extend_from_slice(&[Field {
+        name: "free",
+        value: free(ring),
+    }])
 }
 
 /// Adds all of it in one line.
@@ -90,9 +85,6 @@ fn sum_up(text: &mut String, ring: &RingSnapshot<'_>, tally: Tally) -> Result<()
     }
     if let Some(free) = free(ring) {
         write!(text, "; {free} of {} bytes free", ring.capacity())?;
-    }
-    if let Some(place) = tally.blocked {
-        write!(text, "; blocked at {place}")?;
     }
     Ok(())
 }

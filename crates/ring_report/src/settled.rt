@@ -1,28 +1,16 @@
 //! Reading memory that others may change at the same time.
+ghost use Rattle.std.specs.Prelude.{◌≡◌, [], false, IfOk};
+
 use crate::input::{Section, section_words};
 use crate::input_fault::InputFault;
 use crate::report::Report;
 use ring_snapshot::{BoardSnapshot, RingSnapshot, formatted_header, join_bodies};
 use std::alloc::{AllocError, Global};
-use std::fmt::{self, Display, Formatter, Write};
 use std::io::Input;
 use std::rt::Files;
 
 /// How often memory is read again at most.
 const READS: u32 = 3;
-
-/// The finding that positions changed all the time.
-#[derive(Clone, Copy)]
-struct Unsettled;
-
-impl Display for Unsettled {
-    fn fmt<W: Write>(&self, f: &mut Formatter<W>) -> fmt::Result {
-        write!(
-            f,
-            "Unsettled: positions changed during each of {READS} reads"
-        )
-    }
-}
 
 /// Words, and whether their positions stayed the same while they were read.
 #[derive(Drop)]
@@ -130,15 +118,19 @@ pub fn ring_words<'a, R: AllocGlobal + Files + Input>(
     }
 }
 
-/// A report of words, with the finding that positions changed all the time if the words are not settled.
-pub fn note_unsettled(
-    alloc: Global,
+/// A report of words, and whether they are settled. Words that are not settled can be of different moments, so that
+/// what looks wrong with them is no finding.
+pub fn note_settled(
     report: Result<Report, AllocError>,
     is_settled: bool,
-) -> Result<Report, AllocError> {
+) -> Result<Report, AllocError>
+    ensures noted { IfOk result (λ r. r.is_settled ≡ is_settled) }
+    ensures no_finding { is_settled ≡ false → IfOk result (λ r. r.findings.items ≡ []) }
+{
     let mut report = report?;
+    report.is_settled = is_settled;
     if !is_settled {
-        report.find(alloc, Unsettled)?;
+        report.findings.clear();
     }
     Ok(report)
 }

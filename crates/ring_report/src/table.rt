@@ -212,7 +212,7 @@ impl Report {
         if self.unlisted > 0 {
             writeln!(text, "({} more)", self.unlisted)?;
         }
-        text.push_str(self.summary.as_str())?;
+        self.push_summary(text)?;
         text.push('\n')
     }
 

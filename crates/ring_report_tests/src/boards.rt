@@ -97,29 +97,10 @@ fn sums_up_a_transmission_that_runs(rt: HostRuntime) {
 }
 
 #[test]
-fn shows_metrics(rt: HostRuntime) {
-    shows(
-        &rt,
-        report_of(&rt, rt.alloc(), 360, None).to_prometheus(rt.alloc()),
-        "\
-# HELP felter_broadcast_capacity_bytes The bytes of the broadcast buffer.
-# TYPE felter_broadcast_capacity_bytes gauge
-felter_broadcast_capacity_bytes 256
-# HELP felter_broadcast_position_bytes The bytes that were transmitted in all: the tail.
-# TYPE felter_broadcast_position_bytes counter
-felter_broadcast_position_bytes 360
-# HELP felter_findings How many findings the memory has.
-# TYPE felter_findings gauge
-felter_findings 0
-",
-    );
-}
-
-#[test]
 fn shows_json(rt: HostRuntime) {
     shows(
         &rt,
-        report_of(&rt, rt.alloc(), 360, Some(336)).to_json(rt.alloc()),
+        report_of(&rt, rt.alloc(), 360, Some(336)).to_json(rt.alloc(), None),
         r#"{
   "capacity": 256,
   "counts": {
@@ -140,6 +121,7 @@ fn shows_json(rt: HostRuntime) {
       "type": 5
     }
   ],
+  "settled": true,
   "tail": 360,
   "tail_intent": 360,
   "unlisted": 0

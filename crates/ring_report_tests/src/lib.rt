@@ -6,6 +6,8 @@ mod boards;
 #[cfg(test)]
 mod listing;
 #[cfg(test)]
+mod metrics;
+#[cfg(test)]
 mod printing;
 #[cfg(test)]
 mod rings_and_counters;

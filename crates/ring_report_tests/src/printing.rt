@@ -1,6 +1,6 @@
 //! Colours, widths, metrics, rates and the texts of faults.
 use crate::snapshots::{blocked, lapped, reused, shows, words_of, wrapped};
-use ring_report::{Bodies, Cause, InputFault, Report, View};
+use ring_report::{Bodies, Cause, InputFault, Printable, Report, View};
 use ring_snapshot::{CounterMetadata, CounterValueWords};
 use ring_words::SoloRing;
 use std::alloc::{AllocError, Global};
@@ -38,7 +38,7 @@ place  index  state               type  length
 \x1b[2m  120    120  aborted or padding    -1       8\x1b[0m
 \x1b[33m  128      0  open                   6      24\x1b[0m
   152     24  committed              7      18
-2 committed, 1 open, 2 aborted or padding; 24 of 128 bytes free; blocked at 128
+2 committed, 1 open, 2 aborted or padding; 24 of 128 bytes free; a read stops at 128 (open, type 6, length 24)
 ",
     );
 }
@@ -58,35 +58,6 @@ fn draws_as_wide_as_asked(rt: HostRuntime) {
         let report = ring_report(&rt, rt.alloc(), &ring, width);
         shows(&rt, Ok(report.picture), wanted);
     }
-}
-
-#[test]
-fn shows_metrics_of_a_blocked_ring(rt: HostRuntime) {
-    let report = ring_report(&rt, rt.alloc(), &blocked(&rt, rt.alloc()), 64);
-    shows(
-        &rt,
-        report.to_prometheus(rt.alloc()),
-        "\
-# HELP felter_ring_capacity_bytes The bytes of the ring's buffer.
-# TYPE felter_ring_capacity_bytes gauge
-felter_ring_capacity_bytes 256
-# HELP felter_ring_used_bytes The bytes that are claimed and not yet read.
-# TYPE felter_ring_used_bytes gauge
-felter_ring_used_bytes 112
-# HELP felter_ring_written_bytes_total The bytes that were claimed in all: the tail.
-# TYPE felter_ring_written_bytes_total counter
-felter_ring_written_bytes_total 112
-# HELP felter_ring_read_bytes_total The bytes that were read in all: the head.
-# TYPE felter_ring_read_bytes_total counter
-felter_ring_read_bytes_total 0
-# HELP felter_ring_blocked 1 if the consumer is blocked by an open record, otherwise 0.
-# TYPE felter_ring_blocked gauge
-felter_ring_blocked 1
-# HELP felter_findings How many findings the memory has.
-# TYPE felter_findings gauge
-felter_findings 0
-",
-    );
 }
 
 /// The report of a blocked ring whose tail is this. The tail is word 16 of the trailer.
@@ -165,7 +136,12 @@ fn counters_report(rt: &impl Abort, alloc: Global, value: Option<u64>) -> Report
     if let (Some(value), Some(word)) = (value, values.as_mut_slice().get_mut(16)) {
         *word = value;
     }
-    let report = Report::of_counters(alloc, metadata.as_slice(), values.as_slice(), view(64));
+    let report = Report::of_counters(
+        alloc,
+        metadata.as_slice(),
+        Some(values.as_slice()),
+        view(64),
+    );
     report.expect(rt, "memory")
 }
 
@@ -223,5 +199,27 @@ fn names_the_file_and_the_cause(rt: HostRuntime) {
     for (cause, wanted) in FAULTS {
         let fault = InputFault { file: "x", cause };
         shows(&rt, format!(in rt.alloc(); "{fault}"), wanted);
+    }
+}
+
+/// Texts from outside, and how they are printed.
+static TEXTS: [(&str, &str); 4] = [
+    ("a b", "a b"),
+    ("a\u{1b}[2J\n", "a\\x1b[2J\\x0a"),
+    ("\u{9b}31m", "\\x9b31m"),
+    ("naïve", "naïve"),
+];
+
+#[test]
+fn prints_no_control_characters(rt: HostRuntime) {
+    for (text, wanted) in TEXTS {
+        let printed = Printable(text);
+        shows(&rt, format!(in rt.alloc(); "{printed}"), wanted);
+        let fault = InputFault {
+            file: text,
+            cause: Cause::OutOfMemory,
+        };
+        let whole = format!(in rt.alloc(); "{wanted}: out of memory").expect(&rt, "memory");
+        shows(&rt, format!(in rt.alloc(); "{fault}"), whole.as_str());
     }
 }

@@ -37,9 +37,10 @@ fn wrong_report(rt: &impl Abort, alloc: Global, view: View) -> Report {
 fn shows_a_ring(rt: HostRuntime) {
     shows(
         &rt,
-        wrong_report(&rt, rt.alloc(), WHOLE).to_json(rt.alloc()),
+        wrong_report(&rt, rt.alloc(), WHOLE).to_json(rt.alloc(), None),
         r#"{
   "blocked_at": null,
+  "blocked_ms": null,
   "capacity": 128,
   "correlation": 0,
   "counts": {
@@ -55,6 +56,8 @@ fn shows_a_ring(rt: HostRuntime) {
   "head_cache": 0,
   "heartbeat": 0,
   "kind": "ring",
+  "open_length": null,
+  "open_type": null,
   "records": [
     {
       "body": "hello",
@@ -65,6 +68,8 @@ fn shows_a_ring(rt: HostRuntime) {
       "type": 7
     }
   ],
+  "settled": true,
+  "stops_at": null,
   "tail": 32,
   "unlisted": 0
 }
@@ -101,36 +106,62 @@ fn two_counters(rt: &impl Abort, alloc: Global) -> CountersManager {
     manager
 }
 
-/// Their report.
-fn counters_report(rt: &impl Abort, alloc: Global) -> Report {
-    let manager = two_counters(rt, alloc);
-    let metadata = words_of(rt, alloc, &CounterMetadata(&manager));
-    let numbers = words_of(rt, alloc, &CounterValueWords(&manager));
-    let report = Report::of_counters(alloc, metadata.as_slice(), numbers.as_slice(), WHOLE);
+/// Their report, of their metadata and these values.
+fn report_of_values(
+    rt: &impl Abort,
+    alloc: Global,
+    manager: &CountersManager,
+    values: Option<&[u64]>,
+) -> Report {
+    let metadata = words_of(rt, alloc, &CounterMetadata(manager));
+    let report = Report::of_counters(alloc, metadata.as_slice(), values, WHOLE);
     report.expect(rt, "memory")
 }
 
-#[test]
-fn shows_metrics_of_counters(rt: HostRuntime) {
-    shows(
-        &rt,
-        counters_report(&rt, rt.alloc()).to_prometheus(rt.alloc()),
+/// Their report.
+fn counters_report(rt: &impl Abort, alloc: Global) -> Report {
+    let manager = two_counters(rt, alloc);
+    let numbers = words_of(rt, alloc, &CounterValueWords(&manager));
+    report_of_values(rt, alloc, &manager, Some(numbers.as_slice()))
+}
+
+/// What is given of the values of the two counters, and the lines after that of the whole.
+static VALUES: [(Option<&[u64]>, &str); 3] = [
+    (
+        Some(&[7, 8, 9, 0, 0, 0]),
         "\
-# HELP felter_counter The value of a counter in use.
-# TYPE felter_counter gauge
-felter_counter{id=\"0\",type=\"5\",label=\"errors\",owner=\"0\"} -2
-# HELP felter_findings How many findings the memory has.
-# TYPE felter_findings gauge
-felter_findings 0
+id  state   type  value  registration  owner  deadline  label   key
+ 0  in use     5      7             8      9            errors  k
+1 in use, 0 freed, of 2 ids
 ",
-    );
+    ),
+    (
+        None,
+        "\
+id  state   type  value  registration  owner  deadline  label   key
+ 0  in use     5                                        errors  k
+1 in use, 0 freed, of 2 ids; their values are not known
+",
+    ),
+    (Some(&[7, 8, 9]), "not counters\n"),
+];
+
+#[test]
+fn takes_values_as_a_program_keeps_them(rt: HostRuntime) {
+    let manager = two_counters(&rt, rt.alloc());
+    for (values, wanted) in VALUES {
+        let report = report_of_values(&rt, rt.alloc(), &manager, values);
+        let table = report.to_table(rt.alloc()).expect(&rt, "memory");
+        let lines = table.as_str().split_once('\n').expect(&rt, "lines");
+        assert_eq!(rt; lines.1, wanted);
+    }
 }
 
 #[test]
 fn shows_counters(rt: HostRuntime) {
     shows(
         &rt,
-        counters_report(&rt, rt.alloc()).to_json(rt.alloc()),
+        counters_report(&rt, rt.alloc()).to_json(rt.alloc(), None),
         r#"{
   "counters": [
     {

@@ -43,7 +43,7 @@ fn write_all(rt: &impl Abort, ring: &mut SoloRing, messages: &[(i32, &str)]) {
 
 /// Claims, and leaves the claim open.
 fn leave_open(rt: &impl Abort, ring: &mut SoloRing) {
-    assert!(rt; ring.claim(5, 20).is_ok());
+    ring.claim(5, 20).expect(rt, "a claim").leak();
 }
 
 /// A ring whose reader is blocked by an open claim.
@@ -86,6 +86,7 @@ fn claim_two(rt: &impl Abort, ring: &mut SoloRing) {
     ring.abort(given_up);
     let mut open = ring.claim(6, 16).expect(rt, "a claim");
     ring.put(&mut open, 0, b"half").expect(rt, "room");
+    open.leak();
 }
 
 /// A ring of which three messages were read: what was written then goes beyond the end of its buffer.

@@ -28,7 +28,7 @@ use Rattle.ring_rings.specs.Reading.{at_rest}
 use Rattle.ring_rings.specs.Ring.{received_in, sent_in, IsWhole}
 use Rattle.ring_rings.proofs.SentLemmas.{whole}
 
-placed_lawful : (C e : ℕ) (cs : List StagedClaim) → ArePlaced C e cs
+pub placed_lawful : (C e : ℕ) (cs : List StagedClaim) → ArePlaced C e cs
     → All (λ (c : Claim). IsMessage C c.message) (unplaced cs)
 placed_lawful C e [] placed = All-nil (λ (c : Claim). IsMessage C c.message)
 placed_lawful C e (c ∷ cs) placed = All-cons (λ (d : Claim). IsMessage C d.message) _ (unplaced cs) placed.0.message
@@ -42,7 +42,7 @@ placed_above C e p (c ∷ cs) placed lt =
     let at = placed.0.place in
     (omega arith, placed_above C (claim_end c) p cs placed.1 (omega arith))
 
-placed_rising : (C e : ℕ) (cs : List StagedClaim) → ArePlaced C e cs → AreRising cs
+pub placed_rising : (C e : ℕ) (cs : List StagedClaim) → ArePlaced C e cs → AreRising cs
 placed_rising C e [] placed = tt
 placed_rising C e (c ∷ cs) placed =
     let bytes = (span_bounds (length c.message.body)).1 in
@@ -67,10 +67,8 @@ module _ (C start : ℕ) (words : List ℕ) (v : View) (closed : IsClosed C star
   rest_is_ring =
       let m = closed.memory in
       let bounds = head_bounds in_words C start closed.lawful words v.consumer v.producer.claims m in
-      let above = bounds.1 in
       let aligned = bounds.2 in
       let head = m.head_is in
-      let tail = m.tail_is in
       let room = m.room in
       let limit = m.limit in
       record {

@@ -57,6 +57,4 @@ as_many v w kept = record { shares = kept.shares; open_claims = ap open_count ke
 pub as_many_open : (v w : View) (c : StagedClaim) → open_count (c ∷ []) ≡ 0 → Gains c v w → AsManyOpen v w
 as_many_open v w c settled gained =
     let counted = ap open_count gained.claims ∙ open_count-more v.producer.claims c in
-    let old : ℕ = open_count v.producer.claims in
-    let new : ℕ = open_count w.producer.claims in
     record { shares = gained.shares; open_claims = omega (arith, counted, settled) }

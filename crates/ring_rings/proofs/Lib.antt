@@ -8,6 +8,7 @@ pub mod MoveLemmas
 pub mod SentLemmas
 pub mod ReceivedLemmas
 pub mod CloseLemmas
+pub mod RescueLemmas
 pub mod JoinLemmas
 pub mod PutLemmas
 pub mod BodyLemmas

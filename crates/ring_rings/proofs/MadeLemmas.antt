@@ -17,15 +17,12 @@ use Rattle.ring_table.specs.Staged.{AreRising, AreStored, IsStored, stage_state,
 use Rattle.ring_table.specs.ProducerSteps.{EndBelow, HasClaimAt, IsStagedOpen}
 use Rattle.ring_words.specs.Open.{ClaimAt}
 use Rattle.ring_layout.specs.declared.admission.Admission.{Admission}
-use Rattle.ring_rings.specs.declared.ring.Producer.{Producer}
-use Rattle.ring_rings.specs.declared.ring.Ring.{Ring}
-use Rattle.ring_rings.specs.declared.bodies.Bodies.{Ghosts}
 use Rattle.ring_rings.specs.Bodies.{HasPaddedLast, IsPaddedLast}
 use Rattle.ring_rings.specs.Claiming.{claim_behind, looked, record_behind, tail_refusal_of, SeesRoom}
 use Rattle.ring_rings.specs.Making.{GoesBehind, IsNewest, Moves}
 use Rattle.ring_rings.specs.Matching.{Matches}
 use Rattle.ring_rings.specs.Ring.{message}
-use Rattle.ring_rings.specs.Seats.{IsNewClaimOf, IsOpenClaimOf, KeepsClaims}
+use Rattle.ring_rings.specs.Seats.{IsOpenAt, KeepsOpen, OpensAt}
 use Rattle.ring_rings.proofs.CountLemmas.{open_count-more, open_few, stored_more}
 use Rattle.ring_rings.proofs.LeavingLemmas.{AsManyOpen, as_many_open}
 use Rattle.ring_rings.proofs.NewestLemmas.{has_last, is_padded, is_recorded, rising_few}
@@ -43,14 +40,14 @@ has_more v w c place P more h = record {
 }
 
 -- an open claim is still one, if it is as before
-pub still_open : {K B : Type 0} {G : Ghosts B} {ring : Ring K B G} {p q : Producer} {t : ClaimAt} → IsOpenClaimOf ring p t
-    → HasClaimAt q.seat.me.0 t.place (IsStagedOpen t.type_id t.len) → IsOpenClaimOf ring q t
+pub still_open : {C : ℕ} {v w : View} {t : ClaimAt} → IsOpenAt C v t
+    → HasClaimAt w t.place (IsStagedOpen t.type_id t.len) → IsOpenAt C w t
 still_open h claim = record { index = h.index; message = h.message; limit = h.limit; claim = claim }
 
-pub keeps_claims : {K B : Type 0} {G : Ghosts B} {ring : Ring K B G} {p q : Producer} (c : StagedClaim)
-    → q.seat.me.0.producer.claims ≡ p.seat.me.0.producer.claims ++ c ∷ [] → KeepsClaims ring p q
-keeps_claims {K} {B} {G} {ring} {p} {q} c more t h =
-    still_open h (has_more p.seat.me.0 q.seat.me.0 c t.place (IsStagedOpen t.type_id t.len) more h.claim)
+pub keeps_claims : {C : ℕ} {v w : View} (c : StagedClaim)
+    → w.producer.claims ≡ v.producer.claims ++ c ∷ [] → KeepsOpen C v w
+keeps_claims {C} {v} {w} c more t h =
+    still_open h (has_more v w c t.place (IsStagedOpen t.type_id t.len) more h.claim)
 
 -- the claim is made after the tail, after these loads and others
 pub record Makes (C tail : ℕ) (type_id : ℤ) (len : ℕ) (front : List (ℕ × ℕ)) (v : View) (a : Admission)
@@ -267,15 +264,14 @@ module _ {C tail : ℕ} {type_id : ℤ} {len : ℕ} {front : List (ℕ × ℕ)} 
       (sym (opened ∙ ap (λ (c : StagedClaim). with_claims (v.producer.claims ++ c ∷ []) w) same)) (moved_made rising)
 
 -- the claim is open in the hands of the producer that made it, and new
-pub made_new : {K B : Type 0} {G : Ghosts B} {ring : Ring K B G} {p q : Producer} {tail : ℕ} {type_id : ℤ} {len : ℕ} {front : List (ℕ × ℕ)}
-    {a : Admission} → Makes ring.capacity tail type_id len front p.seat.me.0 a q.seat.me.0
-    → IsNewClaimOf ring p q
-    (record { place = a.place; index = a.place % ring.capacity + 8; type_id = type_id; len = len })
+pub made_new : {C : ℕ} {v w : View} {tail : ℕ} {type_id : ℤ} {len : ℕ} {front : List (ℕ × ℕ)}
+    {a : Admission} → Makes C tail type_id len front v a w
+    → OpensAt C v w (record { place = a.place; index = a.place % C + 8; type_id = type_id; len = len })
 made_new made = record {
   is_open = record {
     index = refl;
     message = made.admitted.message;
-    limit = (let lies = made.admitted.place in let ends = made.admitted.limit in omega arith);
+    limit = (omega arith);
     claim = made_open made;
   };
   apart = λ t h. made_apart made t.place (IsStagedOpen t.type_id t.len) h.claim;

@@ -29,13 +29,14 @@ module _ {S : Type 0} (step : S → Message → S → Action → Type 0) where
   pub controls_receive : (limit : ℕ) (old new : Consumer) (s t : S) (end : ReadEnd)
       → Controls step limit (consumer_view old) (consumer_view new) s t end
       → Receives step old new s t end.messages ⊎ Leaves step old new s t end.messages
-  controls_receive limit old new s t end (inl on) = inl (reads_receive limit old new s t end.messages on.reads)
+  controls_receive limit old new s t end (inl on) = inl (reads_receive limit old new s t end.messages on.reads.reads)
   controls_receive limit old new s t end (inr (inl broke)) =
-      inl (reads_receive limit old new s t end.messages broke.reads)
+      inl (reads_receive limit old new s t end.messages broke.reads.reads)
   controls_receive limit old new s t end (inr (inr cut)) = inr (record {
     between = cut.before;
     message = cut.message;
-    receives = reads_receive limit old new s cut.before end.messages cut.reads;
+    receives = reads_receive limit old new s cut.before end.messages cut.reads.reads;
+    next = cut.next;
     aborted = cut.aborted;
   })
 

@@ -194,7 +194,6 @@ insert_merged y xs ys (z ∷ zs) above h =
             | inl first ↦ inl (first.0, first.1, insert_merged y first.0 ys zs above first.2)
             | inr second ↦
                 let lt = subst (AreAbove y.place) second.1 above in
-                let least = lt.0 in
                 absurd (omega arith)
           ])
     ]

@@ -6,6 +6,7 @@ pub mod Making
 pub mod Opening
 pub mod Joining
 pub mod Closing
+pub mod Rescuing
 pub mod Bodies
 pub mod Reading
 pub mod ReadingSteps

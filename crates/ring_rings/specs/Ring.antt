@@ -11,7 +11,7 @@ use Rattle.ring_table.specs.Passing.{placed_committed_of}
 use Rattle.ring_table.specs.ProducerSteps.{HasClaimAt}
 use Rattle.ring_rings.specs.declared.ring.Consumer.{Consumer}
 use Rattle.ring_rings.specs.declared.ring.Producer.{Producer}
-use Rattle.ring_rings.specs.Reading.{messages_of}
+use Rattle.ring_rings.specs.Reading.{IsNext, messages_of}
 use Rattle.ring_rings.specs.Seats.{consumer_view, view_of}
 
 abbrev pub message : ℤ → List ℕ → Message
@@ -43,18 +43,24 @@ pub record IsWhole (sent received : List Message) (rest : ClosedRing) : Type 0 w
   pub left : IsUnread rest unread
   pub all : received ++ unread ≡ sent
 
--- the producer's claim at this place has this message
+-- the claim at this place of the producer with this view has this message
+abbrev pub HasMessageAt : View → ℕ → Message → Type 0
+HasMessageAt v place m = HasClaimAt v place (λ c. c.message ≡ m)
+
 abbrev pub HasMessage : Producer → ℕ → Message → Type 0
-HasMessage p place m = HasClaimAt (view_of p) place (λ c. c.message ≡ m)
+HasMessage p place m = HasMessageAt (view_of p) place m
 
 -- the message of the claim at this place was sent: after those of earlier claims, before those of later ones
-pub record SendsClaimed (place : ℕ) (old new : Producer) : Type 0 where
+pub record SendsClaimedAt (place : ℕ) (v w : View) : Type 0 where
   pub message : Message
-  pub claimed : HasMessage old place message
+  pub claimed : HasMessageAt v place message
   pub before : List Message
   pub after : List Message
-  pub was : sent old ≡ before ++ after
-  pub is : sent new ≡ before ++ message ∷ after
+  pub was : sent_in v ≡ before ++ after
+  pub is : sent_in w ≡ before ++ message ∷ after
+
+abbrev pub SendsClaimed : ℕ → Producer → Producer → Type 0
+SendsClaimed place old new = SendsClaimedAt place (view_of old) (view_of new)
 
 -- zs is xs and ys put together, each in its order
 abbrev pub AreMerged : {A : Type 0} → List A → List A → List A → Type 0
@@ -63,18 +69,25 @@ AreMerged {A} xs ys (z ∷ zs) = ((rest : List A) × (xs ≡ z ∷ rest) × AreM
     ⊎ ((rest : List A) × (ys ≡ z ∷ rest) × AreMerged xs rest zs)
 
 -- this many messages were received, and the handler was shown them
-pub record Receives {S : Type 0} (step : S → Message → S → Action → Type 0) (old new : Consumer) (s t : S) (count : ℕ)
+pub record ReceivesIn {S : Type 0} (step : S → Message → S → Action → Type 0) (v w : View) (s t : S) (count : ℕ)
     : Type 0 where
   pub messages : List Message
   pub actions : List Action
   pub handled : Handles step s messages actions t
   pub counted : count ≡ length messages
-  pub more : received new ≡ received old ++ messages
+  pub more : received_in w ≡ received_in v ++ messages
 
--- or it was shown one more, at which it stopped the read by Abort, and which was left
-pub record Leaves {S : Type 0} (step : S → Message → S → Action → Type 0) (old new : Consumer) (s t : S) (count : ℕ)
+abbrev pub Receives : {S : Type 0} → (S → Message → S → Action → Type 0) → Consumer → Consumer → S → S → ℕ → Type 0
+Receives step old new s t count = ReceivesIn step (consumer_view old) (consumer_view new) s t count
+
+-- or it was shown one more, at which it stopped the read by Abort: the next one of the ring, in which it was left
+pub record LeavesIn {S : Type 0} (step : S → Message → S → Action → Type 0) (v w : View) (s t : S) (count : ℕ)
     : Type 0 where
   pub between : S
   pub message : Message
-  pub receives : Receives step old new s between count
+  pub receives : ReceivesIn step v w s between count
+  pub next : IsNext v w message
   pub aborted : step between message t Action.Abort
+
+abbrev pub Leaves : {S : Type 0} → (S → Message → S → Action → Type 0) → Consumer → Consumer → S → S → ℕ → Type 0
+Leaves step old new s t count = LeavesIn step (consumer_view old) (consumer_view new) s t count

@@ -81,43 +81,67 @@ IsSameConsumer old new = IsSameSeat old.seat new.seat
 
 -- Claims -----------------------------------------------------------------------
 
--- the claim in the producer's hands is one of its own, and open
-pub record IsOpenClaimOf {K B : Type 0} {G : Ghosts B} (ring : Ring K B G) (p : Producer) (t : ClaimAt) : Type 0 where
-  pub index : t.index ≡ t.place % ring.capacity + 8
-  pub message : IsMessage ring.capacity (blank t.type_id t.len)
+-- of a capacity and what a producer knows: the claim in its hands is one of its own, and open
+pub record IsOpenAt (C : ℕ) (v : View) (t : ClaimAt) : Type 0 where
+  pub index : t.index ≡ t.place % C + 8
+  pub message : IsMessage C (blank t.type_id t.len)
   pub limit : t.place ≤ max_position
-  pub claim : HasClaimAt p.seat.me.0 t.place (IsStagedOpen t.type_id t.len)
+  pub claim : HasClaimAt v t.place (IsStagedOpen t.type_id t.len)
+
+abbrev pub IsOpenClaimOf : {K B : Type 0} {G : Ghosts B} → Ring K B G → Producer → ClaimAt → Type 0
+IsOpenClaimOf ring p t = IsOpenAt (capacity_of ring) (view_of p) t
 
 -- what was open stays open
+abbrev pub KeepsOpen : ℕ → View → View → Type 0
+KeepsOpen C v w = (t : ClaimAt) → IsOpenAt C v t → IsOpenAt C w t
+
 abbrev pub KeepsClaims : {K B : Type 0} {G : Ghosts B} → Ring K B G → Producer → Producer → Type 0
-KeepsClaims ring old new = (t : ClaimAt) → IsOpenClaimOf ring old t → IsOpenClaimOf ring new t
+KeepsClaims ring old new = KeepsOpen (capacity_of ring) (view_of old) (view_of new)
 
 -- what a producer holds stays: its open claims and its shares
-pub record KeepsHoldings {K B : Type 0} {G : Ghosts B} (ring : Ring K B G) (old new : Producer) : Type 0 where
-  pub claims : KeepsClaims ring old new
-  pub shares : shares_of new ≡ shares_of old
+pub record KeepsHeld (C : ℕ) (v w : View) : Type 0 where
+  pub claims : KeepsOpen C v w
+  pub shares : w.producer.shares ≡ v.producer.shares
+
+abbrev pub KeepsHoldings : {K B : Type 0} {G : Ghosts B} → Ring K B G → Producer → Producer → Type 0
+KeepsHoldings ring old new = KeepsHeld (capacity_of ring) (view_of old) (view_of new)
 
 -- and no claim more is open
-pub record OpensNone {K B : Type 0} {G : Ghosts B} (ring : Ring K B G) (old new : Producer) : Type 0 where
-  pub holdings : KeepsHoldings ring old new
-  pub open_claims : open_claims_of new ≡ open_claims_of old
+pub record OpensNoneAt (C : ℕ) (v w : View) : Type 0 where
+  pub holdings : KeepsHeld C v w
+  pub open_claims : open_count w.producer.claims ≡ open_count v.producer.claims
+
+abbrev pub OpensNone : {K B : Type 0} {G : Ghosts B} → Ring K B G → Producer → Producer → Type 0
+OpensNone ring old new = OpensNoneAt (capacity_of ring) (view_of old) (view_of new)
 
 -- claims are at different places, and what was open stays open, but at this place
-pub record KeepsOthers {K B : Type 0} {G : Ghosts B} (ring : Ring K B G) (place : ℕ) (old new : Producer) : Type 0 where
-  pub rising : AreRising (claims_of old)
-  pub claims : (t : ClaimAt) → IsOpenClaimOf ring old t → t.place ≢ place → IsOpenClaimOf ring new t
+pub record KeepsAllBut (C place : ℕ) (v w : View) : Type 0 where
+  pub rising : AreRising v.producer.claims
+  pub claims : (t : ClaimAt) → IsOpenAt C v t → t.place ≢ place → IsOpenAt C w t
+
+abbrev pub KeepsOthers : {K B : Type 0} {G : Ghosts B} → Ring K B G → ℕ → Producer → Producer → Type 0
+KeepsOthers ring place old new = KeepsAllBut (capacity_of ring) place (view_of old) (view_of new)
 
 -- a claim is at a place without an open one of the producer
+abbrev pub LiesApartAt : ℕ → View → ClaimAt → Type 0
+LiesApartAt C v new = (t : ClaimAt) → IsOpenAt C v t → t.place ≢ new.place
+
 abbrev pub LiesApart : {K B : Type 0} {G : Ghosts B} → Ring K B G → Producer → ClaimAt → Type 0
-LiesApart ring p new = (t : ClaimAt) → IsOpenClaimOf ring p t → t.place ≢ new.place
+LiesApart ring p new = LiesApartAt (capacity_of ring) (view_of p) new
 
 -- a claim that was opened is apart from those that were open before
-pub record IsNewClaimOf {K B : Type 0} {G : Ghosts B} (ring : Ring K B G) (old new : Producer) (t : ClaimAt) : Type 0 where
-  pub is_open : IsOpenClaimOf ring new t
-  pub apart : LiesApart ring old t
+pub record OpensAt (C : ℕ) (v w : View) (t : ClaimAt) : Type 0 where
+  pub is_open : IsOpenAt C w t
+  pub apart : LiesApartAt C v t
+
+abbrev pub IsNewClaimOf : {K B : Type 0} {G : Ghosts B} → Ring K B G → Producer → Producer → ClaimAt → Type 0
+IsNewClaimOf ring old new t = OpensAt (capacity_of ring) (view_of old) (view_of new) t
 
 -- what was open of either of two producers is open in the one that has both, at different places
-pub record KeepsBoth {K B : Type 0} {G : Ghosts B} (ring : Ring K B G) (p q joined : Producer) : Type 0 where
-  pub first : KeepsClaims ring p joined
-  pub second : KeepsClaims ring q joined
-  pub apart : (t u : ClaimAt) → IsOpenClaimOf ring p t → IsOpenClaimOf ring q u → t.place ≢ u.place
+pub record KeepsBothOpen (C : ℕ) (v w joined : View) : Type 0 where
+  pub first : KeepsOpen C v joined
+  pub second : KeepsOpen C w joined
+  pub apart : (t u : ClaimAt) → IsOpenAt C v t → IsOpenAt C w u → t.place ≢ u.place
+
+abbrev pub KeepsBoth : {K B : Type 0} {G : Ghosts B} → Ring K B G → Producer → Producer → Producer → Type 0
+KeepsBoth ring p q joined = KeepsBothOpen (capacity_of ring) (view_of p) (view_of q) (view_of joined)

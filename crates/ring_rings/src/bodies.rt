@@ -12,6 +12,7 @@ ghost use Rattle.ring_table.specs.declared.view.Key.{Key as TheKey};
 ghost use Rattle.ring_table.specs.declared.view.View.{View};
 ghost use Rattle.ring_table.specs.Closed.{IsClosed, IsLeft, LeavesRest};
 ghost use Rattle.ring_table.specs.ProducerSteps.{with_changed, HasClaimAt, NeedsHeader};
+ghost use Rattle.ring_table.specs.Rescued.{IsSaved, Rescues};
 ghost use Rattle.ring_table.specs.Rule.{IsLawful};
 ghost use Rattle.ring_table.specs.Seats.{IsSameSeat, IsSeatOf};
 ghost use Rattle.ring_table.specs.SlotSteps.{IsOpenOf};
@@ -21,7 +22,7 @@ ghost use Rattle.ring_rings.specs.Bodies.{HasPaddedLast, IsPaddedLast, PutsBytes
 ghost use Rattle.ring_rings.specs.ReadingSteps.{CopiesBody, HasBodyAt, HasGotLast, HasLastAt, IsInBlock, IsReaderSeatOf, OnlyLoads};
 
 use atomic_table::Closed;
-use ring_table::{Key, Mode, RingSeat, RingTable, SharedRing, Wanted};
+use ring_table::{Key, Mode, RingSeat, RingTable, SharedRing, Unsettled, Wanted};
 use std::alloc::{AllocError, Global};
 
 /// Where the bodies of messages lie: in words (`InWords`) or in slots (`InSlots`).
@@ -128,4 +129,13 @@ pub trait Bodies: Mode {
         requires room { vec_len room ≡ slots_len closed.words }
         ensures { (k : TheKey) (v : View) → IsLeft Self.bodies k v closed
             → IsClosed k.capacity k.start result.items v × LeavesRest k.capacity result.items v };
+
+    /// The words of a ring in its format, in `room`, from what its table left, whatever became of other seats than the
+    /// consumer's. What no seat settled is settled in them.
+    fn rescue(closed: Closed<u64, Global>, capacity: u32, room: Vec<u64>) -> (Vec<u64>, Unsettled)
+        requires left { (k : TheKey) × (v : View) × IsSaved Self.bodies k v closed
+            × (slots_len closed.slots ≡ slots_for k.capacity) × (k.capacity ≡ capacity) }
+        requires room { vec_len room ≡ slots_len closed.words }
+        ensures { (k : TheKey) (v : View) → IsSaved Self.bodies k v closed → k.capacity ≡ capacity
+            → Rescues capacity k.start v result.0.items result.1.claims result.1.silent };
 }

@@ -18,20 +18,22 @@ mod fault;
 mod kind;
 mod open;
 mod producer;
+mod rescue;
 mod ring;
 mod slots;
 mod source;
 mod words;
 
 pub use bodies::Bodies;
-pub use claim::Claim;
+pub use claim::{Claim, KeptClaim};
 pub use fault::{CloseFault, TryFault};
 pub use kind::Kind;
+pub use rescue::Rescued;
 pub use ring::{
     CloseRefused, Consumer, ManyToOne, ManyToOneRing, OneToOne, OneToOneRing, PlainManyToOneRing,
     PlainOneToOneRing, PlainRing, Producer, Ring,
 };
 pub use ring_layout::{MakeFault, NoShares};
-pub use ring_table::{InSlots, InWords};
+pub use ring_table::{InSlots, InWords, Unsettled};
 pub use ring_words::{Action, ClaimFault, Handler, Positions, PutRange, ReadEnd, Standing, Stop};
-pub use source::CommandSource;
+pub use source::{CommandSource, Heartbeat, Rescue};

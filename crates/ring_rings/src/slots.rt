@@ -9,9 +9,9 @@ use crate::bodies::Bodies;
 use atomic_table::Closed;
 use ring_layout::{align8, word_index};
 use ring_table::{
-    InSlots, Key, RingSeat, RingTable, SharedRing, Wanted, clear_record, clear_word,
-    load_passed_header, open_slots, put_slots, read_slots, show_slots, store_claimed_slots,
-    write_slots,
+    InSlots, Key, RingSeat, RingTable, SharedRing, Unsettled, Wanted, clear_record, clear_word,
+    load_passed_header, open_slots, put_slots, read_slots, rescue_slots, show_slots,
+    store_claimed_slots, write_slots,
 };
 use std::alloc::{AllocError, Global};
 
@@ -118,5 +118,9 @@ impl Bodies for InSlots {
 
     fn show(closed: Closed<u64, Global>, room: Vec<u64>) -> Vec<u64> {
         show_slots(closed, room)
+    }
+
+    fn rescue(closed: Closed<u64, Global>, capacity: u32, room: Vec<u64>) -> (Vec<u64>, Unsettled) {
+        rescue_slots(closed, capacity, room)
     }
 }

@@ -1,15 +1,17 @@
 //! What a conductor needs of a ring, whatever its kind.
 ghost use Rattle.std.specs.Prelude.{◌≡◌, ◌⊎◌, ℕ, IfOk};
-ghost use Rattle.ring_table.specs.Views.{with_beat};
+ghost use Rattle.ring_table.specs.Views.{with_beat, with_consumer_of};
 ghost use Rattle.ring_rings.specs.declared.ring.Consumer.{Consumer as TheConsumer};
 ghost use Rattle.ring_rings.specs.declared.ring.Producer.{Producer as TheProducer};
 ghost use Rattle.ring_rings.specs.Closing.{close_refusal_of, kept_open, HandsOut, IsRefusedAs, Serves};
 ghost use Rattle.ring_rings.specs.Reading.{Controls, EndsAt};
+ghost use Rattle.ring_rings.specs.Rescuing.{IsRescued};
 ghost use Rattle.ring_rings.specs.Ring.{received, sent, IsWhole, Leaves, Receives};
 ghost use Rattle.ring_rings.specs.Seats.{capacity_of, consumer_view, open_claims_of, shares_of, start_of};
 ghost use Rattle.ring_rings.specs.Seats.{view_of, IsConsumerOf, IsProducerOf, IsSameConsumer};
 
 use crate::bodies::Bodies;
+use crate::rescue::Rescued;
 use crate::ring::{CloseRefused, Consumer, Producer, Ring};
 use ring_words::{Handler, ReadEnd, SoloRing, Stop};
 
@@ -45,14 +47,6 @@ pub trait CommandSource: Sized {
             handler.old handler.new result }
         ensures ends { EndsAt limit (consumer_view consumer.old) (consumer_view consumer.new) result };
 
-    /// Stores the consumer's heartbeat, as `Ring::set_heartbeat` does.
-    fn set_heartbeat(&self, consumer: &mut Consumer, value: u64)
-        requires consumer { is_consumer self.now consumer.old }
-        ensures consumer { is_consumer self.now consumer.new }
-        ensures received { received consumer.new ≡ received consumer.old }
-        ensures seat { IsSameConsumer consumer.old consumer.new }
-        ensures view { consumer_view consumer.new ≡ with_beat value (consumer_view consumer.old) };
-
     /// Takes the ring apart, as `Ring::close` does.
     fn close(self, producer: Producer, consumer: Consumer) -> Result<SoloRing, CloseRefused<Self>>
         requires producer { is_producer self producer }
@@ -62,6 +56,17 @@ pub trait CommandSource: Sized {
         ensures whole { IfOk result (IsWhole (sent producer) (received consumer)) }
         ensures rest { IfOk result (HandsOut (bytes self) (start self) (view_of producer) (consumer_view consumer)) }
         ensures service { IfOk result (Serves (bytes self) (view_of producer) (consumer_view consumer)) };
+}
+
+/// A ring that commands are read from, and whose consumer stores a heartbeat.
+pub trait Heartbeat: CommandSource {
+    /// Stores the consumer's heartbeat, as `Ring::set_heartbeat` does.
+    fn set_heartbeat(&self, consumer: &mut Consumer, value: u64)
+        requires consumer { Self.is_consumer self.now consumer.old }
+        ensures consumer { Self.is_consumer self.now consumer.new }
+        ensures received { received consumer.new ≡ received consumer.old }
+        ensures seat { IsSameConsumer consumer.old consumer.new }
+        ensures view { consumer_view consumer.new ≡ with_beat value (consumer_view consumer.old) };
 }
 
 impl<K, B: Bodies> CommandSource for Ring<K, B> {
@@ -82,11 +87,38 @@ impl<K, B: Bodies> CommandSource for Ring<K, B> {
         Ring::controlled_read(self, consumer, limit, handler)
     }
 
-    fn set_heartbeat(&self, consumer: &mut Consumer, value: u64) {
-        Ring::set_heartbeat(self, consumer, value);
-    }
-
     fn close(self, producer: Producer, consumer: Consumer) -> Result<SoloRing, CloseRefused<Self>> {
         Ring::close(self, producer, consumer)
+    }
+}
+
+/// A ring that commands are read from, and that can be taken apart though producers are lost.
+pub trait Rescue: CommandSource {
+    /// Takes the ring apart with its consumer alone, as `Ring::rescue` does.
+    fn rescue(self, consumer: Consumer) -> Rescued
+        requires consumer { Self.is_consumer self consumer }
+        ensures rescued { IsRescued (Self.bytes self) (Self.start self) (consumer_view consumer) result };
+
+    /// Takes the ring apart with its consumer and a producer that is left, as `Ring::rescue_with` does.
+    fn rescue_with(self, producer: Producer, consumer: Consumer) -> Rescued
+        requires producer { Self.is_producer self producer }
+        requires consumer { Self.is_consumer self consumer }
+        ensures rescued { IsRescued (Self.bytes self) (Self.start self)
+            (with_consumer_of (view_of producer) (consumer_view consumer)) result };
+}
+
+impl<K, B: Bodies> Rescue for Ring<K, B> {
+    fn rescue(self, consumer: Consumer) -> Rescued {
+        Ring::rescue(self, consumer)
+    }
+
+    fn rescue_with(self, producer: Producer, consumer: Consumer) -> Rescued {
+        Ring::rescue_with(self, producer, consumer)
+    }
+}
+
+impl<K, B: Bodies> Heartbeat for Ring<K, B> {
+    fn set_heartbeat(&self, consumer: &mut Consumer, value: u64) {
+        Ring::set_heartbeat(self, consumer, value);
     }
 }

@@ -13,9 +13,9 @@ use atomic_table::Closed;
 use ring_layout::record_descriptor::HEADER_LENGTH;
 use ring_layout::{first_word, put_bytes_word, put_word, word_index};
 use ring_table::{
-    InWords, Key, RingSeat, RingTable, SharedRing, Wanted, clear_word, copy_words, load_body_word,
-    load_own_word, load_passed_word, open, store_body_word, store_claimed_header,
-    store_committed_header,
+    InWords, Key, RingSeat, RingTable, SharedRing, Unsettled, Wanted, clear_word, copy_words,
+    load_body_word, load_own_word, load_passed_word, open, rescue_words, store_body_word,
+    store_claimed_header, store_committed_header,
 };
 use std::alloc::{AllocError, Global};
 
@@ -229,5 +229,9 @@ impl Bodies for InWords {
         copy_words(&closed, &mut words);
         closed.free();
         words
+    }
+
+    fn rescue(closed: Closed<u64, Global>, capacity: u32, room: Vec<u64>) -> (Vec<u64>, Unsettled) {
+        rescue_words(closed, capacity, room)
     }
 }

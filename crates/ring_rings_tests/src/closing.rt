@@ -266,7 +266,7 @@ impl OnShared for LosesOne {
     fn holds<B: Bodies>(rt: &impl process::Abort, alloc: Global) {
         let (ring, mut first, mut consumer) = opened::<ManyToOne, B>(rt, alloc, 0);
         let mut second = ring.split(&mut first).expect(rt, "a producer");
-        let _kept_aside = claimed(rt, &ring, &mut second, 1, 0);
+        claimed(rt, &ring, &mut second, 1, 0).leak();
         fill_up(rt, &ring, &mut first, 15);
         let read = read_nine(&ring, &mut consumer, &mut Script::new(&[], &[]));
         assert_eq!(rt; read, end(0, 0, Stop::Unpublished));

@@ -4,7 +4,7 @@ ghost use Rattle.ring_rings.specs.Seats.{IsConsumerOf, IsProducerOf, KeepsHoldin
 
 use crate::dice::{Dice, LONGEST};
 use ring_rings::{
-    Action, Bodies, Claim, Consumer, Handler, Kind, ManyToOne, OneToOne, Positions, Producer,
+    Action, Bodies, Consumer, Handler, KeptClaim, Kind, ManyToOne, OneToOne, Positions, Producer,
     ReadEnd, Ring, TryFault,
 };
 use ring_words::SoloRing;
@@ -65,8 +65,8 @@ impl Handler for Summer {
 #[derive(Drop)]
 pub struct Other {
     producer: Producer,
-    first: Option<Claim>,
-    second: Option<Claim>,
+    first: Option<KeptClaim>,
+    second: Option<KeptClaim>,
 }
 
 /// A ring with a producer at work, another one at rest, up to two open claims of each, and its consumer.
@@ -74,8 +74,8 @@ pub struct Other {
 pub struct Form<K: Kind, B: Bodies> {
     ring: Ring<K, B>,
     producer: Producer,
-    first: Option<Claim>,
-    second: Option<Claim>,
+    first: Option<KeptClaim>,
+    second: Option<KeptClaim>,
     other: Option<Other>,
     consumer: Consumer,
     dice: Dice,
@@ -96,7 +96,7 @@ impl<K: Kind, B: Bodies> Model for Form<K, B> {
 }
 
 /// A claim that is not at this place.
-fn apart(claim: Option<Claim>, place: u64) -> Option<Claim>
+fn apart(claim: Option<KeptClaim>, place: u64) -> Option<KeptClaim>
     ensures { IfSome result (λ t. (claim ≡ Some t) × (t.place ≢ place)) }
 {
     match claim {
@@ -192,7 +192,7 @@ impl<K: Kind, B: Bodies> Form<K, B> {
                     &mut self.answers,
                     Answer::Claimed(Ok((claim.place(), claim.index()))),
                 );
-                self.first = Some(claim);
+                self.first = Some(KeptClaim::of(claim));
             }
             Err(fault) => tell(&mut self.answers, Answer::Claimed(Err(fault))),
         }
@@ -210,10 +210,11 @@ impl<K: Kind, B: Bodies> Form<K, B> {
         if self.first.is_none() {
             self.turn();
         }
-        let Some(mut claim) = self.first.take() else {
+        let Some(kept) = self.first.take() else {
             return;
         };
-        let second = apart(self.second.take(), claim.place());
+        let second = apart(self.second.take(), kept.place());
+        let mut claim = kept.into_claim();
         let offset = self.dice.below(LONGEST as u32) as usize % claim.len().saturating_add(2);
         let len = self.dice.below(LONGEST as u32) as usize % claim.len().saturating_add(2);
         let bytes = self.dice.bytes();
@@ -221,7 +222,7 @@ impl<K: Kind, B: Bodies> Form<K, B> {
             .ring
             .put(&mut self.producer, &mut claim, offset, front(&bytes, len));
         tell(&mut self.answers, Answer::Put(put.is_ok()));
-        self.first = Some(claim);
+        self.first = Some(KeptClaim::of(claim));
         self.second = second;
     }
 
@@ -230,11 +231,12 @@ impl<K: Kind, B: Bodies> Form<K, B> {
         if self.first.is_none() {
             self.turn();
         }
-        let Some(claim) = self.first.take() else {
+        let Some(kept) = self.first.take() else {
             return;
         };
-        let second = apart(self.second.take(), claim.place());
-        tell(&mut self.answers, Answer::Settled(claim.place()));
+        let second = apart(self.second.take(), kept.place());
+        tell(&mut self.answers, Answer::Settled(kept.place()));
+        let claim = kept.into_claim();
         if self.dice.coin() {
             self.ring.commit(&mut self.producer, claim);
         } else {
@@ -317,7 +319,7 @@ impl Team for ManyToOne {
         let first = match second {
             Some(claim) => {
                 let first = apart(first, claim.place());
-                form.ring.commit(&mut producer, claim);
+                form.ring.commit(&mut producer, claim.into_claim());
                 first
             }
             None => first,

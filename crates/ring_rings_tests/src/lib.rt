@@ -18,6 +18,8 @@ mod form;
 #[cfg(test)]
 mod joining;
 #[cfg(test)]
+mod losing;
+#[cfg(test)]
 mod play;
 #[cfg(test)]
 mod random;

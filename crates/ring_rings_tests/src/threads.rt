@@ -3,6 +3,7 @@ ghost use Rattle.std.specs.Thread.{IsSync};
 ghost use Rattle.ring_rings.specs.Seats.{all_shares, shares_of, IsConsumerOf, IsProducerOf};
 
 use crate::bench::opened;
+use crossbeam_utils::Backoff;
 use ring_rings::{
     Action, Bodies, ClaimFault, Consumer, Handler, InSlots, InWords, ManyToOne, OneToOne,
     Positions, Producer, Ring, Stop, TryFault,
@@ -45,13 +46,17 @@ fn write_numbers<B: Bodies>(ring: &Ring<OneToOne, B>, mut producer: Producer) ->
     ensures { IsProducerOf ring.now result.0 }
 {
     let mut written = 0;
+    let backoff = Backoff::new();
     'turns: for _ in 0..TURNS {
         if written == NUMBERS {
             break;
         }
         match ring.write(&mut producer, 1, &written.to_le_bytes()) {
-            Ok(()) => written += 1,
-            Err(ClaimFault::InsufficientCapacity { .. }) => yield_now(),
+            Ok(()) => {
+                written += 1;
+                backoff.reset();
+            }
+            Err(ClaimFault::InsufficientCapacity { .. }) => backoff.snooze(),
             Err(_) => break,
         }
     }
@@ -124,7 +129,7 @@ struct Written {
 }
 
 /// The number of a producer and the number of its message.
-fn body_of(index: u32, number: u32) -> [u8; 8] {
+pub fn body_of(index: u32, number: u32) -> [u8; 8] {
     let mut body = [0; 8];
     body[0..4].copy_from_slice(&index.to_le_bytes());
     body[4..8].copy_from_slice(&number.to_le_bytes());
@@ -133,10 +138,30 @@ fn body_of(index: u32, number: u32) -> [u8; 8] {
 
 /// Takes the messages of four producers, each producer's in order.
 #[derive(Drop)]
-struct Tally {
+pub struct Tally {
     next: [u32; 4],
     received: u32,
     right: bool,
+}
+
+impl Tally {
+    pub fn new() -> Self {
+        Tally {
+            next: [0; 4],
+            received: 0,
+            right: true,
+        }
+    }
+
+    /// How many messages of each producer came.
+    pub fn counts(&self) -> [u32; 4] {
+        self.next
+    }
+
+    /// Tests whether all that came was written, and each producer's messages came in order.
+    pub fn is_right(&self) -> bool {
+        self.right
+    }
 }
 
 impl Handler for Tally {
@@ -166,14 +191,18 @@ fn write_share<B: Bodies>(ring: &Ring<ManyToOne, B>, mut producer: Producer, ind
     let second = ring.next_correlation_id(&mut producer);
     let third = ring.next_correlation_id(&mut producer);
     let mut count = 0;
+    let backoff = Backoff::new();
     'turns: for _ in 0..TURNS {
         if count == SHARE {
             break;
         }
         match ring.write_once(&mut producer, 1, &body_of(index, count)) {
-            Ok(()) => count += 1,
-            Err(TryFault::Contended { .. }) => {}
-            Err(TryFault::Refused(ClaimFault::InsufficientCapacity { .. })) => yield_now(),
+            Ok(()) => {
+                count += 1;
+                backoff.reset();
+            }
+            Err(TryFault::Contended { .. }) => backoff.spin(),
+            Err(TryFault::Refused(ClaimFault::InsufficientCapacity { .. })) => backoff.snooze(),
             Err(TryFault::Refused(_)) => break,
         }
     }
@@ -189,11 +218,7 @@ fn read_shares<B: Bodies>(ring: &Ring<ManyToOne, B>, mut consumer: Consumer) -> 
     requires { IsConsumerOf ring.now consumer }
     ensures { IsConsumerOf ring.now result.0 }
 {
-    let mut tally = Tally {
-        next: [0; 4],
-        received: 0,
-        right: true,
-    };
+    let mut tally = Tally::new();
     'turns: for _ in 0..TURNS {
         if tally.received >= 4 * SHARE {
             break;

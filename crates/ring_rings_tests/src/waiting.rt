@@ -72,8 +72,14 @@ fn claims<B: Bodies>(rt: &(impl Abort + Wait), ring: &Ring<ManyToOne, B>, produc
     let claim = ring.claim(rt, producer, 2, 0).expect(rt, "a claim");
     assert_eq!(rt; (claim.place(), claim.index()), (0, 8));
     ring.commit(producer, claim);
-    let refused = ring.claim(rt, producer, 0, 17);
-    assert!(rt; matches!(refused, Err(ClaimFault::BadType { type_id: 0 })));
+    let refused = match ring.claim(rt, producer, 0, 17) {
+        Ok(claim) => {
+            claim.leak();
+            None
+        }
+        Err(fault) => Some(fault),
+    };
+    assert_eq!(rt; refused, Some(ClaimFault::BadType { type_id: 0 }));
 }
 
 fn claims_and_commits<B: Bodies>(rt: &(impl Abort + Wait), alloc: Global) {

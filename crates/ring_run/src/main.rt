@@ -1,17 +1,22 @@
-//! Runs a scenario on a ring of messages and a broadcast buffer: it reads lines on standard input and writes on
-//! standard output.
+//! Runs a scenario on a ring of messages and a broadcast buffer: it reads lines of a file or on standard input, and
+//! writes on standard output.
 #![tactic(auto)]
 
 mod command_line;
 mod help;
 
-use ring_scenario::{RunFault, run_scenario};
+use command_line::Asked;
+use ring_scenario::{Options, RunFault, run_scenario};
 use std::env::Env;
-use std::io::ErrorKind;
+use std::io::{ErrorKind, Input};
 use std::process::ExitCode;
+use std::rt::Files;
 use std::sync::Wait;
 use std::thread::Threads;
-use std::{env, io};
+use std::{env, fs, io};
+
+/// The version of the program, which is that of the packages.
+const VERSION: &str = "0.1.0";
 
 /// The exit status if the command line is refused.
 const REFUSED: u8 = 2;
@@ -21,13 +26,16 @@ fn main(rt: HostRuntime) -> ExitCode {
         Ok(code) => code,
         Err(fault) => {
             let _ = eprintln!(rt; "fault: {fault}");
+            if let RunFault::BadLine { reason, .. } = fault {
+                let _ = eprintln!(rt; "reason: {reason}");
+            }
             ExitCode::FAILURE
         }
     }
 }
 
 /// Parses the arguments and runs the scenario.
-fn run<R: AllocGlobal + Env + Input + Print + Eprint + Threads + Wait>(
+fn run<R: AllocGlobal + Env + Files + Input + Print + Eprint + Threads + Wait>(
     rt: &R,
 ) -> Result<ExitCode, RunFault> {
     let alloc = rt.alloc();
@@ -35,21 +43,63 @@ fn run<R: AllocGlobal + Env + Input + Print + Eprint + Threads + Wait>(
         let _ = eprintln!(rt; "error: an argument is not UTF-8");
         return Ok(ExitCode::from(REFUSED));
     };
-    let options = match command_line::parse(alloc, words.as_slice()) {
-        Ok(options) => options,
+    match command_line::parse(alloc, words.as_slice()) {
+        Ok(asked) => run_asked(rt, &asked),
         Err(error) => {
             let printed = error.print(rt);
             let code = ExitCode::from(error.exit_code() as u8);
             // A help that cannot be written is a failure.
-            return Ok(if printed.is_err() && error.exit_code() == 0 {
+            Ok(if printed.is_err() && error.exit_code() == 0 {
                 ExitCode::FAILURE
             } else {
                 code
-            });
+            })
         }
-    };
-    run_scenario(rt, alloc, &options, &mut rt.reader(), &mut io::writer(rt))?;
+    }
+}
+
+/// Prints the version, or runs the scenario.
+fn run_asked<R: AllocGlobal + Files + Input + Print + Eprint + Threads + Wait>(
+    rt: &R,
+    asked: &Asked<'_>,
+) -> Result<ExitCode, RunFault> {
+    if asked.version {
+        let printed = println!(rt; "ring-run {VERSION}");
+        return Ok(match printed {
+            Ok(()) => ExitCode::SUCCESS,
+            Err(_) => ExitCode::FAILURE,
+        });
+    }
+    match asked.file {
+        Some(file) => run_file(rt, &asked.options, file)?,
+        None => {
+            let alloc = rt.alloc();
+            run_scenario(
+                rt,
+                alloc,
+                &asked.options,
+                &mut rt.reader(),
+                &mut io::writer(rt),
+            )?;
+        }
+    }
     Ok(ExitCode::SUCCESS)
+}
+
+/// Runs the scenario in a file, which is opened once the options were tested.
+fn run_file<R: AllocGlobal + Files + Print + Eprint + Threads + Wait>(
+    rt: &R,
+    options: &Options,
+    file: &str,
+) -> Result<(), RunFault> {
+    options.test()?;
+    match fs::open(rt, file) {
+        Ok(mut reader) => run_scenario(rt, rt.alloc(), options, &mut reader, &mut io::writer(rt)),
+        Err(error) => {
+            let _ = eprintln!(rt; "ring-run: {error}");
+            Err(RunFault::InputUnread)
+        }
+    }
 }
 
 /// The words of the command line. Returns `None` if one of them is not UTF-8.

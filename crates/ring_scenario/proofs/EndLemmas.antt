@@ -10,7 +10,7 @@ use Rattle.ring_table.specs.declared.claim.StagedClaim.{StagedClaim}
 use Rattle.ring_table.specs.Passing.{AreSettled, placed_committed_of}
 use Rattle.ring_rings.specs.Closing.{AreOrdered, HandsOut}
 use Rattle.ring_rings.proofs.SentLemmas.{placed_committed_of-append}
-use Rattle.ring_conductor.proofs.FinishLemmas.{drained}
+use Rattle.ring_service.proofs.FinishLemmas.{drained}
 use Rattle.ring_scenario.specs.Closing.{TakesAllBut}
 
 pub takes_all_but : (C start : ℕ) (p r : View) (rest : Ring) → HandsOut C start p r rest

@@ -1,5 +1,5 @@
 -- Which faults come from a line.
-use Rattle.std.proofs.Common.{◌≡◌, ℕ, sym, subst}
+use Rattle.std.proofs.Common.{◌≡◌, ◌≢◌, ℕ, sym, subst}
 use Rattle.ring_lines.specs.declared.fault.LineFault.{LineFault}
 use Rattle.ring_lines.specs.declared.fault.LineFault.TheVariants as line
 use Rattle.ring_scenario.specs.declared.fault.RunFault.{RunFault}
@@ -10,12 +10,12 @@ pub of_line_weaker : (P Q : ℕ → Type 0) → ((n : ℕ) → P n → Q n) → 
 of_line_weaker P Q f BadCapacity h = tt
 of_line_weaker P Q f OutOfMemory h = tt
 of_line_weaker P Q f BadCount h = tt
-of_line_weaker P Q f (BadLine n) h = f n h
+of_line_weaker P Q f (BadLine n reason) h = f n h
 of_line_weaker P Q f InputUnread h = tt
 of_line_weaker P Q f InputTooLong h = tt
 of_line_weaker P Q f OutputUnwritten h = tt
 
-pub of_fault_at : (P : ℕ → Type 0) (fault : RunFault) (f : LineFault) (n : ℕ) → fault ≡ fault_at n f → P n
-    → OfLine P fault
-of_fault_at P fault line.Bad n is bad = subst (OfLine P) (sym is) bad
+pub of_fault_at : (P : ℕ → Type 0) (fault : RunFault) (f : LineFault) (n : ℕ) → fault ≡ fault_at n f
+    → (f ≢ line.OutOfMemory → P n) → OfLine P fault
+of_fault_at P fault (line.Bad reason) n is bad = subst (OfLine P) (sym is) (bad (λ clash. absurd (cc)))
 of_fault_at P fault line.OutOfMemory n is bad = subst (OfLine P) (sym is) tt

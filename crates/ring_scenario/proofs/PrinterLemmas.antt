@@ -49,12 +49,12 @@ pub printed_controls : (limit : ℕ) (v w : View) (s t : Printer) (end : ReadEnd
     → Controls PrintsUnless limit v w s t end → t.wants_memory ≡ false
     → Controls Prints limit v w (printed_by s) (printed_by t) end
 printed_controls limit v w s t end (inl on) had = inl (record {
-  reads = printed_reads limit v w s t end.messages on.reads had;
+  reads = record { reads = printed_reads limit v w s t end.messages on.reads.reads had; heads = on.reads.heads };
   went_on = on.went_on;
   stopped = on.stopped;
 })
 printed_controls limit v w s t end (inr (inl broke)) had = inr (inl (record {
-  reads = printed_reads limit v w s t end.messages broke.reads had;
+  reads = record { reads = printed_reads limit v w s t end.messages broke.reads.reads had; heads = broke.reads.heads };
   before = broke.before;
   went_on = broke.went_on;
   broke = broke.broke;
@@ -65,7 +65,10 @@ printed_controls limit v w s t end (inr (inr cut)) had =
     let before = cut.aborted.2 had in
     inr (inr (record {
       before = printed_by cut.before;
-      reads = printed_reads limit v w s cut.before end.messages cut.reads before.0;
+      reads = record {
+        reads = printed_reads limit v w s cut.before end.messages cut.reads.reads before.0;
+        heads = cut.reads.heads;
+      };
       went_on = cut.went_on;
       message = cut.message;
       aborted = record { returned = cut.aborted.0; actions = cut.aborted.1; text = before.1 };

@@ -48,7 +48,7 @@ one_more_ran all left next line a b c was now later text ran cut runs written = 
 
 -- a run stopped at its next line
 pub stops_here : (all left : List (List ℕ)) (a b : Runner) (was now : Option (List ℕ)) (taken number : ℕ)
-    → (ran : HaveRun all left a b was now) × (taken ≡ length ran.taken) → number ≡ taken + 1 → BeginsBad left
+    → (ran : HaveRun all left a b was now) × (taken ≡ length ran.taken) → number ≡ taken + 1 → BeginsBad b left
     → StopsAt all a was now number
 stops_here all left a b was now taken number ran next bad =
     record { left = left; last = b; ran = ran.0; bad = bad; counted = let is = ran.1 in omega (arith, is, next) }

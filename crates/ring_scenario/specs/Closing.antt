@@ -8,7 +8,7 @@ use Rattle.ring_rings.specs.Closing.{AreOrdered}
 use Rattle.ring_rings.specs.Seats.{capacity_of, claims_of, start_of}
 use Rattle.ring_standalone.specs.Standalone.{Standalone, aborted_view}
 use Rattle.ring_counters.specs.Manager.{registry_of, shares_of}
-use Rattle.ring_conductor.specs.Conducting.{manager_in, received_of}
+use Rattle.ring_service.specs.Conducting.{manager_in, received_of}
 use Rattle.ring_scenario.specs.declared.service.CommandService.{CommandService}
 use Rattle.ring_scenario.specs.declared.service.closing.Served.{Served}
 

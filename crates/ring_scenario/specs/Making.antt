@@ -8,7 +8,7 @@ use Rattle.ring_layout.specs.Refusals.{all_shares}
 use Rattle.ring_counters.specs.Manager.{registry_of, writes_of}
 use Rattle.ring_counters.specs.Registry.{fresh_registry}
 use Rattle.ring_counters.specs.Seats.{values_count}
-use Rattle.ring_conductor.specs.Conducting.{board_view, manager_in, ring_view, value_shares_of}
+use Rattle.ring_service.specs.Conducting.{board_view, manager_in, ring_view, value_shares_of}
 use Rattle.ring_standalone.specs.Held.{held_in}
 use Rattle.ring_standalone.specs.Standalone.{fresh_standalone}
 use Rattle.ring_scenario.specs.declared.options.Options.{Options}

@@ -7,7 +7,7 @@ use Rattle.ring_board.specs.Seats.{view_of}
 use Rattle.ring_counters.specs.Manager.{registry_of}
 use Rattle.ring_counters.specs.Registry.{live_of}
 use Rattle.ring_lines.specs.declared.call.Call.{Call}
-use Rattle.ring_lines.specs.Lines.{AsksFor}
+use Rattle.ring_lines.specs.Lines.{AsksFor, AsksForNone}
 use Rattle.ring_lines.specs.Text.{AllBlank, IsBlank, IsEnd, lines_of, words_of}
 use Rattle.ring_standalone.specs.Held.{held_in}
 use Rattle.ring_standalone.specs.Receivers.{all_left}
@@ -16,7 +16,7 @@ use Rattle.ring_scenario.specs.declared.options.Options.{Options}
 use Rattle.ring_scenario.specs.declared.runner.Ended.{Ended}
 use Rattle.ring_scenario.specs.declared.runner.Runner.{Runner}
 use Rattle.ring_scenario.specs.declared.service.closing.Served.{Served}
-use Rattle.ring_scenario.specs.Executing.{Executes}
+use Rattle.ring_scenario.specs.Executing.{CannotExecute, Executes}
 use Rattle.ring_scenario.specs.Keeping.{KeepsRest}
 use Rattle.ring_scenario.specs.Making.{RunsBy}
 
@@ -100,18 +100,21 @@ abbrev pub RunsText : List ℕ → Runner → Option (List ℕ) → Option (List
 RunsText text r was now = (after : List (List ℕ)) × (number : ℕ) × RunsAndEnds (lines_of text) after r was now number
     × AllBlank after
 
--- the first of these lines is neither blank nor `end` alone, or there is none
-abbrev pub BeginsBad : List (List ℕ) → Type 0
-BeginsBad [] = Unit {0}
-BeginsBad (line ∷ more) = ¬ IsBlank (words_of line) × ¬ IsEnd (words_of line)
+-- the words ask for no call, or for one that this runner cannot execute
+abbrev pub CannotRun : Runner → List (List ℕ) → Type 0
+CannotRun r words = AsksForNone words ⊎ ((call : Call) × AsksFor call words × CannotExecute call r)
 
--- the lines in front of the one of this number ran, and what they printed was written; that one is missing, or neither
--- blank nor `end` alone
+-- the first of these lines is bad: it is not blank and not `end` alone, and this runner cannot run it; or there is none
+abbrev pub BeginsBad : Runner → List (List ℕ) → Type 0
+BeginsBad r [] = Unit {0}
+BeginsBad r (line ∷ more) = ¬ IsBlank (words_of line) × ¬ IsEnd (words_of line) × CannotRun r (words_of line)
+
+-- the lines in front of the one of this number ran, and what they printed was written; that one is missing or bad
 pub record StopsAt (lines : List (List ℕ)) (r : Runner) (was now : Option (List ℕ)) (number : ℕ) : Type 0 where
   pub left : List (List ℕ)
   pub last : Runner
   pub ran : HaveRun lines left r last was now
-  pub bad : BeginsBad left
+  pub bad : BeginsBad last left
   pub counted : number ≡ length ran.taken + 1
 
 -- the first of these lines that is not blank is the one of this number, if this many lines were in front of them

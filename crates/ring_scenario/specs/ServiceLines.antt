@@ -7,8 +7,8 @@ use Rattle.ring_counters.specs.Manager.{registry_of}
 use Rattle.ring_counters.specs.Registry.{answer, counter_at, id_refusal_of, live_of}
 use Rattle.ring_counters.specs.declared.fault.OutOfMemory.{OutOfMemory}
 use Rattle.ring_counters.specs.declared.info.CounterInfo.{CounterInfo}
-use Rattle.ring_conductor.specs.declared.conductor.Work.{Work}
-use Rattle.ring_conductor.specs.Conducting.{Works, ledger_of, manager_in, ring_view}
+use Rattle.ring_service.specs.declared.conductor.Work.{Work}
+use Rattle.ring_service.specs.Conducting.{Works, ledger_of, manager_in, ring_view}
 use Rattle.ring_protocol.specs.declared.command.Request.{Request}
 use Rattle.ring_standalone.specs.Claims.{RefusesAfter, WritesAfter}
 use Rattle.ring_scenario.specs.Keeping.{KeepsButConductor, KeepsButProducer}

@@ -16,5 +16,5 @@ mod service;
 
 pub use fault::RunFault;
 pub use options::Options;
-pub use ring_lines::MAX_INPUT;
+pub use ring_lines::{LineError, MAX_INPUT};
 pub use scenario::{MAX_READS, run_scenario};

@@ -1,5 +1,5 @@
 //! What a run holds, and what its calls print.
-ghost use Rattle.std.specs.Prelude.{◌≡◌, ◌↔◌, ℕ, None, IfErr, IfOk, IfSome, IsOkUnless, IsSome, IsTrue, OnOk, codes, string_bytes};
+ghost use Rattle.std.specs.Prelude.{◌≡◌, ◌≢◌, ◌↔◌, ℕ, None, IfErr, IfOk, IfSome, IsOkUnless, IsSome, IsTrue, OnOk, codes, string_bytes};
 ghost use Rattle.ring_board.specs.Runs.{AreAllRuns};
 ghost use Rattle.ring_board.specs.Board.{transmitted};
 ghost use Rattle.ring_board.specs.Seats.{view_of};
@@ -17,7 +17,7 @@ use crate::fault::RunFault;
 use crate::options::Options;
 use crate::printer::Printer;
 use crate::service::{CommandService, Served};
-use ring_lines::{Call, LineFault};
+use ring_lines::{Call, LineError, LineFault};
 use ring_standalone::{StandaloneBoard, StandaloneRing};
 use ring_words::{Action, MakeFault, Positions};
 use std::alloc::{AllocError, Global};
@@ -85,7 +85,7 @@ impl Runner {
     pub fn execute<R: Threads + Wait>(&mut self, rt: &R, call: Call) -> Result<String, LineFault>
         ensures line { IfOk result (λ text. Executes call self.old self.new (string_bytes text)) }
         ensures rest { OnOk result (KeepsRest call self.old self.new) }
-        ensures bad { IfErr result (λ fault. fault ≡ LineFault.Bad → CannotExecute call self.old) }
+        ensures bad { IfErr result (λ fault. fault ≢ LineFault.OutOfMemory → CannotExecute call self.old) }
     {
         let text = match call {
             Call::Write { type_id, body } => self.write(rt, type_id, body.as_slice())?,
@@ -96,11 +96,15 @@ impl Runner {
                 bytes,
             } => self.put(number, offset, bytes.as_slice())?,
             Call::Commit { number } => {
-                self.ring.commit(number).ok_or(LineFault::Bad)?;
+                self.ring
+                    .commit(number)
+                    .ok_or(LineFault::Bad(LineError::NotHeld))?;
                 self.ok()?
             }
             Call::Abort { number } => {
-                self.ring.abort(number).ok_or(LineFault::Bad)?;
+                self.ring
+                    .abort(number)
+                    .ok_or(LineFault::Bad(LineError::NotHeld))?;
                 self.ok()?
             }
             Call::Read { limit } => self.read(limit)?,
@@ -116,7 +120,9 @@ impl Runner {
             Call::Subscribe => self.subscribe()?,
             Call::Receive { number } => self.receive(number)?,
             Call::Leave { number } => {
-                self.board.leave(number).ok_or(LineFault::Bad)?;
+                self.board
+                    .leave(number)
+                    .ok_or(LineFault::Bad(LineError::NotHeld))?;
                 self.ok()?
             }
             Call::Storm { clients, commands } => self.storm(rt, clients, commands)?,
@@ -147,10 +153,10 @@ impl Runner {
         ensures line { IfOk result (λ text.
             PutsLine number offset bytes.now self.old.ring self.new.ring (string_bytes text)) }
         ensures rest { KeepsButRing self.old self.new }
-        ensures bad { IfErr result (λ fault. fault ≡ LineFault.Bad → IsFree self.old.ring.producer.claims number) }
+        ensures bad { IfErr result (λ fault. fault ≢ LineFault.OutOfMemory → IsFree self.old.ring.producer.claims number) }
     {
         let Some(put) = self.ring.put(number, offset, bytes) else {
-            return Err(LineFault::Bad);
+            return Err(LineFault::Bad(LineError::NotHeld));
         };
         Ok(self.done(put)?)
     }
@@ -230,10 +236,10 @@ impl Runner {
         ensures line { IfOk result (λ text.
             ReceivesLine number self.old.board self.new.board (string_bytes text)) }
         ensures rest { KeepsButBoard self.old self.new }
-        ensures bad { IfErr result (λ fault. fault ≡ LineFault.Bad → IsFree (held_in self.old.board.receivers) number) }
+        ensures bad { IfErr result (λ fault. fault ≢ LineFault.OutOfMemory → IsFree (held_in self.old.board.receivers) number) }
     {
         let Some(received) = self.board.receive(self.alloc, number) else {
-            return Err(LineFault::Bad);
+            return Err(LineFault::Bad(LineError::NotHeld));
         };
         let received = received?;
         Ok(self.received(received)?)

@@ -1,11 +1,15 @@
 //! Runs a scenario, whose text is read whole.
-ghost use Rattle.std.specs.Prelude.{◌≡◌, ◌≤◌, length, Some, IfSome, OnOk, IfErr, ◌≢◌, ◌<◌, ℕ, IfOk, vec_len};
+ghost use Rattle.std.specs.Prelude.{◌≡◌, ◌≤◌, length, Some, IfSome, OnOk, IfErr, ◌≢◌, ◌<◌, ℕ, IfOk, string_bytes, vec_len};
 ghost use Rattle.ring_scenario.specs.Faults.{IsEarly, IsOfWriting, OfLine};
 ghost use Rattle.ring_scenario.specs.Running.{FailsAt, FailsScenario, IsNotBlankAt, RunsScenario, RunsText, RunsToEnd};
 ghost use Rattle.ring_scenario.specs.Running.{StopsAt, ended_text, finished_text};
 ghost use Rattle.ring_scenario.specs.Sizes.{size_fault_of};
 ghost use Rattle.std.specs.Io.KnownBytes.{Appends};
-ghost use Rattle.ring_lines.specs.Text.{lines_of, AllBlank};
+ghost use Rattle.ring_lines.specs.declared.fault.LineError.{LineError};
+ghost use Rattle.ring_lines.specs.Lines.{AsksForNone, IsLine};
+ghost use Rattle.ring_lines.specs.Text.{lines_of, words_of, AllBlank, IsBlank, IsEnd};
+ghost use Rattle.ring_scenario.specs.Executing.{CannotExecute, Executes};
+ghost use Rattle.ring_scenario.specs.Keeping.{KeepsRest};
 ghost use Rattle.ring_counters.specs.Manager.{registry_of};
 ghost use Rattle.ring_counters.specs.Registry.{live_of};
 
@@ -14,7 +18,7 @@ use crate::options::Options;
 use crate::runner::{Ended, Runner};
 use crate::service::Served;
 use ring_counters::CountersManager;
-use ring_lines::{Line, Lines, MAX_INPUT};
+use ring_lines::{Call, Line, LineError, Lines, MAX_INPUT};
 use std::alloc::Global;
 use std::io::{ErrorKind, Read, Write};
 use std::sync::Wait;
@@ -59,7 +63,7 @@ fn read_input<R: Read>(alloc: Global, reader: &mut R) -> Result<Vec<u8>, RunFaul
     ensures whole { IfOk result (λ input. IfSome (R.remaining reader.old) (λ bytes. input.items ≡ bytes)) }
     ensures short { IfOk result (λ input. vec_len input ≤ MAX_INPUT) }
     ensures lawful { result ≢ Err RunFault.BadCapacity × result ≢ Err RunFault.BadCount
-        × result ≢ Err RunFault.OutputUnwritten × ((line : ℕ) → result ≢ Err (RunFault.BadLine line)) }
+        × result ≢ Err RunFault.OutputUnwritten × ((line : ℕ) (reason : LineError) → result ≢ Err (RunFault.BadLine line reason)) }
     ensures long { result ≡ Err RunFault.InputTooLong
         → IfSome (R.remaining reader.old) (λ bytes. MAX_INPUT < length bytes) }
 {
@@ -123,12 +127,10 @@ fn run_to_end<R: Threads + Wait, O: Write>(
 {
     while let Some(text) = lines.next_line() {
         let number = lines.taken();
-        match Line::parse(alloc, text).map_err(|fault| RunFault::at_line(fault, number))? {
+        match parse_at(alloc, text, number)? {
             Line::Nothing => {}
             Line::Call(call) => {
-                let output = runner
-                    .execute(rt, call)
-                    .map_err(|fault| RunFault::at_line(fault, number))?;
+                let output = execute_at(rt, runner, call, number)?;
                 write_text(writer, output.as_str())?;
             }
             Line::End => return Ok(()),
@@ -136,7 +138,40 @@ fn run_to_end<R: Threads + Wait, O: Write>(
     }
     Err(RunFault::BadLine {
         line: lines.taken() + 1,
+        reason: LineError::NoEnd,
     })
+}
+
+/// Parses the line of this number.
+fn parse_at(alloc: Global, text: &[u8], number: u32) -> Result<Line, RunFault>
+    ensures line { IfOk result (λ line. IsLine line (words_of text.now)) }
+    ensures blank { IsBlank (words_of text.now) → result ≡ Ok Line.Nothing }
+    ensures end { IsEnd (words_of text.now) → result ≡ Ok Line.End }
+    ensures bad { IfErr result (OfLine (λ line. (line ≡ number) × AsksForNone (words_of text.now))) }
+    ensures late { IfErr result (λ fault. ¬ IsEarly fault) }
+{
+    match Line::parse(alloc, text) {
+        Ok(line) => Ok(line),
+        Err(fault) => Err(RunFault::at_line(fault, number)),
+    }
+}
+
+/// Executes the call of the line of this number, and gives the lines that it prints.
+fn execute_at<R: Threads + Wait>(
+    rt: &R,
+    runner: &mut Runner,
+    call: Call,
+    number: u32,
+) -> Result<String, RunFault>
+    ensures line { IfOk result (λ text. Executes call runner.old runner.new (string_bytes text)) }
+    ensures rest { OnOk result (KeepsRest call runner.old runner.new) }
+    ensures bad { IfErr result (OfLine (λ line. (line ≡ number) × CannotExecute call runner.old)) }
+    ensures late { IfErr result (λ fault. ¬ IsEarly fault) }
+{
+    match runner.execute(rt, call) {
+        Ok(text) => Ok(text),
+        Err(fault) => Err(RunFault::at_line(fault, number)),
+    }
 }
 
 /// Tests that the lines after `end` have no words but comments.
@@ -147,9 +182,14 @@ fn rest_is_blank(alloc: Global, lines: &mut Lines) -> Result<(), RunFault>
 {
     while let Some(text) = lines.next_line() {
         let number = lines.taken();
-        match Line::parse(alloc, text).map_err(|fault| RunFault::at_line(fault, number))? {
+        match parse_at(alloc, text, number)? {
             Line::Nothing => {}
-            Line::Call(_) | Line::End => return Err(RunFault::BadLine { line: number }),
+            Line::Call(_) | Line::End => {
+                return Err(RunFault::BadLine {
+                    line: number,
+                    reason: LineError::AfterEnd,
+                });
+            }
         }
     }
     Ok(())

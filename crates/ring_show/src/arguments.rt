@@ -11,8 +11,14 @@ enum Kind {
     Bytes(&'static str),
     /// An option with a decimal number, which is called this.
     Number(&'static str),
+    /// The name of a file, which may be left out.
+    Optional,
+    /// An option with a text, which is called this.
+    Text(&'static str),
     /// An option with one of these words, the last one if it is left out.
     Choice(&'static [&'static str], &'static str),
+    /// An option with no value.
+    Flag,
 }
 
 /// An argument of some subcommands.
@@ -26,7 +32,7 @@ pub struct Argument {
 }
 
 /// All arguments, in the order of the help.
-pub static ARGUMENTS: [Argument; 18] = [
+pub static ARGUMENTS: [Argument; 23] = [
     Argument {
         of: "ring board counters cnc",
         name: "limit",
@@ -34,7 +40,13 @@ pub static ARGUMENTS: [Argument; 18] = [
         help: "List at most this many; all are counted",
     },
     Argument {
-        of: "ring board counters cnc",
+        of: "watch",
+        name: "limit",
+        kind: Kind::Number("N"),
+        help: "List at most this many of each; all are counted [default: 8]",
+    },
+    Argument {
+        of: "ring board counters cnc watch",
         name: "width",
         kind: Kind::Number("N"),
         help: "Draw a buffer in at most this many pieces [default: what COLUMNS has room for at a terminal, or 64]",
@@ -46,10 +58,16 @@ pub static ARGUMENTS: [Argument; 18] = [
         help: "How bytes are shown",
     },
     Argument {
-        of: "ring board counters cnc",
+        of: "ring board counters cnc watch",
         name: "format",
         kind: Kind::Choice(&["table", "json", "prometheus"], "table"),
         help: "A table, JSON, or the text format of Prometheus",
+    },
+    Argument {
+        of: "find",
+        name: "format",
+        kind: Kind::Choice(&["table", "json"], "table"),
+        help: "Lines for people, or an object of JSON a line",
     },
     Argument {
         of: "ring board counters",
@@ -70,10 +88,28 @@ pub static ARGUMENTS: [Argument; 18] = [
         help: "Look again every MS milliseconds, and show rates",
     },
     Argument {
-        of: "ring board counters",
+        of: "watch",
+        name: "every",
+        kind: Kind::Number("MS"),
+        help: "Look again every MS milliseconds [default: 1000]",
+    },
+    Argument {
+        of: "ring board counters watch",
         name: "times",
         kind: Kind::Number("N"),
-        help: "End after N looks [default: with --every until it is interrupted]",
+        help: "End after N looks, at least 1 [default: looks again until it is interrupted]",
+    },
+    Argument {
+        of: "ring find watch",
+        name: "fail-if-blocked",
+        kind: Kind::Flag,
+        help: "The status is 1 if two looks saw a consumer blocked",
+    },
+    Argument {
+        of: "ring board counters",
+        name: "name",
+        kind: Kind::Text("NAME"),
+        help: "What it is called: a label of its metrics, and a member of its JSON",
     },
     Argument {
         of: "ring board",
@@ -102,8 +138,8 @@ pub static ARGUMENTS: [Argument; 18] = [
     Argument {
         of: "counters",
         name: "VALUES",
-        kind: Kind::Name,
-        help: "The file with the copy of the values; it may be the same file",
+        kind: Kind::Optional,
+        help: "The file with the copy of the values; it may be the same file. Without it they are not known",
     },
     Argument {
         of: "counters",
@@ -124,7 +160,7 @@ pub static ARGUMENTS: [Argument; 18] = [
         help: "List from this id on",
     },
     Argument {
-        of: "find",
+        of: "find watch",
         name: "MEMORY",
         kind: Kind::Name,
         help: "The number of a process, or a file",
@@ -146,10 +182,17 @@ impl Argument {
     /// It as `clap` has it.
     pub fn arg<'a>(&self, alloc: Global) -> Arg<'a> {
         let name = self.name;
-        let arg = Arg::new(alloc, name).action(ArgAction::Set).help(self.help);
+        let action = if matches!(self.kind, Kind::Flag) {
+            ArgAction::SetTrue
+        } else {
+            ArgAction::Set
+        };
+        let arg = Arg::new(alloc, name).action(action).help(self.help);
         match self.kind {
             Kind::Name => arg.required(true),
-            Kind::Bytes(value) => arg.long(name).value_name(value),
+            Kind::Optional => arg,
+            Kind::Flag => arg.long(name),
+            Kind::Bytes(value) | Kind::Text(value) => arg.long(name).value_name(value),
             Kind::Number(value) => {
                 arg.long(name)
                     .value_name(value)

@@ -1,8 +1,9 @@
 //! Aeron's command-and-control file: a ring of commands, a broadcast buffer of replies, and counters.
 use crate::fault::ShowFault;
 use crate::options::Format;
-use crate::show::{print_report, report_of_counters, status_of};
-use ring_report::{Report, Section, View, section_words};
+use crate::show::{print_findings, print_report, print_text, report_of_counters, status_of};
+use ring_report::{Labelled, Origin, Report, Section, View, section_words, to_prometheus};
+use std::alloc::{AllocError, Global};
 use std::fs;
 use std::io::Input;
 use std::process::ExitCode;
@@ -79,50 +80,104 @@ fn part(file: &str, at: u64, length: u64) -> Section<'_> {
     }
 }
 
-/// Shows the ring or the broadcast buffer.
-fn show_buffer<'a, R: AllocGlobal + Files + Input + Print + Eprint>(
+/// A report, and where it begins in the file.
+#[derive(Drop)]
+struct Shown {
+    report: Report,
+    at: u64,
+}
+
+/// The report of the ring, or of the broadcast buffer.
+fn buffer_of<'a, R: AllocGlobal + Files + Input>(
     rt: &R,
     section: Section<'a>,
     is_ring: bool,
     view: View,
-    format: Format,
-) -> Result<bool, ShowFault<'a>> {
+) -> Result<Shown, ShowFault<'a>> {
     let words = section_words(rt, section)?;
     let report = if is_ring {
         Report::of_ring(rt.alloc(), words.as_slice(), view)?
     } else {
         Report::of_board(rt.alloc(), words.as_slice(), view)?
     };
-    print_report(rt, &report, format)
+    let at = section.at;
+    Ok(Shown { report, at })
 }
 
-/// Shows the counters.
-fn show_counters<'a, R: AllocGlobal + Files + Input + Print + Eprint>(
+/// Adds the reports of the ring, the broadcast buffer and the counters.
+fn add_reports<'a, R: AllocGlobal + Files + Input>(
     rt: &R,
-    metadata: Section<'a>,
-    values: Section<'a>,
+    shown: &mut Vec<Shown>,
+    file: &'a str,
     view: View,
-    format: Format,
-) -> Result<bool, ShowFault<'a>> {
-    let report = report_of_counters(rt, metadata, values, view)?;
-    print_report(rt, &report, format)
+) -> Result<(), ShowFault<'a>> {
+    let parts = parts_of(rt, file)?;
+    let board_at = HEADER.saturating_add(parts.ring);
+    let metadata_at = board_at.saturating_add(parts.board);
+    let values_at = metadata_at.saturating_add(parts.metadata);
+    shown.push(buffer_of(rt, part(file, HEADER, parts.ring), true, view)?)?;
+    shown.push(buffer_of(rt, part(file, board_at, parts.board), false, view)?)?;
+    let metadata = part(file, metadata_at, parts.metadata);
+    let values = part(file, values_at, parts.values);
+    let report = report_of_counters(rt, metadata, Some(values), view)?;
+    let at = metadata_at;
+    shown.push(Shown { report, at })?;
+    Ok(())
 }
 
-/// Shows the ring, the broadcast buffer and the counters, one after another. The status is 1 if one has a finding.
+/// The metrics of all reports.
+fn metrics(alloc: Global, file: &str, shown: &[Shown]) -> Result<String, AllocError> {
+    let mut labelled = Vec::new(alloc);
+    for it in shown {
+        labelled.push(labelled_of(file, it))?;
+    }
+    to_prometheus(alloc, labelled.as_slice())
+}
+
+/// A report from its place in the file.
+fn labelled_of<'a>(file: &'a str, shown: &'a Shown) -> Labelled<'a> {
+    Labelled {
+        report: &shown.report,
+        origin: Some(Origin {
+            file,
+            at: shown.at,
+            name: None,
+        }),
+    }
+}
+
+/// Prints all reports, and their findings on standard error. Returns whether there are none.
+fn print_all<R: AllocGlobal + Print + Eprint>(
+    rt: &R,
+    file: &str,
+    shown: &[Shown],
+    format: Format,
+) -> Result<bool, ShowFault<'static>> {
+    let mut is_sound = true;
+    if matches!(format, Format::Prometheus) {
+        let text = metrics(rt.alloc(), file, shown)?;
+        print_text(rt, text.as_str())?;
+        for it in shown {
+            is_sound &= print_findings(rt, &it.report);
+        }
+    } else {
+        for it in shown {
+            is_sound &= print_report(rt, labelled_of(file, it), format, true)?;
+        }
+    }
+    Ok(is_sound)
+}
+
+/// Shows the ring, the broadcast buffer and the counters, one after another; JSON is one document a line. The status is
+/// 1 if one has a finding.
 pub fn show_cnc<'a, R: AllocGlobal + Files + Input + Print + Eprint>(
     rt: &R,
     file: &'a str,
     view: View,
     format: Format,
 ) -> Result<ExitCode, ShowFault<'a>> {
-    let parts = parts_of(rt, file)?;
-    let board_at = HEADER.saturating_add(parts.ring);
-    let metadata_at = board_at.saturating_add(parts.board);
-    let values_at = metadata_at.saturating_add(parts.metadata);
-    let mut is_sound = show_buffer(rt, part(file, HEADER, parts.ring), true, view, format)?;
-    is_sound &= show_buffer(rt, part(file, board_at, parts.board), false, view, format)?;
-    let metadata = part(file, metadata_at, parts.metadata);
-    let values = part(file, values_at, parts.values);
-    is_sound &= show_counters(rt, metadata, values, view, format)?;
+    let mut shown = Vec::new(rt.alloc());
+    add_reports(rt, &mut shown, file, view)?;
+    let is_sound = print_all(rt, file, shown.as_slice(), format)?;
     Ok(status_of(is_sound))
 }

@@ -1,5 +1,5 @@
 //! Why nothing was shown.
-use ring_report::InputFault;
+use ring_report::{InputFault, Printable};
 use std::alloc::{AllocError, AllocFailed};
 use thiserror::Error;
 
@@ -10,14 +10,23 @@ pub enum ShowFault<'a> {
     #[error("{0}")]
     Input(InputFault<'a>),
     /// The value of an option is not a number of bytes.
-    #[error("--{option} {value}: a number of bytes is decimal, or hexadecimal after 0x")]
+    #[error("--{option} {}: a number of bytes is decimal, or hexadecimal after 0x", Printable(value))]
     NotBytes { option: &'a str, value: &'a str },
     /// Bodies that lie apart are in another section of the file.
     #[error("--bodies-at: standard input has one section, so give a file")]
     BodiesOfInput,
-    /// There is no such process, or its memory may not be read.
-    #[error("{pid}: no such process, or its memory may not be read")]
+    /// There is no such process.
+    #[error("{pid}: no such process")]
     NoProcess { pid: &'a str },
+    /// The memory of the process may not be read.
+    #[error("{pid}: its memory may not be read: be its user, with kernel.yama.ptrace_scope 0, or have CAP_SYS_PTRACE")]
+    NotAllowed { pid: &'a str },
+    /// The memory of the process cannot be read.
+    #[error("{pid}: its memory cannot be read: {reason}")]
+    NoMemory { pid: &'a str, reason: &'static str },
+    /// No look was asked for.
+    #[error("--times 0: there is at least one look")]
+    NoLook,
     /// The file has another version, or is shorter than its header says.
     #[error("no command-and-control file of version 0.1.0 or 0.2.0, or too short")]
     NotCnc,

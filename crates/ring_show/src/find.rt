@@ -1,204 +1,130 @@
 //! Rings, broadcast buffers and counters in the memory of a process, in a core file or in a copy.
-use crate::bodies::note_bodies;
 use crate::fault::ShowFault;
-use crate::found::{Found, Kind, METADATA, add_buffer, add_counter, print_found};
-use crate::memory::{Region, add_regions, file_of};
-use ring_report::{Cause, Section, formatted_words, words_of};
-use ring_snapshot::{next_board, next_counter, next_ring};
-use std::alloc::Global;
+use crate::found::Found;
+use crate::known::Pieces;
+use crate::memory::{Region, add_regions, file_of, pid_of};
+use crate::search::{Search, Unread};
+use crate::show::status_of;
+use crate::trailer::Trailer;
+use crate::watch::{Round, Wanted, Watched};
+use ring_report::{InputFault, Printable};
+use std::alloc::{AllocError, Global};
 use std::io::Input;
 use std::process::ExitCode;
-use std::rt::Files;
+use std::rt::{Clock, Files};
 
-/// The bytes that are searched at once: two of the largest rings.
-const WINDOW: u64 = (1 << 25) + 768;
+/// How many lines of the same kind standard error gets at most.
+const LINES: usize = 8;
 
-/// How far the next window begins after one.
-const STEP: u64 = 1 << 24;
-
-/// Words of memory, and the place of the first of them.
-#[derive(Clone, Copy)]
-struct Window<'a> {
-    words: &'a [u64],
-    /// Its address in the program.
-    address: u64,
-    /// The start of it in the file.
-    at: u64,
-}
-
-/// What is looked for.
-#[derive(Clone, Copy)]
-enum Wanted<'a> {
-    /// Rings, broadcast buffers and counters.
-    All,
-    /// The bodies of the rings that were found, among these pieces of memory.
-    Bodies(&'a [Region]),
-}
-
-impl<'a> Window<'a> {
-    /// What is found at a word.
-    fn found(self, kind: Kind, index: usize, capacity: u64) -> Found {
-        let offset = (index as u64).saturating_mul(8);
-        Found {
-            kind,
-            address: self.address.saturating_add(offset),
-            at: self.at.saturating_add(offset),
-            capacity,
-            bodies_at: None,
-        }
-    }
-}
-
-/// The next ring or broadcast buffer of a capacity.
-fn next_buffer(words: &[u64], from: usize, kind: Kind, capacity: u32) -> Option<usize> {
-    if kind == Kind::Ring {
-        next_ring(words, from, capacity)
-    } else {
-        next_board(words, from, capacity)
-    }
-}
-
-/// Adds the rings, or the broadcast buffers, of one capacity.
-fn add_buffers(
-    found: &mut Vec<Found>,
-    window: Window<'_>,
-    kind: Kind,
-    capacity: u32,
-) -> Result<(), ShowFault<'static>> {
-    let mut from = 0;
-    for _ in 0..=window.words.len() {
-        let Some(index) = next_buffer(window.words, from, kind, capacity) else {
-            break;
-        };
-        add_buffer(found, window.found(kind, index, u64::from(capacity)))?;
-        from = index.saturating_add(1);
-    }
-    Ok(())
-}
-
-/// Adds the counters.
-fn add_counters(found: &mut Vec<Found>, window: Window<'_>) -> Result<(), ShowFault<'static>> {
-    let mut from = 0;
-    for _ in 0..=window.words.len() {
-        let Some(index) = next_counter(window.words, from) else {
-            break;
-        };
-        add_counter(found, window.found(Kind::Counters, index, METADATA))?;
-        from = index.saturating_add(1);
-    }
-    Ok(())
-}
-
-/// Adds all that is found in a window.
-fn search_window(
-    alloc: Global,
-    found: &mut Vec<Found>,
-    window: Window<'_>,
-) -> Result<(), ShowFault<'static>> {
-    let words = formatted_words(alloc, window.words)?;
-    let formatted = Window {
-        words: words.as_slice(),
-        address: window.address,
-        at: window.at,
-    };
-    // (capacities are powers of two, up to 2^24)
-    for exponent in 7..25u32 {
-        add_buffers(found, formatted, Kind::Ring, 1 << exponent)?;
-        add_buffers(found, window, Kind::Board, 1 << exponent)?;
-    }
-    add_counters(found, window)
-}
-
-/// Looks into a window.
-fn look_into(
-    alloc: Global,
-    found: &mut Vec<Found>,
-    window: Window<'_>,
-    wanted: Wanted<'_>,
-) -> Result<(), ShowFault<'static>> {
-    match wanted {
-        Wanted::All => search_window(alloc, found, window),
-        Wanted::Bodies(regions) => {
-            note_bodies(found.as_mut_slice(), regions, window.words);
-            Ok(())
-        }
-    }
-}
-
-/// Adds what is found in a region, window by window. What cannot be read is passed.
-fn search_region<R: AllocGlobal + Files + Input>(
-    rt: &R,
-    file: &str,
-    region: Region,
-    found: &mut Vec<Found>,
-    wanted: Wanted<'_>,
-) -> Result<(), ShowFault<'static>> {
-    let mut offset = 0;
-    for _ in 0..region.length.div_ceil(STEP) {
-        let at = region.at.saturating_add(offset);
-        let section = Section {
+/// Says on standard error which memory was not read, and why.
+fn say_unread(rt: &impl Eprint, file: &str, unread: &[Unread]) {
+    for it in unread.iter().take(LINES) {
+        let (address, length) = (it.address, it.length);
+        let fault = InputFault {
             file,
-            at,
-            length: Some((region.length.saturating_sub(offset).min(WINDOW)) / 8 * 8),
+            cause: it.cause,
         };
-        match words_of(rt, section, WINDOW) {
-            Ok(words) => {
-                let window = Window {
-                    words: words.as_slice(),
-                    address: region.address.saturating_add(offset),
-                    at,
-                };
-                look_into(rt.alloc(), found, window, wanted)?;
-            }
-            Err(Cause::OutOfMemory) => return Err(ShowFault::OutOfMemory),
-            Err(_unreadable) => {}
-        }
-        offset = offset.saturating_add(STEP);
+        let _ = eprintln!(rt; "ring-show: {length} bytes at 0x{address:x} were not read: {fault}");
     }
-    Ok(())
+    let more = unread.len().saturating_sub(LINES);
+    if more > 0 {
+        let _ = eprintln!(rt; "ring-show: and {more} more pieces of memory were not read");
+    }
 }
 
-/// Adds what is found in all of the memory, and then where the bodies of rings are.
-fn search_memory<R: AllocGlobal + Files + Input>(
+/// Says on standard error which buffers change all the time, so that they were not found.
+fn say_busy(rt: &impl Eprint, busy: &[Trailer]) {
+    for it in busy.iter().take(LINES) {
+        let (kind, address) = (it.kind.name(), it.address);
+        let _ = eprintln!(rt;
+            "\
+ring-show: 0x{address:x}: positions like those of a {kind} change all the time, so that its capacity cannot be told: try \
+again, or stop the process meanwhile (kill -STOP)"
+        );
+    }
+}
+
+/// Says on standard error that nothing was found, and what to do.
+fn say_nothing(rt: &impl Eprint, name: &str, regions: &[Region]) {
+    let bytes = regions
+        .iter()
+        .fold(0u64, |sum, region| sum.saturating_add(region.length));
+    let (shown, pieces) = (Printable(name), regions.len());
+    let advice = if pid_of(name).is_some() {
+        ", or all of them changed while they were read: try again, or stop the process meanwhile (kill -STOP)"
+    } else {
+        ""
+    };
+    let _ = eprintln!(rt;
+        "\
+ring-show: {shown}: nothing found; {bytes} bytes in {pieces} pieces of memory have no ring, broadcast buffer or counters \
+that were used{advice}"
+    );
+}
+
+/// All that was found, not yet looked at.
+fn watched(alloc: Global, found: &[Found]) -> Result<Vec<Watched>, AllocError> {
+    let mut watched = Vec::new(alloc);
+    for it in found {
+        watched.push(Watched::new(*it))?;
+    }
+    Ok(watched)
+}
+
+/// Adds all that is in these pieces of memory, and says on standard error what could not be read.
+fn add_found<R: AllocGlobal + Clock + Files + Input + Eprint>(
     rt: &R,
-    file: &str,
-    regions: &[Region],
     found: &mut Vec<Found>,
+    pieces: Pieces<'_>,
+    is_live: bool,
 ) -> Result<(), ShowFault<'static>> {
-    for region in regions {
-        search_region(rt, file, *region, found, Wanted::All)?;
-    }
-    if found.iter().any(|it| it.kind == Kind::Ring) {
-        for region in regions {
-            search_region(rt, file, *region, found, Wanted::Bodies(regions))?;
-        }
-    }
+    let mut search = Search::new(rt.alloc());
+    search.look(rt, pieces.file, pieces.regions)?;
+    let busy = search.settle(rt, pieces, found, is_live)?;
+    say_unread(rt, pieces.file, search.unread.as_slice());
+    say_busy(rt, busy.as_slice());
     Ok(())
 }
 
-/// Lists what is found in these pieces of memory of a file. Returns whether there is nothing.
-fn list_memory<R: AllocGlobal + Files + Input + Print>(
+/// Looks for rings, broadcast buffers and counters in these pieces of memory, and looks at all of them as often as the
+/// options say.
+fn find_in<R: AllocGlobal + Clock + Files + Input + Print + Eprint>(
     rt: &R,
-    file: &str,
-    regions: &[Region],
-) -> Result<bool, ShowFault<'static>> {
+    name: &str,
+    pieces: Pieces<'_>,
+    wanted: Wanted,
+    is_terminal: bool,
+) -> Result<ExitCode, ShowFault<'static>> {
+    let is_live = pid_of(name).is_some();
     let mut found = Vec::new(rt.alloc());
-    search_memory(rt, file, regions, &mut found)?;
-    for it in found.iter() {
-        print_found(rt, file, *it)?;
+    add_found(rt, &mut found, pieces, is_live)?;
+    if found.is_empty() {
+        say_nothing(rt, name, pieces.regions);
+        return Ok(status_of(false));
     }
-    Ok(found.is_empty())
+    let mut round = Round {
+        file: pieces.file,
+        watched: watched(rt.alloc(), found.as_slice())?,
+        wanted,
+    };
+    round.run(rt, is_live, is_terminal)
 }
 
-/// Lists the rings, broadcast buffers and counters in the memory of a process, if the name is a number, otherwise in a
-/// file. The status is 0 if there is one, otherwise 1.
-pub fn find_all<'a, R: AllocGlobal + Files + Input + Print>(
+/// Looks for rings, broadcast buffers and counters in the memory of a process, if the name means one, otherwise in a
+/// file, and looks at all as often as it is wanted. The status is 1 if there is none, and otherwise that of the last
+/// look.
+pub fn find_all<'a, R: AllocGlobal + Clock + Files + Input + Print + Eprint>(
     rt: &R,
     name: &'a str,
+    wanted: Wanted,
+    is_terminal: bool,
 ) -> Result<ExitCode, ShowFault<'a>> {
     let file = file_of(rt.alloc(), name)?;
     let mut regions = Vec::new(rt.alloc());
     add_regions(rt, &mut regions, name)?;
-    let is_empty = list_memory(rt, file.as_str(), regions.as_slice())?;
-    Ok(ExitCode::from(u8::from(is_empty)))
+    let pieces = Pieces {
+        file: file.as_str(),
+        regions: regions.as_slice(),
+    };
+    find_in(rt, name, pieces, wanted, is_terminal)
 }

@@ -3,21 +3,28 @@
 #![tactic(auto)]
 
 mod arguments;
-mod bodies;
 mod cnc;
 mod fault;
 mod find;
 mod found;
 mod help;
+mod known;
+mod look;
 mod memory;
+mod often;
 mod options;
 mod screen;
+mod search;
+mod shell;
 mod show;
+mod tables;
+mod trailer;
 mod watch;
 
 use cnc::show_cnc;
 use fault::ShowFault;
 use find::find_all;
+use often::show_often;
 use options::Task;
 use screen::{Screen, screen_of};
 use std::env;
@@ -25,7 +32,6 @@ use std::env::Env;
 use std::io::{ErrorKind, Input, IsTerminal};
 use std::process::ExitCode;
 use std::rt::{Clock, Files};
-use watch::show_often;
 
 /// The status if nothing was shown.
 const FAULT: u8 = 2;
@@ -79,7 +85,7 @@ fn do_task<'a, R: AllocGlobal + Clock + Files + Input + Print + Eprint>(
 ) -> Result<ExitCode, ShowFault<'a>> {
     match task {
         Task::Show(options) => show_often(rt, options, screen.is_terminal),
-        Task::Find(name) => find_all(rt, name),
+        Task::Find { memory, wanted } => find_all(rt, memory, wanted, screen.is_terminal),
         Task::Cnc { file, view, format } => show_cnc(rt, file, view, format),
     }
 }

@@ -1,9 +1,9 @@
 //! What memory a process, a core file or a copy has.
 use crate::fault::ShowFault;
-use ring_report::{InputFault, Section, section_words};
+use ring_report::{InputFault, Section, process_of, reason, section_words};
 use std::alloc::{AllocError, Global};
 use std::fs;
-use std::io::Input;
+use std::io::{ErrorKind, Input};
 use std::rt::Files;
 
 /// A piece of memory that a program can write.
@@ -43,6 +43,18 @@ fn add_mapped(regions: &mut Vec<Region>, maps: &str) -> Result<(), AllocError> {
     Ok(())
 }
 
+/// Why the memory of a process is not read.
+fn refused(pid: &str, kind: ErrorKind) -> ShowFault<'_> {
+    match kind {
+        ErrorKind::NotFound => ShowFault::NoProcess { pid },
+        ErrorKind::PermissionDenied => ShowFault::NotAllowed { pid },
+        _ => ShowFault::NoMemory {
+            pid,
+            reason: reason(kind),
+        },
+    }
+}
+
 /// Adds the pieces of memory of a process that it can write.
 fn add_process<'a, R: AllocGlobal + Files>(
     rt: &R,
@@ -52,7 +64,17 @@ fn add_process<'a, R: AllocGlobal + Files>(
     let path = format!(in rt.alloc(); "/proc/{pid}/maps")?;
     match fs::read_to_string(rt, path.as_str()) {
         Ok(maps) => Ok(add_mapped(regions, maps.as_str())?),
-        Err(_unread) => Err(ShowFault::NoProcess { pid }),
+        Err(error) => Err(refused(pid, error.kind())),
+    }
+}
+
+/// Tests whether the memory of a process can be opened. A system may allow to see which pieces it has, and not what is
+/// in them.
+fn check_process<'a, R: AllocGlobal + Files>(rt: &R, pid: &'a str) -> Result<(), ShowFault<'a>> {
+    let path = format!(in rt.alloc(); "/proc/{pid}/mem")?;
+    match fs::open(rt, path.as_str()) {
+        Ok(_file) => Ok(()),
+        Err(error) => Err(refused(pid, error.kind())),
     }
 }
 
@@ -109,30 +131,38 @@ fn head_of<'a, R: AllocGlobal + Files + Input>(
     section_words(rt, section)
 }
 
-/// Adds the pieces of memory that the program headers of a core file name.
-fn add_loaded(regions: &mut Vec<Region>, headers: &[u64]) -> Result<(), AllocError> {
+/// A piece of memory as far as the file goes. In a core file no byte of the file is in two pieces, so that all pieces
+/// together have at most as many bytes as the file: `left` of them are not in an earlier one.
+fn bounded(region: Region, file: u64, left: u64) -> Region {
+    Region {
+        address: region.address,
+        at: region.at,
+        length: region.length.min(file.saturating_sub(region.at)).min(left),
+    }
+}
+
+/// Adds the pieces of memory that the program headers of a core file of this many bytes name.
+fn add_loaded(regions: &mut Vec<Region>, headers: &[u64], file: u64) -> Result<(), AllocError> {
+    let mut left = file;
     for header in headers.chunks(7) {
         if let Some(region) = loaded(header) {
-            regions.push(region)?;
+            let region = bounded(region, file, left);
+            left = left.saturating_sub(region.length);
+            if region.length > 0 {
+                regions.push(region)?;
+            }
         }
     }
+    regions.sort_unstable_by_key(|region| region.address);
     Ok(())
 }
 
-/// Adds all of a file, if it says how long it is.
-fn add_whole<R: AllocGlobal + Files>(
-    rt: &R,
-    regions: &mut Vec<Region>,
-    file: &str,
-) -> Result<(), AllocError> {
-    if let Ok(metadata) = fs::metadata(rt, file) {
-        regions.push(Region {
-            address: 0,
-            at: 0,
-            length: metadata.len(),
-        })?;
+/// The bytes of a file, 0 if it does not say.
+fn length_of<R: AllocGlobal + Files>(rt: &R, file: &str) -> u64 {
+    match fs::metadata(rt, file) {
+        Ok(metadata) => metadata.len(),
+        Err(_unknown) => 0,
     }
-    Ok(())
 }
 
 /// Adds the pieces of memory in a core file; of any other file all of it.
@@ -142,36 +172,50 @@ fn add_file<'a, R: AllocGlobal + Files + Input>(
     file: &'a str,
 ) -> Result<(), ShowFault<'a>> {
     let head = head_of(rt, file)?;
+    let length = length_of(rt, file);
     let Some(table) = program_headers(file, head.as_slice()) else {
-        return Ok(add_whole(rt, regions, file)?);
+        return Ok(regions.push(Region {
+            address: 0,
+            at: 0,
+            length,
+        })?);
     };
     let headers = section_words(rt, table)?;
-    Ok(add_loaded(regions, headers.as_slice())?)
+    Ok(add_loaded(regions, headers.as_slice(), length)?)
 }
 
-/// Tests whether a name is the number of a process.
-fn is_pid(name: &str) -> bool {
-    !name.is_empty() && name.bytes().all(|byte| byte.is_ascii_digit())
-}
-
-/// The file that has the memory of a process, if the name is a number, otherwise the one with this name.
-pub fn file_of(alloc: Global, name: &str) -> Result<String, AllocError> {
-    if is_pid(name) {
-        format!(in alloc; "/proc/{name}/mem")
+/// The number of the process that a name means: the number itself, or the name of the file with its memory.
+pub fn pid_of(name: &str) -> Option<&str> {
+    if !name.is_empty() && name.bytes().all(|byte| byte.is_ascii_digit()) {
+        Some(name)
     } else {
-        String::from_str(alloc, name)
+        process_of(name)
     }
 }
 
-/// Adds the pieces of memory of a process, if the name is a number, otherwise those in a file.
+/// The file that has the memory of a process, if the name means one, otherwise the one with this name.
+pub fn file_of(alloc: Global, name: &str) -> Result<String, AllocError> {
+    match pid_of(name) {
+        Some(pid) => format!(in alloc; "/proc/{pid}/mem"),
+        None => String::from_str(alloc, name),
+    }
+}
+
+/// Adds the pieces of memory of a process, if the name means one, otherwise those in a file, in the order of their
+/// addresses.
+///
+/// `NoProcess` if there is no such process, `NotAllowed` if its memory may not be read, `NoMemory` if it cannot be read
+/// for another reason, and `Input` for a file that cannot be read.
 pub fn add_regions<'a, R: AllocGlobal + Files + Input>(
     rt: &R,
     regions: &mut Vec<Region>,
     name: &'a str,
 ) -> Result<(), ShowFault<'a>> {
-    if is_pid(name) {
-        add_process(rt, regions, name)
-    } else {
-        add_file(rt, regions, name)
+    match pid_of(name) {
+        Some(pid) => {
+            add_process(rt, regions, pid)?;
+            check_process(rt, pid)
+        }
+        None => add_file(rt, regions, name),
     }
 }

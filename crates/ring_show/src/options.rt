@@ -3,8 +3,9 @@ use crate::arguments::ARGUMENTS;
 use crate::fault::ShowFault;
 use crate::help;
 use crate::screen::Screen;
+use crate::watch::Wanted;
 use clap::{ArgMatches, Command, Error};
-use ring_report::{Bodies, Section, View};
+use ring_report::{Bodies, Origin, Section, View, process_of};
 use std::alloc::{AllocError, Global};
 
 /// What is shown, and the source of its memory.
@@ -18,8 +19,20 @@ pub enum Subject<'a> {
     Board(Section<'a>),
     Counters {
         metadata: Section<'a>,
-        values: Section<'a>,
+        /// `None` if it is not known where they are.
+        values: Option<Section<'a>>,
     },
+}
+
+impl<'a> Subject<'a> {
+    /// The section with its words, or with the metadata of counters.
+    fn section(self) -> Section<'a> {
+        match self {
+            Subject::Ring { words, .. } => words,
+            Subject::Board(section) => section,
+            Subject::Counters { metadata, .. } => metadata,
+        }
+    }
 }
 
 /// What a command line asks for.
@@ -27,8 +40,11 @@ pub enum Subject<'a> {
 pub enum Task<'a> {
     /// To show what has a known place.
     Show(Options<'a>),
-    /// To look for rings, broadcast buffers and counters in the memory of a process or in a file.
-    Find(&'a str),
+    /// To look for rings, broadcast buffers and counters in the memory of a process or in a file, and to look at them.
+    Find {
+        memory: &'a str,
+        wanted: Wanted,
+    },
     /// To show a command-and-control file.
     Cnc {
         file: &'a str,
@@ -57,10 +73,36 @@ pub struct Options<'a> {
     pub every: Option<u64>,
     /// How many looks there are at most.
     pub times: u64,
+    /// What its user calls it.
+    pub name: Option<&'a str>,
+    /// Whether a consumer that is blocked gives status 1.
+    pub fails_if_blocked: bool,
+}
+
+impl<'a> Options<'a> {
+    /// The file and the place of it.
+    pub fn origin(self) -> Origin<'a> {
+        let Section { file, at, .. } = self.subject.section();
+        Origin {
+            file,
+            at,
+            name: self.name,
+        }
+    }
+
+    /// Tests whether it is in the memory of a running program.
+    pub fn is_live(self) -> bool {
+        process_of(self.subject.section().file).is_some()
+    }
+
+    /// Tests whether a look is one of several.
+    pub fn is_one_of_several(self) -> bool {
+        self.every.is_some() || self.times > 1
+    }
 }
 
 /// The subcommands, and what is said of them.
-static SUBCOMMANDS: [(&str, &str); 5] = [
+static SUBCOMMANDS: [(&str, &str); 6] = [
     (
         "ring",
         "Lists the records of a ring between its head and its tail",
@@ -76,6 +118,10 @@ static SUBCOMMANDS: [(&str, &str); 5] = [
     (
         "find",
         "Looks for rings, broadcast buffers and counters in the memory of a process, in a core file or in a copy of memory",
+    ),
+    (
+        "watch",
+        "Looks for them as find does, and then at all of them again and again",
     ),
     (
         "cnc",
@@ -97,7 +143,8 @@ fn subcommand<'a>(alloc: Global, name: &'a str, about: &'a str) -> Result<Comman
 /// The command without its subcommands.
 fn bare<'a>(alloc: Global) -> Result<Command<'a>, AllocError> {
     let command = Command::new(alloc, "ring-show").bin_name("ring-show")?;
-    let command = command.about(help::ABOUT).after_help(help::AFTER);
+    let command = command.version(help::VERSION).about(help::ABOUT);
+    let command = command.after_help(help::AFTER);
     Ok(command.subcommand_required(true))
 }
 
@@ -155,6 +202,15 @@ fn section<'a>(
     })
 }
 
+/// The section of the values of counters, if their file is named.
+fn values_of<'a>(matches: &ArgMatches<'a>) -> Result<Option<Section<'a>>, ShowFault<'a>> {
+    if matches.get_str("VALUES").is_none() {
+        return Ok(None);
+    }
+    let values = section(matches, "VALUES", "values-at", "values-length")?;
+    Ok(Some(values))
+}
+
 /// A ring as a subject. `BodiesOfInput` if its bodies lie apart and it is on standard input.
 fn ring_of<'a>(words: Section<'a>, bodies_at: Option<u64>) -> Result<Subject<'a>, ShowFault<'a>> {
     if bodies_at.is_some() && words.file == "-" {
@@ -169,7 +225,7 @@ fn subject_of<'a>(name: &str, matches: &ArgMatches<'a>) -> Result<Subject<'a>, S
         "board" => Subject::Board(section(matches, "FILE", "at", "length")?),
         "counters" => Subject::Counters {
             metadata: section(matches, "METADATA", "at", "length")?,
-            values: section(matches, "VALUES", "values-at", "values-length")?,
+            values: values_of(matches)?,
         },
         _ => ring_of(
             section(matches, "FILE", "at", "length")?,
@@ -178,9 +234,17 @@ fn subject_of<'a>(name: &str, matches: &ArgMatches<'a>) -> Result<Subject<'a>, S
     })
 }
 
+/// The most pieces in which a buffer is drawn.
+fn width_of(matches: &ArgMatches<'_>, screen: Screen) -> u32 {
+    let width: Option<u64> = matches.get_one("width");
+    match width {
+        Some(width) => u32::try_from(width).unwrap_or(u32::MAX),
+        None => screen.width,
+    }
+}
+
 /// How it is to be shown.
 fn view_of(matches: &ArgMatches<'_>, screen: Screen) -> View {
-    let width: Option<u64> = matches.get_one("width");
     View {
         from: matches.get_one("from"),
         bodies: match matches.get_str("bodies") {
@@ -189,10 +253,7 @@ fn view_of(matches: &ArgMatches<'_>, screen: Screen) -> View {
             _ => Bodies::Hex,
         },
         limit: matches.get_one("limit"),
-        width: match width {
-            Some(width) => u32::try_from(width).unwrap_or(u32::MAX),
-            None => screen.width,
-        },
+        width: width_of(matches, screen),
     }
 }
 
@@ -205,33 +266,81 @@ fn format_of(matches: &ArgMatches<'_>, screen: Screen) -> Format {
     }
 }
 
-/// What the arguments of a subcommand that shows a known place ask for. `NotBytes` and `BodiesOfInput` as for
-/// `task_of`.
+/// How many looks there are at most, if the option does not say: one, or with more than one to be taken no bound.
+/// `NoLook` if it says none.
+fn times_of<'a>(matches: &ArgMatches<'a>, is_again: bool) -> Result<u64, ShowFault<'a>> {
+    let times: Option<u64> = matches.get_one("times");
+    match times {
+        Some(0) => Err(ShowFault::NoLook),
+        Some(times) => Ok(times),
+        None if is_again => Ok(u64::MAX),
+        None => Ok(1),
+    }
+}
+
+/// What the arguments of a subcommand that shows a known place ask for. The faults are as for `task_of`.
 fn options_of<'a>(
     name: &str,
     matches: &ArgMatches<'a>,
     screen: Screen,
 ) -> Result<Options<'a>, ShowFault<'a>> {
     let every: Option<u64> = matches.get_one("every");
-    let looks = if every.is_some() { u64::MAX } else { 1 };
     Ok(Options {
         subject: subject_of(name, matches)?,
         view: view_of(matches, screen),
         format: format_of(matches, screen),
         every,
-        times: matches.get_one("times").unwrap_or(looks),
+        times: times_of(matches, every.is_some())?,
+        name: matches.get_str("name"),
+        fails_if_blocked: name == "ring" && matches.get_flag("fail-if-blocked"),
+    })
+}
+
+/// What `find` asks for: one round of looks, which are listed by their summaries.
+fn find_wanted(matches: &ArgMatches<'_>, screen: Screen) -> Wanted {
+    Wanted {
+        format: format_of(matches, screen),
+        every: None,
+        times: 1,
+        limit: None,
+        width: screen.width,
+        fails_if_blocked: matches.get_flag("fail-if-blocked"),
+    }
+}
+
+/// What `watch` asks for. `NoLook` if it asks for none.
+fn watch_wanted<'a>(matches: &ArgMatches<'a>, screen: Screen) -> Result<Wanted, ShowFault<'a>> {
+    let (every, limit): (Option<u64>, Option<u64>) = (
+        matches.get_one("every"),
+        matches.get_one("limit"),
+    );
+    Ok(Wanted {
+        format: format_of(matches, screen),
+        every: every.or(Some(1000)),
+        times: times_of(matches, true)?,
+        limit: limit.or(Some(8)),
+        width: width_of(matches, screen),
+        fails_if_blocked: matches.get_flag("fail-if-blocked"),
     })
 }
 
 /// What a subcommand's arguments ask for. `NotBytes` if an offset or a length is no number, `BodiesOfInput` if bodies
-/// that lie apart are to be read from standard input.
+/// that lie apart are to be read from standard input, `NoLook` if there is to be no look.
 pub fn task_of<'a>(
     name: &str,
     matches: &ArgMatches<'a>,
     screen: Screen,
 ) -> Result<Task<'a>, ShowFault<'a>> {
+    let memory = matches.get_str("MEMORY").unwrap_or("");
     match name {
-        "find" => Ok(Task::Find(matches.get_str("MEMORY").unwrap_or(""))),
+        "find" => Ok(Task::Find {
+            memory,
+            wanted: find_wanted(matches, screen),
+        }),
+        "watch" => Ok(Task::Find {
+            memory,
+            wanted: watch_wanted(matches, screen)?,
+        }),
         "cnc" => Ok(Task::Cnc {
             file: matches.get_str("FILE").unwrap_or(""),
             view: view_of(matches, screen),

@@ -1,8 +1,9 @@
 //! Reading what a command line names, and printing it once.
 use crate::fault::ShowFault;
-use crate::options::{Format, Options, Subject};
+use crate::options::{Format, Subject};
 use ring_report::{
-    Report, Section, View, Words, note_unsettled, ring_words, section_words, settled_words,
+    Labelled, Report, Section, View, Words, note_settled, ring_words, section_words, settled_words,
+    to_prometheus,
 };
 use std::alloc::{AllocError, Global};
 use std::io::Input;
@@ -21,7 +22,7 @@ fn report_of_ring<'a, R: AllocGlobal + Files + Input>(
 ) -> Result<Report, ShowFault<'a>> {
     let Words { words, is_settled } = ring_words(rt, section, bodies_at)?;
     let report = Report::of_ring(rt.alloc(), words.as_slice(), view);
-    Ok(note_unsettled(rt.alloc(), report, is_settled)?)
+    Ok(note_settled(report, is_settled)?)
 }
 
 /// Reads a broadcast buffer, and says what is in it.
@@ -32,28 +33,34 @@ fn report_of_board<'a, R: AllocGlobal + Files + Input>(
 ) -> Result<Report, ShowFault<'a>> {
     let Words { words, is_settled } = settled_words(rt, section, false)?;
     let report = Report::of_board(rt.alloc(), words.as_slice(), view);
-    Ok(note_unsettled(rt.alloc(), report, is_settled)?)
+    Ok(note_settled(report, is_settled)?)
 }
 
 /// Reads counters, and says what is in them.
 pub fn report_of_counters<'a, R: AllocGlobal + Files + Input>(
     rt: &R,
     metadata: Section<'a>,
-    values: Section<'a>,
+    values: Option<Section<'a>>,
     view: View,
 ) -> Result<Report, ShowFault<'a>> {
     let metadata = section_words(rt, metadata)?;
-    let values = section_words(rt, values)?;
-    Ok(Report::of_counters(rt.alloc(), metadata.as_slice(), values.as_slice(), view)?)
+    match values {
+        Some(values) => {
+            let values = section_words(rt, values)?;
+            let values = Some(values.as_slice());
+            Ok(Report::of_counters(rt.alloc(), metadata.as_slice(), values, view)?)
+        }
+        None => Ok(Report::of_counters(rt.alloc(), metadata.as_slice(), None, view)?),
+    }
 }
 
 /// Reads the files, and says what is in them.
 pub fn report_of<'a, R: AllocGlobal + Files + Input>(
     rt: &R,
-    options: Options<'a>,
+    subject: Subject<'a>,
+    view: View,
 ) -> Result<Report, ShowFault<'a>> {
-    let view = options.view;
-    match options.subject {
+    match subject {
         Subject::Ring { words, bodies_at } => report_of_ring(rt, words, bodies_at, view),
         Subject::Board(section) => report_of_board(rt, section, view),
         Subject::Counters { metadata, values } => report_of_counters(rt, metadata, values, view),
@@ -68,28 +75,41 @@ pub fn print_text(rt: &impl Print, text: &str) -> Result<(), ShowFault<'static>>
     }
 }
 
-/// The text of a report.
-fn text_of(alloc: Global, report: &Report, format: Format) -> Result<String, AllocError> {
+/// The text of a report. JSON is on one line if it is one document of several.
+fn text_of(
+    alloc: Global,
+    labelled: Labelled<'_>,
+    format: Format,
+    is_line: bool,
+) -> Result<String, AllocError> {
+    let Labelled { report, origin } = labelled;
     match format {
         Format::Table => report.to_table(alloc),
         Format::Colored => report.to_colored_table(alloc),
-        Format::Json => report.to_json(alloc),
-        Format::Prometheus => report.to_prometheus(alloc),
+        Format::Json if is_line => report.to_json_line(alloc, origin, &[]),
+        Format::Json => report.to_json(alloc, origin),
+        Format::Prometheus => to_prometheus(alloc, &[labelled]),
     }
+}
+
+/// Prints the findings of a report on standard error. Returns whether there are none.
+pub fn print_findings(rt: &impl Eprint, report: &Report) -> bool {
+    for finding in report.findings.iter() {
+        let _ = eprintln!(rt; "{finding}");
+    }
+    report.findings.is_empty()
 }
 
 /// Prints a report, and then its findings on standard error. Returns whether there are none.
 pub fn print_report<R: AllocGlobal + Print + Eprint>(
     rt: &R,
-    report: &Report,
+    labelled: Labelled<'_>,
     format: Format,
+    is_line: bool,
 ) -> Result<bool, ShowFault<'static>> {
-    let text = text_of(rt.alloc(), report, format)?;
+    let text = text_of(rt.alloc(), labelled, format, is_line)?;
     print_text(rt, text.as_str())?;
-    for finding in report.findings.iter() {
-        let _ = eprintln!(rt; "{finding}");
-    }
-    Ok(report.findings.is_empty())
+    Ok(print_findings(rt, labelled.report))
 }
 
 /// The status of memory in which nothing, or something, is wrong.

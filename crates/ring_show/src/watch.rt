@@ -1,88 +1,358 @@
-//! Looking again and again.
+//! Looking at all that was found, once for `find`, and again and again for `watch`.
 use crate::fault::ShowFault;
-use crate::options::{Format, Options};
-use crate::show::{print_report, print_text, report_of, status_of};
-use ring_report::Report;
+use crate::found::{Found, Kind};
+use crate::look::{Look, PAUSE, Watch, millis, now};
+use crate::often::CLEAR;
+use crate::options::Format;
+use crate::show::{print_findings, print_text, report_of_counters, status_of};
+use ring_report::{
+    Bodies, Labelled, Origin, Report, Section, View, Words, formatted_words, note_settled,
+    settled_words, to_prometheus,
+};
+use std::alloc::{AllocError, Global};
 use std::io::Input;
 use std::process::ExitCode;
 use std::rt::{Clock, Files};
 use std::thread::sleep;
-use std::time::{Duration, Instant};
+use std::time::Duration;
 
-/// What clears a terminal.
-const CLEAR: &str = "\x1b[H\x1b[2J";
+/// What a command line asks for of all that is found.
+#[derive(Clone, Copy)]
+pub struct Wanted {
+    pub format: Format,
+    /// How many milliseconds pass between two rounds of looks; `None` for one round.
+    pub every: Option<u64>,
+    /// How many rounds there are at most.
+    pub times: u64,
+    /// How many records or counters are listed at most. `None` lists each by its summary and its command.
+    pub limit: Option<u64>,
+    pub width: u32,
+    pub fails_if_blocked: bool,
+}
 
-/// One look, and when it was.
+/// What was found, and what the looks so far say of it.
 #[derive(Drop)]
-struct Look {
-    report: Report,
-    at: Instant,
+pub struct Watched {
+    found: Found,
+    watch: Watch,
+    /// The last look, if it could be taken.
+    look: Option<Look>,
+    before: Option<Look>,
 }
 
-fn now(rt: &impl Clock) -> Result<Instant, ShowFault<'static>> {
-    Instant::now(rt).or(Err(ShowFault::NoClock))
-}
-
-/// Prints after a table how fast it changed since the look before.
-fn print_rates<R: AllocGlobal + Print>(
-    rt: &R,
-    format: Format,
-    before: &Look,
-    look: &Look,
-) -> Result<(), ShowFault<'static>> {
-    if !matches!(format, Format::Table | Format::Colored) {
-        return Ok(());
+/// The bytes of a file that something has.
+fn section(file: &str, at: u64, length: u64) -> Section<'_> {
+    Section {
+        file,
+        at,
+        length: Some(length),
     }
-    let millis = look.at.duration_since(before.at).as_millis();
-    let millis = u64::try_from(millis).unwrap_or(u64::MAX);
-    let text = look.report.rates_since(rt.alloc(), &before.report, millis)?;
-    print_text(rt, text.as_str())
 }
 
-/// Takes a look.
-fn look_at<'a, R: AllocGlobal + Clock + Files + Input>(
+/// Reads a ring or a broadcast buffer, and says what is in it, without bodies.
+fn buffer_report<'a, R: AllocGlobal + Files + Input>(
     rt: &R,
-    options: Options<'a>,
-) -> Result<Look, ShowFault<'a>> {
-    let report = report_of(rt, options)?;
-    let at = now(rt)?;
-    Ok(Look { report, at })
+    section: Section<'a>,
+    is_ring: bool,
+    view: View,
+) -> Result<Report, ShowFault<'a>> {
+    let Words { words, is_settled } = settled_words(rt, section, is_ring)?;
+    let report = if is_ring {
+        let words = formatted_words(rt.alloc(), words.as_slice())?;
+        Report::of_ring(rt.alloc(), words.as_slice(), view)
+    } else {
+        Report::of_board(rt.alloc(), words.as_slice(), view)
+    };
+    Ok(note_settled(report, is_settled)?)
 }
 
-/// Prints a look, and how fast it changed since the look before, if there was one. Returns whether it has no findings.
-fn print_look<R: AllocGlobal + Print + Eprint>(
+/// Reads what was found, and says what is in it.
+fn report_of<'a, R: AllocGlobal + Files + Input>(
     rt: &R,
-    options: Options<'_>,
-    is_terminal: bool,
-    before: Option<&Look>,
-    look: &Look,
-) -> Result<bool, ShowFault<'static>> {
-    if is_terminal && options.every.is_some() {
-        print_text(rt, CLEAR)?;
-    }
-    let is_sound = print_report(rt, &look.report, options.format)?;
-    if let Some(before) = before {
-        print_rates(rt, options.format, before, look)?;
-    }
-    Ok(is_sound)
-}
-
-/// Shows what a command line names: once, or again and again until it was shown often enough or the program is
-/// interrupted. A terminal is cleared before each look of several. The status is that of the last look.
-pub fn show_often<'a, R: AllocGlobal + Clock + Files + Input + Print + Eprint>(
-    rt: &R,
-    options: Options<'a>,
-    is_terminal: bool,
-) -> Result<ExitCode, ShowFault<'a>> {
-    let mut before: Option<Look> = None;
-    let mut is_sound = true;
-    for _ in 0..options.times {
-        if before.is_some() {
-            sleep(rt, Duration::from_millis(options.every.unwrap_or(0)));
+    file: &'a str,
+    found: Found,
+    view: View,
+) -> Result<Report, ShowFault<'a>> {
+    let whole = section(file, found.at, found.length());
+    match found.kind {
+        Kind::Counters => {
+            let values = found.values.map(|part| section(file, part.at, part.length));
+            report_of_counters(rt, whole, values, view)
         }
-        let look = look_at(rt, options)?;
-        is_sound = print_look(rt, options, is_terminal, before.as_ref(), &look)?;
-        before = Some(look);
+        Kind::Ring | Kind::Board => buffer_report(rt, whole, found.kind == Kind::Ring, view),
     }
-    Ok(status_of(is_sound))
+}
+
+/// A report as an object of JSON on one line, with the command that shows it and how sure it is.
+fn json_line<'a>(
+    alloc: Global,
+    report: &Report,
+    origin: Option<Origin<'a>>,
+    command: &'a str,
+    sureness: &'a str,
+) -> Result<String, AllocError> {
+    let members = [("command", command), ("sureness", sureness)];
+    report.to_json_line(alloc, origin, &members)
+}
+
+/// How something is listed: counters with the first ones, a buffer by its summary, if no limit is given.
+fn view_of(wanted: Wanted, kind: Kind) -> View {
+    let few = if kind == Kind::Counters { 8 } else { 0 };
+    View {
+        from: None,
+        bodies: Bodies::None,
+        limit: Some(wanted.limit.unwrap_or(few)),
+        width: wanted.width,
+    }
+}
+
+impl Watched {
+    /// What was found, not yet looked at.
+    pub fn new(found: Found) -> Watched {
+        Watched {
+            found,
+            watch: Watch::new(),
+            look: None,
+            before: None,
+        }
+    }
+
+    /// Takes a look. What cannot be read any more has none, and standard error says so.
+    fn take_look<R: AllocGlobal + Clock + Files + Input + Eprint>(
+        &mut self,
+        rt: &R,
+        file: &str,
+        wanted: Wanted,
+    ) -> Result<(), ShowFault<'static>> {
+        let (found, view) = (self.found, view_of(wanted, self.found.kind));
+        let begin = now(rt)?;
+        let read = report_of(rt, file, found, view);
+        let end = now(rt)?;
+        match read {
+            Ok(report) => {
+                let mut look = Look { report, begin, end };
+                self.watch.note(&mut look);
+                self.look = Some(look);
+                Ok(())
+            }
+            Err(ShowFault::OutOfMemory) => Err(ShowFault::OutOfMemory),
+            Err(fault) => {
+                let (kind, address) = (found.kind.name(), found.address);
+                let _ = eprintln!(rt; "ring-show: {kind} at 0x{address:x}: no more: {fault}");
+                self.look = None;
+                Ok(())
+            }
+        }
+    }
+
+    /// The last look, from its memory.
+    fn labelled<'a>(&'a self, file: &'a str) -> Option<Labelled<'a>> {
+        let look = self.look.as_ref()?;
+        Some(Labelled {
+            report: &look.report,
+            origin: Some(Origin {
+                file,
+                at: self.found.at,
+                name: None,
+            }),
+        })
+    }
+
+    /// Tests whether the last look shows a consumer that stops.
+    fn stops(&self) -> bool {
+        match &self.look {
+            Some(look) => look.report.sight().is_some(),
+            None => false,
+        }
+    }
+
+    /// Adds the lines of the last look as a table, and how fast it changed since the one before.
+    fn push_table(
+        &self,
+        alloc: Global,
+        text: &mut String,
+        look: &Look,
+        is_colored: bool,
+    ) -> Result<(), AllocError> {
+        let report = &look.report;
+        self.found.push_title(text, report)?;
+        let table = if is_colored {
+            report.to_colored_table(alloc)?
+        } else {
+            report.to_table(alloc)?
+        };
+        text.push_str(table.as_str())?;
+        let Some(before) = &self.before else {
+            return Ok(());
+        };
+        let passed = millis(look.end.duration_since(before.end));
+        let rates = report.rates_since(alloc, &before.report, passed)?;
+        text.push_str(rates.as_str())
+    }
+
+    /// Adds the object of JSON of the last look, on one line: its report, how sure it is, and the command that shows
+    /// it.
+    fn push_json(
+        &self,
+        alloc: Global,
+        text: &mut String,
+        file: &str,
+        report: &Report,
+    ) -> Result<(), AllocError> {
+        let mut command = String::new(alloc);
+        self.found.push_command(&mut command, file)?;
+        let origin = Some(Origin {
+            file,
+            at: self.found.at,
+            name: None,
+        });
+        let sureness = self.found.sureness(report);
+        let line = json_line(alloc, report, origin, command.as_str(), sureness)?;
+        text.push_str(line.as_str())
+    }
+
+    /// Adds the last look as it is to be printed.
+    fn push_look(
+        &self,
+        alloc: Global,
+        text: &mut String,
+        file: &str,
+        wanted: Wanted,
+    ) -> Result<(), AllocError> {
+        let Some(look) = &self.look else {
+            return Ok(());
+        };
+        match wanted.format {
+            Format::Json => self.push_json(alloc, text, file, &look.report),
+            Format::Table if wanted.limit.is_none() => {
+                self.found.push_lines(text, file, &look.report)
+            }
+            Format::Colored if wanted.limit.is_none() => {
+                self.found.push_lines(text, file, &look.report)
+            }
+            format => self.push_table(alloc, text, look, matches!(format, Format::Colored)),
+        }
+    }
+
+    /// Tests whether the last look has no finding, and no consumer that is blocked if that is to fail. Findings do not
+    /// count if only the summary is listed.
+    fn is_sound(&self, wanted: Wanted) -> bool {
+        match &self.look {
+            Some(look) => {
+                let is_blocked = wanted.fails_if_blocked && look.report.is_blocked();
+                let is_listed = wanted.limit.is_none() || look.report.findings.is_empty();
+                is_listed && !is_blocked
+            }
+            None => true,
+        }
+    }
+}
+
+/// All that was found, in the order of addresses.
+#[derive(Drop)]
+pub struct Round<'a> {
+    pub file: &'a str,
+    pub watched: Vec<Watched>,
+    pub wanted: Wanted,
+}
+
+impl<'a> Round<'a> {
+    /// Takes a look at each.
+    fn take_looks<R: AllocGlobal + Clock + Files + Input + Eprint>(
+        &mut self,
+        rt: &R,
+    ) -> Result<(), ShowFault<'static>> {
+        for it in self.watched.iter_mut() {
+            it.before = it.look.take();
+            it.take_look(rt, self.file, self.wanted)?;
+        }
+        Ok(())
+    }
+
+    /// Takes a first look at each, and second ones after a pause if a consumer stops in a running program.
+    fn begin<R: AllocGlobal + Clock + Files + Input + Eprint>(
+        &mut self,
+        rt: &R,
+        is_live: bool,
+    ) -> Result<(), ShowFault<'static>> {
+        self.take_looks(rt)?;
+        if is_live && self.watched.iter().any(|it| it.stops()) {
+            sleep(rt, Duration::from_millis(PAUSE));
+            self.take_looks(rt)?;
+        }
+        for it in self.watched.iter_mut() {
+            it.before = None;
+        }
+        Ok(())
+    }
+
+    /// The text of Prometheus of all.
+    fn metrics(&self, alloc: Global) -> Result<String, AllocError> {
+        let mut reports = Vec::new(alloc);
+        for it in self.watched.iter() {
+            if let Some(labelled) = it.labelled(self.file) {
+                reports.push(labelled)?;
+            }
+        }
+        to_prometheus(alloc, reports.as_slice())
+    }
+
+    /// The text of all.
+    fn text(&self, alloc: Global) -> Result<String, AllocError> {
+        if matches!(self.wanted.format, Format::Prometheus) {
+            return self.metrics(alloc);
+        }
+        let mut text = String::new(alloc);
+        for it in self.watched.iter() {
+            it.push_look(alloc, &mut text, self.file, self.wanted)?;
+        }
+        Ok(text)
+    }
+
+    /// Prints all, and then the findings on standard error. Returns whether all is sound.
+    fn print<R: AllocGlobal + Print + Eprint>(
+        &self,
+        rt: &R,
+        is_terminal: bool,
+    ) -> Result<bool, ShowFault<'static>> {
+        if is_terminal && self.wanted.every.is_some() {
+            print_text(rt, CLEAR)?;
+        }
+        let text = self.text(rt.alloc())?;
+        print_text(rt, text.as_str())?;
+        let mut is_sound = true;
+        for it in self.watched.iter() {
+            if let Some(look) = &it.look {
+                print_findings(rt, &look.report);
+            }
+            is_sound &= it.is_sound(self.wanted);
+        }
+        Ok(is_sound)
+    }
+
+    /// Tests whether nothing can be read any more.
+    fn is_over(&self) -> bool {
+        self.watched.iter().all(|it| it.look.is_none())
+    }
+
+    /// Looks at all as often as the options say, or until nothing can be read any more. The status is that of the last
+    /// round.
+    pub fn run<R: AllocGlobal + Clock + Files + Input + Print + Eprint>(
+        &mut self,
+        rt: &R,
+        is_live: bool,
+        is_terminal: bool,
+    ) -> Result<ExitCode, ShowFault<'static>> {
+        self.begin(rt, is_live)?;
+        let mut is_sound = self.print(rt, is_terminal)?;
+        for _ in 1..self.wanted.times {
+            if self.is_over() {
+                break;
+            }
+            sleep(rt, Duration::from_millis(self.wanted.every.unwrap_or(0)));
+            self.take_looks(rt)?;
+            is_sound = self.print(rt, is_terminal)?;
+        }
+        Ok(status_of(is_sound))
+    }
 }

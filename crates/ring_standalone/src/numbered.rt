@@ -57,14 +57,26 @@ impl<T> Numbered<T> {
     }
 }
 
-impl<T: Drop> Numbered<T> {
-    ghost use Rattle.ring_standalone.specs.Held.{IsVacant, held_in};
+impl<T> Numbered<T> {
+    ghost use Rattle.ring_standalone.specs.Held.{IsVacant, held_count, held_in};
 
     /// Holds this under a number again, from which it was taken.
     pub fn put_back(&mut self, number: usize, x: T)
         requires { IsVacant (held_in self.old) number }
         ensures { held_in self.new ≡ slice_set (held_in self.old) (number - 1) (Some x) }
     {
-        self.held[number - 1] = Some(x);
+        let old = self.held[number - 1].replace(x);
+        let None = old else { unreachable!() };
+    }
+
+    /// Lets it go, as nothing is held.
+    pub fn discard(self)
+        requires { held_count (held_in self) ≡ 0 }
+    {
+        let Numbered { mut held } = self;
+        while let Some(slot) = held.pop() {
+            let None = slot else { unreachable!() };
+        }
+        held.destroy_empty();
     }
 }

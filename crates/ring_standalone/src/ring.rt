@@ -31,7 +31,6 @@ pub struct Claimed {
 
 /// A ring with its only producer, its consumer, and the producer's open claims, which are numbered from 1. No number is
 /// given twice.
-#[derive(Drop)]
 pub struct StandaloneRing {
     ring: ManyToOneRing,
     producer: Producer,
@@ -293,11 +292,26 @@ impl StandaloneRing {
             ring,
             producer,
             consumer,
-            ..
+            claims,
         } = self;
+        claims.discard();
         match ring.close(producer, consumer) {
             Ok(rest) => rest,
             Err(_refused) => unreachable!(),
         }
+    }
+}
+
+impl Drop for StandaloneRing {
+    /// What was claimed and not settled is aborted.
+    fn drop(mut self) {
+        self.abort_all();
+        let Self {
+            ring: _,
+            producer: _,
+            consumer: _,
+            claims,
+        } = self;
+        claims.discard();
     }
 }

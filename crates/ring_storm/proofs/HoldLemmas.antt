@@ -21,10 +21,10 @@ use Rattle.ring_protocol.specs.Command as command
 use Rattle.ring_protocol.specs.Reply as reply
 use Rattle.ring_protocol.proofs.ReadCommands.{spelled_again}
 use Rattle.ring_protocol.proofs.ReadReplies.{one}
-use Rattle.ring_conductor.specs.Account.{Account, account_of, entered, reply_message, untimed}
-use Rattle.ring_conductor.specs.Applied.{Outcome, allocated, applied, done_unless, obeyed, obeyed_if_read}
+use Rattle.ring_service.specs.Account.{Account, account_of, entered, reply_message, untimed}
+use Rattle.ring_service.specs.Applied.{Outcome, allocated, applied, done_unless, obeyed, obeyed_if_read}
 use Rattle.ring_storm.specs.Turns.{counter_told, label_of, last_set, turn_of}
-use Rattle.ring_conductor.proofs.DrawLemmas.{same_one}
+use Rattle.ring_service.proofs.DrawLemmas.{same_one}
 use Rattle.ring_storm.proofs.LiveLemmas.{Ask, HasLive, IsAsked, gives, idle_from_unused, is_free, is_live, known_correlation, lawful_label, none_unused, one_served}
 use Rattle.ring_storm.proofs.OrderLemmas.{AllRest, Has, Step, all_sent, next, put, put_here, put_there}
 use Rattle.ring_storm.proofs.StampLemmas.{reply_begins, same_head, same_tail, shown, stamp, stamps}

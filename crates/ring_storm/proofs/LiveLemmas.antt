@@ -41,7 +41,7 @@ use Rattle.ring_protocol.specs.Reading.{command_of, set_of}
 use Rattle.ring_protocol.specs.Reply as reply
 use Rattle.ring_protocol.proofs.ReadCommands.{command_again}
 use Rattle.ring_storm.specs.declared.plan.StormPlan.{StormPlan}
-use Rattle.ring_conductor.specs.Applied.{allocated, applied, done_unless, obeyed, obeyed_if_read}
+use Rattle.ring_service.specs.Applied.{allocated, applied, done_unless, obeyed, obeyed_if_read}
 use Rattle.ring_storm.specs.Storming.{counters_after, storm_counters}
 use Rattle.ring_storm.specs.Turns.{AreAllTurns, AreTurns, ClientHistory, Turns, label_of}
 

@@ -18,7 +18,7 @@ use Rattle.ring_protocol.specs.declared.reply.Reply.TheVariants as told
 use Rattle.ring_protocol.specs.declared.command.Request.TheVariants.{Allocate, Set}
 use Rattle.ring_protocol.specs.Command as command
 use Rattle.ring_protocol.specs.Reply as reply
-use Rattle.ring_conductor.specs.Account.{messages_in}
+use Rattle.ring_service.specs.Account.{messages_in}
 use Rattle.ring_storm.specs.Turns.{AreAllTurns, AreTurns, ClientHistory, Turns, counter_told, label_of, turn_of}
 use Rattle.ring_storm.proofs.LiveLemmas.{is_spelled, known_correlation}
 use Rattle.ring_storm.proofs.MergeLemmas.{IsMerged, merged}

@@ -3,8 +3,8 @@ use Rattle.std.proofs.Common.{◌≡◌, ℕ, ◌<◌, ◌≤◌, ◌%◌, ◌^�
 use Rattle.ring_layout.specs.Lists.{total}
 use Rattle.ring_table.specs.declared.view.Service.{Service}
 use Rattle.ring_table.specs.Services.{times}
-use Rattle.ring_conductor.specs.Asking.{drawn_in}
-use Rattle.ring_conductor.proofs.DrawLemmas.{same_one}
+use Rattle.ring_service.specs.Asking.{drawn_in}
+use Rattle.ring_service.proofs.DrawLemmas.{same_one}
 
 abbrev pub reduced : List ℕ → List ℕ
 reduced [] = []

@@ -16,9 +16,9 @@ use Rattle.ring_rings.specs.declared.fault.TryFault.{TryFault}
 use Rattle.ring_rings.specs.declared.fault.TryFault.TheVariants.{Refused, Contended}
 use Rattle.ring_rings.specs.Joining.{Joins}
 use Rattle.ring_rings.proofs.RisingLemmas.{rising_more}
-use Rattle.ring_conductor.specs.declared.client.SendFault.{SendFault}
-use Rattle.ring_conductor.specs.declared.client.SendFault.TheVariants as fault
-use Rattle.ring_conductor.specs.Asking.{drawn_in, IsSendable, RefusesAs, SendsAs}
+use Rattle.ring_service.specs.declared.client.SendFault.{SendFault}
+use Rattle.ring_service.specs.declared.client.SendFault.TheVariants as fault
+use Rattle.ring_service.specs.Asking.{drawn_in, IsSendable, RefusesAs, SendsAs}
 use Rattle.ring_protocol.specs.Command.{LentRequest as Request, asked, spelling_of, type_id_of}
 
 -- the places of the claims rise, and they end at or below the greatest end seen

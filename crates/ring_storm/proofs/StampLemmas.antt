@@ -29,8 +29,8 @@ use Rattle.ring_protocol.specs.Field.{i32_field, u32_field, u64_at, u64_field}
 use Rattle.ring_protocol.specs.Reply as reply
 use Rattle.ring_protocol.proofs.ReadCommands.{spelled_again}
 use Rattle.ring_protocol.proofs.Readers.{u64_reader}
-use Rattle.ring_conductor.specs.Account.{Account, account_of, entered, reply_message, untimed}
-use Rattle.ring_conductor.specs.Applied.{allocated, applied, done_unless, obeyed, obeyed_if_read, refused}
+use Rattle.ring_service.specs.Account.{Account, account_of, entered, reply_message, untimed}
+use Rattle.ring_service.specs.Applied.{allocated, applied, done_unless, obeyed, obeyed_if_read, refused}
 use Rattle.ring_protocol.specs.Codes.{bad_owner_code}
 
 -- the correlation id that a message begins with

@@ -28,23 +28,23 @@ use Rattle.ring_rings.specs.Reading.{messages_of}
 use Rattle.ring_counters.specs.declared.values.view.ValueWrite.{ValueWrite}
 use Rattle.ring_counters.specs.Counter.{unused_counter}
 use Rattle.ring_counters.specs.Registry.{Registry, count_of, fresh_registry, live_of}
-use Rattle.ring_conductor.specs.declared.conductor.Work.{Work}
+use Rattle.ring_service.specs.declared.conductor.Work.{Work}
 use Rattle.ring_storm.specs.declared.plan.StormPlan.{StormPlan}
 use Rattle.ring_storm.specs.declared.plan.StormReport.{StormReport}
-use Rattle.ring_conductor.specs.Applied.{applied}
-use Rattle.ring_conductor.specs.Account.{IsFoldOf, messages_in}
-use Rattle.ring_conductor.specs.Conducting.{Works}
+use Rattle.ring_service.specs.Applied.{applied}
+use Rattle.ring_service.specs.Account.{IsFoldOf, messages_in}
+use Rattle.ring_service.specs.Conducting.{Works}
 use Rattle.ring_rings.specs.Ring.{sent_in, IsWhole}
-use Rattle.ring_conductor.specs.Asking.{drawn_in}
+use Rattle.ring_service.specs.Asking.{drawn_in}
 use Rattle.ring_storm.specs.Turns.{AreAllTurns}
 use Rattle.ring_storm.specs.Storming.{IsBoardFor, IsPlan, IsReportBy, all_commands, counters_after, storm_counters, sum_of}
-use Rattle.ring_conductor.specs.Fold.{Ledger, fold_of, at_moment, served}
+use Rattle.ring_service.specs.Fold.{Ledger, fold_of, at_moment, served}
 use Rattle.ring_protocol.specs.Reading.{command_of}
 use Rattle.ring_rings.proofs.SentLemmas.{messages_of-append}
-use Rattle.ring_conductor.proofs.FinishLemmas.{drained}
+use Rattle.ring_service.proofs.FinishLemmas.{drained}
 use Rattle.ring_rings.proofs.ReceivedLemmas.{lengths}
-use Rattle.ring_conductor.proofs.SizeLemmas.{reads}
-use Rattle.ring_conductor.proofs.DrawLemmas.{all_drawn}
+use Rattle.ring_service.proofs.SizeLemmas.{reads}
+use Rattle.ring_service.proofs.DrawLemmas.{all_drawn}
 use Rattle.ring_storm.proofs.LiveLemmas.{storm_live}
 use Rattle.ring_storm.proofs.SumLemmas.{all_draws, storm_own, storm_sum}
 use Rattle.ring_storm.proofs.TurnLemmas.{nothing}

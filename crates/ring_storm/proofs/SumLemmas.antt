@@ -18,12 +18,12 @@ use Rattle.ring_board.specs.Runs.{AreAllRuns}
 use Rattle.ring_counters.specs.declared.values.view.ValueWrite.{ValueWrite}
 use Rattle.ring_counters.specs.Counter.{Counter, unused_counter}
 use Rattle.ring_counters.specs.Registry.{Registry, count_of, counter_at, fresh_registry, ids_of, live_ids, live_of, value_at}
-use Rattle.ring_conductor.specs.Account.{Account, IsFoldOf, account_of, fresh_account, messages_in, untimed}
+use Rattle.ring_service.specs.Account.{Account, IsFoldOf, account_of, fresh_account, messages_in, untimed}
 use Rattle.ring_storm.specs.Storming.{sum_of, with_value_of, HasOwnCounter}
-use Rattle.ring_conductor.specs.Asking.{drawn_in}
+use Rattle.ring_service.specs.Asking.{drawn_in}
 use Rattle.ring_storm.specs.Turns.{AreAllTurns, AreTurns, ClientHistory, last_set, turn_of}
 use Rattle.ring_layout.proofs.Sums.{total-append}
-use Rattle.ring_conductor.proofs.DrawLemmas.{all_drawn, drawn_below, draws_in, one_at_most}
+use Rattle.ring_service.proofs.DrawLemmas.{all_drawn, drawn_below, draws_in, one_at_most}
 use Rattle.ring_storm.proofs.HoldLemmas.{Ends, Holds, all_done}
 use Rattle.ring_storm.proofs.LiveLemmas.{HasLive, all_ask, fresh, is_live, live_counted}
 use Rattle.ring_storm.proofs.OrderLemmas.{Has, at_first, runs_heard, turn_says_in}

@@ -12,11 +12,11 @@ use Rattle.ring_board.specs.Views.{Sat}
 use Rattle.ring_rings.specs.Claiming.{RefusesTry, Writes, record_behind}
 use Rattle.ring_rings.specs.declared.fault.TryFault.{TryFault}
 use Rattle.ring_rings.specs.declared.fault.TryFault.TheVariants.{Refused, Contended}
-use Rattle.ring_conductor.specs.declared.client.Polled.{Polled}
-use Rattle.ring_conductor.specs.declared.client.Polled.TheVariants.{Answered, Another, NoReply, Nothing, Lapped}
-use Rattle.ring_conductor.specs.declared.client.SendFault.{SendFault}
-use Rattle.ring_conductor.specs.declared.client.SendFault.TheVariants as fault
-use Rattle.ring_conductor.specs.Asking.{IsHeard, IsSendable, RefusesAs, SendsAs}
+use Rattle.ring_service.specs.declared.client.Polled.{Polled}
+use Rattle.ring_service.specs.declared.client.Polled.TheVariants.{Answered, Another, NoReply, Nothing, Lapped}
+use Rattle.ring_service.specs.declared.client.SendFault.{SendFault}
+use Rattle.ring_service.specs.declared.client.SendFault.TheVariants as fault
+use Rattle.ring_service.specs.Asking.{IsHeard, IsSendable, RefusesAs, SendsAs}
 use Rattle.ring_protocol.specs.Command.{LentRequest as Request, Instruction, asked, spelling_of, type_id_of}
 use Rattle.ring_storm.specs.Turns.{Adds, AreAllTurns, AreAnswered, AreTurns, ClientHistory, Extends, Lengthens, Turns}
 

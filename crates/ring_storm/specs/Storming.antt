@@ -28,8 +28,8 @@ use Rattle.ring_counters.specs.declared.values.seats.CounterValues.{CounterValue
 use Rattle.ring_counters.specs.Counter.{Counter}
 use Rattle.ring_counters.specs.Manager.{registry_of, writes_of}
 use Rattle.ring_counters.specs.Registry.{Registry, counter_at, fresh_registry, is_allocated, live_of, status_at, value_at}
-use Rattle.ring_conductor.specs.declared.conductor.Conductor.{Conductor}
-use Rattle.ring_conductor.specs.declared.finishing.Finished.{Finished}
+use Rattle.ring_service.specs.declared.conductor.Conductor.{Conductor}
+use Rattle.ring_service.specs.declared.finishing.Finished.{Finished}
 use Rattle.ring_storm.specs.declared.seats.Failure.{Failure}
 use Rattle.ring_storm.specs.declared.seats.Failure.TheVariants as fails
 use Rattle.ring_storm.specs.declared.conductor.ConductorEnd.{ConductorEnd}
@@ -42,11 +42,11 @@ use Rattle.ring_storm.specs.declared.seats.Endpoints.{Endpoints}
 use Rattle.ring_storm.specs.declared.seats.LevelEnd.{LevelEnd}
 use Rattle.ring_storm.specs.declared.seats.StormEnd.{StormEnd}
 use Rattle.ring_storm.specs.declared.shared.Shared.{Shared}
-use Rattle.ring_conductor.specs.Applied.{applied}
-use Rattle.ring_conductor.specs.Asking.{draws_of, producer_of, receiver_of, service_of, services_of, drawn_in}
-use Rattle.ring_conductor.specs.Conducting.{IsConductorOf, manager_in, received_of, transmitter_of, value_shares_of}
-use Rattle.ring_conductor.specs.Finishing.{HandsOn, Headline, claims_in, joined_by, joined_in, received_in, replies_in, services_in}
-use Rattle.ring_conductor.specs.Account.{IsFoldOf, messages_in}
+use Rattle.ring_service.specs.Applied.{applied}
+use Rattle.ring_service.specs.Asking.{draws_of, producer_of, receiver_of, service_of, services_of, drawn_in}
+use Rattle.ring_service.specs.Conducting.{IsConductorOf, manager_in, received_of, transmitter_of, value_shares_of}
+use Rattle.ring_service.specs.Finishing.{HandsOn, Headline, claims_in, joined_by, joined_in, received_in, replies_in, services_in}
+use Rattle.ring_service.specs.Account.{IsFoldOf, messages_in}
 use Rattle.ring_storm.specs.Turns.{AreAllTurns, AreAnswered, ClientHistory, claims_by, copies_by, draws_by, label_of, last_set}
 
 -- The plan ---------------------------------------------------------------------

@@ -13,8 +13,8 @@ use Rattle.ring_board.specs.declared.shared.view.Taken.{Taken}
 use Rattle.ring_board.specs.Board.{copied}
 use Rattle.ring_protocol.specs.declared.reply.Reply.{Reply}
 use Rattle.ring_protocol.specs.declared.reply.Reply.TheVariants.{Allocated, Done, Refused, Closed}
-use Rattle.ring_conductor.specs.declared.client.Client.{Client}
-use Rattle.ring_conductor.specs.Asking.{draws_of, producer_of, receiver_of}
+use Rattle.ring_service.specs.declared.client.Client.{Client}
+use Rattle.ring_service.specs.Asking.{draws_of, producer_of, receiver_of}
 use Rattle.ring_protocol.specs.declared.command.Request.{Request}
 use Rattle.ring_protocol.specs.declared.command.Request.TheVariants.{Allocate, Set}
 use Rattle.ring_protocol.specs.Command.{Instruction, spelling_of, type_id_of, with_id}

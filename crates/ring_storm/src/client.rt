@@ -4,7 +4,7 @@ ghost use Rattle.std.specs.Prelude.{IfNone, IfSome, OnSome};
 ghost use Rattle.std.specs.Bool.{OnFalse, OnTrue};
 ghost use Rattle.ring_board.specs.Seats.{IsReceiverOf};
 ghost use Rattle.ring_protocol.specs.Command.{asked, content_of_request};
-ghost use Rattle.ring_conductor.specs.Asking.{producer_of, receiver_of};
+ghost use Rattle.ring_service.specs.Asking.{producer_of, receiver_of};
 ghost use Rattle.ring_storm.specs.Storming.{HasWorked, IsClientAt, IsClientSeat, IsNew, history_of, sent_by};
 ghost use Rattle.ring_storm.specs.Turns.{Adds, ClientHistory, Extends, IsAnswered, Lengthens, Turns};
 ghost use Rattle.ring_storm.specs.Turns.{claims_by, copies_by, draws_by, label_of, numbered};
@@ -13,9 +13,9 @@ use crate::gate::Gate;
 use crate::seats::StormClient;
 use crate::shared::Shared;
 use crossbeam_utils::Backoff;
-use ring_conductor::{Client, Polled, Request};
 use ring_protocol::Reply;
 use ring_rings::{Bodies, ManyToOne, Ring};
+use ring_service::{Client, Polled, Request};
 
 /// The type of the clients' counters.
 const COUNTER_TYPE: i32 = 1;
@@ -168,7 +168,7 @@ impl<G: Gate, B: Bodies> Shared<'_, G, B> {
         Some(())
     }
 
-    /// Sends all commands of a client. If it gives up, it stops all others.
+    /// Sends all commands of a client. If it gives up, it stops all others, which a test shows and no clause says.
     pub(crate) fn run_client(&self, mut client: StormClient) -> StormClient
         requires client { IsClientAt self.now client }
         requires new { IsNew client }

@@ -5,8 +5,8 @@ ghost use Rattle.ring_storm.specs.Storming.{all_commands, taken_by};
 
 use crate::shared::Shared;
 use crossbeam_utils::Backoff;
-use ring_conductor::{Conductor, WorkStop};
 use ring_rings::Bodies;
+use ring_service::{Conductor, WorkStop};
 
 /// The conductor after its work.
 #[derive(Drop)]
@@ -43,7 +43,7 @@ impl<G, B: Bodies> Shared<'_, G, B> {
         0
     }
 
-    /// Works until all commands are taken. If it gives up, it stops all others.
+    /// Works until all commands are taken. If it gives up, it stops all others, which a test shows and no clause says.
     pub(crate) fn run_conductor(&self, mut conductor: Conductor) -> ConductorEnd
         requires plan { IsPlan self.now.plan }
         requires conductor { IsConductorAt self.now conductor }

@@ -6,8 +6,8 @@ ghost use Rattle.ring_storm.specs.Storming.{IsClientAt, AreEndpointsAt, IsNew, L
 use crate::seats::{Endpoints, StormClient};
 use crate::shared::Shared;
 use ring_board::SubscribeFault;
-use ring_conductor::Client;
 use ring_rings::Bodies;
+use ring_service::Client;
 use std::alloc::Global;
 
 impl<G, B: Bodies> Shared<'_, G, B> {

@@ -2,8 +2,8 @@
 ghost use Rattle.std.specs.Prelude.{◌≡◌, ◌*◌, ◌↔◌, IsTrue};
 ghost use Rattle.ring_storm.specs.Storming.{IsBoardFor, IsPlan, storm_code};
 
-use ring_conductor::Finished;
 use ring_layout::refusal_codes::{BAD_PLAN, OUT_OF_MEMORY, TURNS_SPENT};
+use ring_service::Finished;
 use std::snapshot::Snapshot;
 use thiserror::Error;
 

@@ -6,9 +6,9 @@ use crate::conductor::ConductorEnd;
 use crate::plan::StormPlan;
 use crate::seats::StormClient;
 use ring_board::Board;
-use ring_conductor::Conductor;
 use ring_counters::CounterValues;
 use ring_rings::{Bodies, ManyToOne, Ring};
+use ring_service::Conductor;
 use std::snapshot::Snapshot;
 use std::thread::Promise;
 

@@ -9,8 +9,8 @@ ghost use Rattle.ring_counters.specs.Registry.{count_of, live_of};
 ghost use Rattle.ring_storm.specs.Storming.{sum_of};
 
 use crate::plan::StormReport;
-use ring_conductor::Finished;
 use ring_counters::CountersManager;
+use ring_service::Finished;
 use std::snapshot::Snapshot;
 
 /// The number of counters in use, and the sum of their values.

@@ -4,8 +4,8 @@ ghost use Rattle.ring_storm.specs.declared.plan.StormFault.TheVariants.{BadPlan}
 ghost use Rattle.ring_storm.specs.Storming.{fault_of};
 
 use crate::plan::StormFault;
-use ring_conductor::{Client, Conductor, Finished};
 use ring_rings::Producer;
+use ring_service::{Client, Conductor, Finished};
 
 /// A client of a storm.
 #[derive(Drop)]

@@ -29,7 +29,6 @@ pub record BodyIn (C head place n : ℕ) : Type 0 where
 pub body_index : (C head place n i : ℕ) → BodyIn C head place n → i < words_of n
     → index C (place + 8 + 8 * i) ≡ index C place + 1 + i
 body_index C head place n i b h =
-    let within = b.within in
     let whole : place + 8 + 8 * i ≡ place + (8 + 8 * i) = omega arith in
     let step : (place + (8 + 8 * i)) % C ≡ place % C + (8 + 8 * i) = mod_step C place (8 + 8 * i) (omega arith) in
     let x : ℕ = place % C in
@@ -39,10 +38,7 @@ body_index C head place n i b h =
 -- its slots are below the number of slots
 pub body_below : (C head place n i : ℕ) → BodyIn C head place n → i < words_of n → index C place + 1 + i < C / 8
 body_below C head place n i b h =
-    let within = b.within in
-    let whole = b.whole in
     let x : ℕ = place % C in
-    let is : index C place ≡ x / 8 = refl in
     omega arith
 
 -- a slot is one of n from k on, or is outside
@@ -95,27 +91,17 @@ pub one_slot : (C start head : ℕ) (h : OwnedHistory) → ArePlaced C start (al
 one_slot C start head h placed p n p' n' l l' at at' ok ok' same =
     let b = l.body in
     let b' = l'.body in
-    let a8 = ok.0 in
-    let lt = ok.1 in
-    let a8' = ok'.0 in
-    let lt' = ok'.1 in
     let from = b.from in
     let to = b.to in
     let place8 = b.place8 in
-    let from' = b'.from in
-    let to' = b'.to in
-    let place8' = b'.place8 in
     let q : ℕ = p + 8 + at in
     let q' : ℕ = p' + 8 + at' in
     let one : q ≡ q' = apart C head q q' (record { some = b.some; whole = b.whole })
     (record { whole = omega arith; from = omega arith; below = omega arith })
     (record { whole = omega arith; from = omega arith; below = omega arith }) same in
     let padded = l.padded in
-    let padded' = l'.padded in
     let place : l.owned.1.place ≡ p = l.place_is in
-    let place' : l'.owned.1.place ≡ p' = l'.place_is in
     let long : length l.owned.1.message.body ≡ n = l.long in
-    let long' : length l'.owned.1.message.body ≡ n' = l'.long in
     let claims : l.owned ≡ l'.owned = one_at_position C start h l.nth l'.nth q l.owned l'.owned placed
     (record { there = l.there; from = omega arith; below = omega arith })
     (record { there = l'.there; from = omega arith; below = omega arith }) in
@@ -151,13 +137,8 @@ pub claim_lies : (B : Bodies) (C start : ℕ) (words : List ℕ) (views : List V
 claim_lies B C start words views r nth x there above =
     let law = r.lawful in
     let m = r.memory in
-    let least = law.capacity.least in
-    let most = law.capacity.most in
-    let room = m.room in
     let c8 = capacity_aligned C law.capacity in
     let l = lies_in C start r.hist nth x m.placed there in
-    let below = l.below in
-    let short = l.message.short in
     let place = l.place in
     let aligned = places_aligned C start r.hist nth x (omega arith) c8 (start_aligned C start law) m.placed there in
     let inside : next_place C x.1.from (staged_span x.1) % C + staged_span x.1 ≤ C =

@@ -91,7 +91,6 @@ head_rises B C start id v s r at consumes q got above =
     let mine = ((r.seated.each id v at).consumes consumes).1 in
     let heads : v.consumer.head ≡ r.consumer.head = ap (λ (z : ConsumerView). z.head) mine in
     let cleared : v.consumer.cleared ≡ r.consumer.cleared = ap (λ (z : ConsumerView). z.cleared) mine in
-    let from = r.memory.clears_from in
     carries_on refl refl (omega arith)
 
 -- bodies in words ask nothing
@@ -140,7 +139,6 @@ module _ (B : Bodies) {id : TableId} {key : Key} {capacity : ℕ} {seat : Seat �
       → (f : ℕ → ℕ) (told : ℕ → Mine → ℕ → Mine → Type 0) → Spares i told
       → MayStep capacity (capacity / 8 + word) f told → Asks i f told
   trailer_step i word inside is =
-      let wide : id.words ≡ ring_words capacity = s.words_are in
       at_word i (capacity / 8 + word) (omega arith) is
 
   -- at a record's word, whose position is p in the code and q in the lemma
@@ -148,10 +146,6 @@ module _ (B : Bodies) {id : TableId} {key : Key} {capacity : ℕ} {seat : Seat �
       → (f : ℕ → ℕ) (told : ℕ → Mine → ℕ → Mine → Type 0) → Spares i told
       → MayStep capacity (index capacity q) f told → Asks i f told
   record_step i p q is at =
-      let wide : id.words ≡ ring_words capacity = s.words_are in
-      let least = s.lawful.least in
-      let c8 = capacity_aligned capacity s.lawful in
-      let low = mod_below p capacity (omega arith) in
       at_word i (index capacity q) (omega arith) (is ∙ ap (index capacity) (sym at))
 
   module _ (u : ClaimState) {type_id : ℤ} {n place i : ℕ}

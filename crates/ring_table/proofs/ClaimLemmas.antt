@@ -56,9 +56,7 @@ module _ (B : Bodies) (C start : ℕ) where
       let new_is : new ≡ claim_end c = claimable.new_tail ∙ ap (λ z. next_place C old (span n) + span z) (sym long) in
       let tops : staged_end start (all_of (h ++ x ∷ [])) ≡ new = staged_end-append start h x ∙ sym new_is in
       let grows : top ≤ new = (let on = next_le C old (span n) in let tail = claimable.new_tail in omega arith) in
-      let least = r.lawful.capacity.least in
       let head_seen = k.head_seen in
-      let room = claimable.room in
       let limit = claimable.limit in
       let tail_seen : v.producer.seen_tail ≤ top = k.tail_seen in
       becomes B C start words views r id v at (set words (tail_index C) new) (h ++ x ∷ []) r.consumer r.drawn w (record {
@@ -116,7 +114,6 @@ module _ (B : Bodies) (C start : ℕ) where
       let top : ℕ = staged_end start (all_of r.hist) in
       let is : n ≡ top = r.memory.tail_is in
       let k = r.seated.each id v at in
-      let tail_seen = k.tail_seen in
       let position = tail_position B C start s r in
       let told : Mine → Type 0 = λ me'. (me'.1 ≡ me.1)
       × ((said : Wanted) → FitsSigned w32 said.type_id → 8 + said.len < 2 ^ 31

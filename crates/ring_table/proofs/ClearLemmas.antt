@@ -202,17 +202,13 @@ module _ (B : Bodies) (C start : ℕ) where
       let h : OwnedHistory = r.hist in
       let law = r.lawful in
       let m = r.memory in
-      let least = law.capacity.least in
       let head : ℕ = r.consumer.head in
       let i : ℕ = head_index C in
       let from = m.clears_from in
-      let eight = m.clears_words in
-      let to = m.clears_to in
       let room = m.room in
       let wide = m.wide in
       let mine = ((r.seated.each id v at).consumes consumes).1 in
       let bounds = reach_bounds C q start (all_of h) got m.placed reaches in
-      let below_top = bounds.1 in
       let now : ConsumerView = stands_at q got r.consumer in
       subst (λ (c : ConsumerView). Kept B C start (set s.words i q) (set s.views id (with_consumer c v)))
       (ap (stands_at q got) (sym mine))

@@ -74,7 +74,7 @@ pub leaves_rest : (C start : ℕ) (words : List ℕ) (v : View) → IsClosed C s
 leaves_rest C start words v closed stored none_cleared =
     let m = closed.memory in
     let head : ℕ = v.consumer.head in
-    let t = splits C head start v.producer.claims v.consumer.taken closed.lawful.capacity.least m.placed m.took in
+    let t = splits in_words C head start v.producer.claims v.consumer.taken closed.lawful.capacity.least m.placed m.took in
     let left : List StagedClaim = restarted head t.rest in
     let left_stored : AreStored left = stored_rest head t.taken t.rest (subst AreStored t.whole stored) in
     let same = claims_of-restarted head t.rest in

@@ -101,7 +101,6 @@ module _ (C start : ℕ) (words : List ℕ) (homes : List (Option ℕ)) (views :
   closed_slots xs values made w =
       let k = known in
       let m = k.memory in
-      let none = last.none_cleared in
       let cs : List StagedClaim = all_of k.hist in
       record {
         lawful = r.lawful;
@@ -126,9 +125,7 @@ module _ (C start : ℕ) (words : List ℕ) (homes : List (Option ℕ)) (views :
               ∙ sym (ap (λ b. cond b 0 (staged_word_at in_words cs p)) (le-ltb p v.consumer.cleared (omega arith)));
         });
         service =
-            (let cached = w.trailer (head_cache_index C) (omega arith) in
-            let was = k.service.cache in
-            record {
+            (record {
               cache = omega arith;
               correlation = w.trailer (correlation_index C) (omega arith) ∙ k.service.correlation;
               heartbeat = k.service.heartbeat ∙ ap some (sym (w.trailer (heartbeat_index C) (omega arith)));

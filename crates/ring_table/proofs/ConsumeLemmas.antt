@@ -41,8 +41,8 @@ one_type_id a b fits_a fits_b e = sym (to_z-of_z w32 a fits_a) ∙ ap (cast_sign
 -- a length of 0 or less as bits
 not_positive : (len : ℤ) → FitsSigned w32 len → len ≤ℤ pos 0
     → ¬ ((0 < cast_unsigned w32 len) × (cast_unsigned w32 len < 2 ^ 31))
-not_positive (pos n) fits le t = let low = t.0 in omega (arith, ints)
-not_positive (negsuc n) fits le t = let high = t.1 in omega (arith, fits.sfits)
+not_positive (pos n) fits le t = omega (arith, ints)
+not_positive (negsuc n) fits le t = omega (arith, fits.sfits)
 
 module _ (B : Bodies) (C start : ℕ) where
   -- the consumer steps: one word changes, and the consumer is at `now`
@@ -129,7 +129,6 @@ module _ (B : Bodies) (C start : ℕ) where
       let m = r.memory in
       let law = r.lawful in
       let least = law.capacity.least in
-      let from = m.clears_from in
       let limit = m.limit in
       let start8 = start_aligned C start law in
       let q8 : q % 8 ≡ 0 = reach_aligned C q start (all_of h) got (omega arith)
@@ -185,7 +184,6 @@ module _ (B : Bodies) (C start : ℕ) where
       let found = t.message other in
       let all : List PlacedMessage = got ++ (record { place = q; message = found.message }) ∷ [] in
       let bounds = reach_bounds C far start (all_of h) all m.placed found.reaches in
-      let below = bounds.1 in
       let told : Told (now far all) = record {
         capacity = refl;
         stays = record { producer = refl; out = refl; consumes = refl; head = refl };
@@ -209,7 +207,7 @@ module _ (B : Bodies) (C start : ℕ) where
       } in
       (now far all, keeps, tt, scans s r id v at consumes far all found.reaches (omega arith) q n, (refl, told, refl))))
       (λ (hi : 2 ^ 31 ≤ low). no_length (λ t. let above = t.1 in omega arith)) (cases_lt low (2 ^ 31)))
-      (λ (lo : low ≤ 0). no_length (λ t. let above = t.0 in omega arith)) (cases_lt 0 low)
+      (λ (lo : low ≤ 0). no_length (λ t. omega arith)) (cases_lt 0 low)
 
   pub loads_first : (slots id : ℕ) (me : Mine) → me.0.capacity ≡ C → me.0.consumes ≡ true
       → me.0.consumer.cleared ≡ me.0.consumer.head
@@ -221,7 +219,6 @@ module _ (B : Bodies) (C start : ℕ) where
       let mine = ((r.seated.each id me.0 at).consumes consumes).1 in
       let heads : me.0.consumer.head ≡ r.consumer.head = ap (λ (z : ConsumerView). z.head) mine in
       let cleared : me.0.consumer.cleared ≡ r.consumer.cleared = ap (λ (z : ConsumerView). z.cleared) mine in
-      let least = r.lawful.capacity.least in
       loads_header me.0.consumer.head me.0.consumer.taken slots id me cap consumes s r at
       (subst (λ (z : ConsumerView). Reaches z.head start (all_of r.hist) z.taken) (sym mine) r.memory.took)
       (omega arith, omega arith)
@@ -236,7 +233,6 @@ module _ (B : Bodies) (C start : ℕ) where
       let mine = ((r.seated.each id me.0 at).consumes consumes).1 in
       let heads : me.0.consumer.head ≡ r.consumer.head = ap (λ (z : ConsumerView). z.head) mine in
       let scan : me.0.consumer.scan ≡ r.consumer.scan = ap (λ (z : ConsumerView). z.scan) mine in
-      let to = r.memory.clears_to in
       loads_header me.0.consumer.scan me.0.consumer.got slots id me cap consumes s r at
       (subst (λ (z : ConsumerView). Reaches z.scan start (all_of r.hist) z.got) (sym mine) r.memory.passed)
       (omega arith, omega arith)
@@ -253,13 +249,9 @@ module _ (C start : ℕ) where
       let h : OwnedHistory = r.hist in
       let law = r.lawful in
       let m = r.memory in
-      let least = law.capacity.least in
-      let room = m.room in
-      let from = m.clears_from in
       let cleared : v.consumer.cleared ≡ r.consumer.cleared = ap (λ (z : ConsumerView). z.cleared) mine in
       let reaches = subst (λ (z : ConsumerView). Reaches z.scan start (all_of h) z.got) (sym mine) m.passed in
-      let bounds = reach_bounds C v.consumer.scan start (all_of h) v.consumer.got m.placed reaches in
-      let below_top = bounds.1 in (
+      let bounds = reach_bounds C v.consumer.scan start (all_of h) v.consumer.got m.placed reaches in (
         logged i n v,
         keeps,
         tt,
@@ -273,8 +265,6 @@ module _ (C start : ℕ) where
               let b = shows_body C v.consumer.scan start (all_of h) v.consumer.got k msg o
               (record { some = omega arith; whole = capacity_aligned C law.capacity })
               (record { whole = start_aligned C start law; placed = m.placed }) reaches has lt in
-              let below = b.below in
-              let place8 = b.aligned in
               ap (λ z. get_or s.words z 0) (sym same ∙ ap (λ z. index z p) cap)
               ∙ m.shows p (omega arith) (omega arith) (omega arith)
               ∙ ap (λ z. cond z 0 (staged_word_at in_words (all_of h) p)) (le-ltb p r.consumer.cleared (omega arith))

@@ -23,8 +23,7 @@ none_of (x ∷ xs) e = absurd (omega arith)
 pub fill_end : (first k n : ℕ) (body : List ℕ) (held : List (ℕ × ℕ)) → k ≡ n → n ≡ words_of (length body) → Filling first k n body held
     → HasBody first body held
 fill_end first k n body held is count t =
-    let c = t.count in
-    let gone = t.gone in record {
+    record {
       values = t.done;
       held_is = t.held_is ∙ ap (λ l. numbered (first + k) l ++ numbered first t.done) (none_of t.left (omega arith));
       words = t.words;
@@ -34,7 +33,6 @@ fill_end first k n body held is count t =
 pub fill_front : (first k n : ℕ) (body : List ℕ) (held : List (ℕ × ℕ)) → k < n → Filling first k n body held
     → (old : ℕ) × (rest : List (ℕ × ℕ)) × (held ≡ (first + k, old) ∷ rest)
 fill_front first k n body held less t =
-    let c = t.count in
     let some = first_of_some t.left (omega arith) in (
       some.0,
       numbered (suc (first + k)) some.1 ++ numbered first t.done,
@@ -45,7 +43,7 @@ get_more : (l : List ℕ) (a : ℕ) (i y : ℕ) → get_elem? (l ++ a ∷ []) i 
 get_more [] a zero y e = inr (refl, some-injective a y e)
 get_more [] a (suc i) y e = absurd (some-ne-none y (sym e))
 get_more (x ∷ xs) a zero y e = inl e
-get_more (x ∷ xs) a (suc i) y e = ⊎_elim (λ t. inl t) (λ (t : (i ≡ length xs) × (a ≡ y)). let z = t.0 in inr (omega arith, t.1)) (get_more xs a i y e)
+get_more (x ∷ xs) a (suc i) y e = ⊎_elim (λ t. inl t) (λ (t : (i ≡ length xs) × (a ≡ y)). inr (omega arith, t.1)) (get_more xs a i y e)
 
 pub words_more : (body done : List ℕ) (w : ℕ) → AreWordsOf body done → w ≡ body_word body (8 * length done) → AreWordsOf body (done ++ w ∷ [])
 words_more body done w each last i y e = ⊎_elim (λ t. each i y t)
@@ -55,7 +53,6 @@ pub fill_more : (first k n w : ℕ) (body : List ℕ) (held held' : List (ℕ ×
     → ((old : ℕ) (rest : List (ℕ × ℕ)) → held ≡ (first + k, old) ∷ rest → held' ≡ rest ++ (first + k, w) ∷ [])
     → Filling first (k + 1) n body held'
 fill_more first k n w body held held' less t w_is told =
-    let c = t.count in
     let gone = t.gone in
     let some = first_of_some t.left (omega arith) in
     let long : length t.left ≡ suc (length some.1) = ap length some.2 in
@@ -120,7 +117,6 @@ word_of_rest body at = ap (from_le_bytes w64) (take_rest body at)
 pub copy_front : (first k n : ℕ) (scratch : List ℕ) (before held : List (ℕ × ℕ)) → k < n → Copying first k n scratch before held
     → (old : ℕ) × (rest : List (ℕ × ℕ)) × (held ≡ (first + k, old) ∷ rest)
 copy_front first k n scratch before held less t =
-    let c = t.count in
     let some = first_of_some t.left (omega arith) in (
       some.0,
       numbered (suc (first + k)) some.1 ++ numbered first t.done,
@@ -136,7 +132,6 @@ pub copy_more : (first k n w : ℕ) (scratch : List ℕ) (before held held' : Li
     → ((old : ℕ) (rest : List (ℕ × ℕ)) → held ≡ (first + k, old) ∷ rest → (w ≡ old) × (held' ≡ rest ++ (first + k, old) ∷ []))
     → Copying first (k + 1) n (overwritten (8 * k) (to_le_bytes w64 w) scratch) before held'
 copy_more first k n w scratch before held held' less room t told =
-    let c = t.count in
     let gone = t.gone in
     let some = first_of_some t.left (omega arith) in
     let y : ℕ = some.0 in
@@ -170,15 +165,12 @@ copy_more first k n w scratch before held held' less room t told =
 pub copy_end : (first k n : ℕ) (scratch : List ℕ) (before held : List (ℕ × ℕ)) → k ≡ n → Copying first k n scratch before held
     → (held ≡ before) × ((body : List ℕ) → HasBody first body before → All (λ b. b < 256) body → Begins body scratch)
 copy_end first k n scratch before held is t =
-    let c = t.count in
-    let gone = t.gone in
     let none = none_of t.left (omega arith) in (
       t.held_is ∙ ap (λ l. numbered (first + k) l ++ numbered first t.done) none
           ∙ ap (numbered first) (sym (append-nil t.done)) ∙ ap (λ l. numbered first (t.done ++ l)) (sym none) ∙ sym t.before_is,
       λ body has small j inside.
           let values : has.values ≡ t.done ++ t.left = sym (values_numbered first has.values) ∙ ap values_of (sym has.held_is ∙ t.before_is)
           ∙ values_numbered first (t.done ++ t.left) in
-          let count = has.count in
           let all : length has.values ≡ length t.done + length t.left = ap length values ∙ length-append t.done t.left in
           t.copies body (subst (AreWordsOf body) values has.words) small j inside (omega arith),
     )

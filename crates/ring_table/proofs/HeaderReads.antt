@@ -58,8 +58,6 @@ shown_padding elsewhere n small =
     let w : ℕ = header (pos n) padding_mark in
     let high : w / 2 ^ 32 ≡ 2 ^ 32 - 2 = high_half (pos n) padding_mark (fits_pos n small) in
     let low : ℕ = cast_unsigned w32 (pos n) in
-    let is : w ≡ (2 ^ 32 - 2) * 2 ^ 32 + low = refl in
-    let shown : padding_header n ≡ (2 ^ 32 - 1) * 2 ^ 32 + low = refl in
     let up : w + 2 ^ 32 ≡ padding_header n = omega arith in
     cond-true _ (w + 2 ^ 32) w (eq-eqb (w / 2 ^ 32) (2 ^ 32 - 2) high) ∙ up
 
@@ -108,7 +106,6 @@ leads_to_end : (C s : ℕ) (c : StagedClaim) (w : ℕ) (type_id : ℤ) → C ≤
     → w ≡ header (pos (8 + length c.message.body)) type_id → LeadsToEnd c s w type_id
 leads_to_end C s c w type_id big m at is =
     let n : ℕ = length c.message.body in
-    let short : n ≤ C / 8 = m.short in
     let both = halves (8 + n) type_id (omega arith) is in
     let len : w % 2 ^ 32 ≡ 8 + n = both.0 in
     record { len = len; bits = both.1; goes = omega arith }
@@ -118,14 +115,12 @@ at_header : (B : Bodies) (C s e : ℕ) (c : StagedClaim) (cs : List StagedClaim)
     → IsMessage C c.message → s % C + staged_span c ≤ C → IsHeaderAt c t s w → HasLength w
     → Leads C s e (c ∷ cs) [] (shown_header B w)
 at_header B C s e c cs Moved w big m inner h plus =
-    let eq = h.word in let lo = plus.above in absurd (omega arith)
+    absurd (omega arith)
 at_header B C s e c cs Padded w big m inner h plus =
-    let eq = h.word in let lo = plus.above in absurd (omega arith)
+    absurd (omega arith)
 at_header B C s e c cs (Stored Open) w big m inner h plus =
     let eq = h.word in
-    let hi = plus.below in
     let n : ℕ = length c.message.body in
-    let short : n ≤ C / 8 = m.short in
     let low : w % 2 ^ 32 ≡ cast_unsigned w32 (neg_ℤ (pos (8 + n))) =
     ap (λ k. k % 2 ^ 32) eq ∙ low_half (neg_ℤ (pos (8 + n))) c.message.type_id (fits_neg (8 + n) (omega arith)) in
     let far = negated_above (8 + n) (omega arith) (omega arith) in
@@ -220,7 +215,6 @@ at_padding B C s e c cs w big pad eq plus = by_stage c.stage refl eq
         let u : ℕ = shown_header B w in
         let u_is : u ≡ padding_header n = ap (shown_header B) is ∙ shown_padding B n (omega arith) in
         let both = halves n padding_type (omega arith) u_is in
-        let len : u % 2 ^ 32 ≡ n = both.0 in
         let goes : s + rounded (u % 2 ^ 32) ≡ c.place = omega arith in
         record {
           padding = λ _. inr (inl (goes, moved, refl));
@@ -241,22 +235,17 @@ pub leads : (B : Bodies) → (C s e : ℕ) (cs : List StagedClaim) (got : List P
     → Reaches s e cs got → staged_word_at B cs s ≡ w → HasLength w → Leads C s e cs got (shown_header B w)
 leads B C s e [] got w cap stand r is plus =
     let none : 0 ≡ w = is in
-    let lo = plus.above in
     absurd (omega arith)
 leads B C s e (c ∷ cs) got w cap stand r is plus =
     let e8 = stand.whole in
     let h = stand.placed in
-    let least = cap.least in
     let most = cap.most in
     let c8 = capacity_aligned C cap in
     let a : ℕ = staged_span c in
     let n : ℕ = length c.message.body in
-    let short : n ≤ C / 8 = h.0.message.short in
     let place : ℕ = c.place in
-    let from_is : c.from ≡ e = h.0.from in
     let place_is : place ≡ next_place C e a = h.0.place in
     let aligned = claim_aligned C e c (omega arith) c8 e8 h.0.place in
-    let place8 = aligned.0 in
     let e_low = mod_below e C (omega arith) in
     let e_mod = mod_aligned C e c8 e8 in
     let now_at_place = λ (at : s ≡ place).
@@ -271,9 +260,8 @@ leads B C s e (c ∷ cs) got w cap stand r is plus =
     let at_e : s ≡ e = alt.0 in
     subst (λ g. Leads C s e (c ∷ cs) g (shown_header B w)) (sym alt.1)
     (⊎_elim
-    (λ t. let stays : next_place C e a ≡ e = t.1 in now_at_place (omega arith))
+    (λ t. now_at_place (omega arith))
     (λ t.
-    let wraps : next_place C e a ≡ e + room C e = t.1 in
     let same_mod : s % C ≡ e % C = ap (λ k. k % C) at_e in
     at_padding B C s e c cs w most
     (record {

@@ -41,8 +41,7 @@ pub one_committed : (type_id : ℤ) (n : ℕ) (type_id' : ℤ) (n' : ℕ) → Fi
     → (type_id ≡ type_id') × (n ≡ n')
 one_committed type_id n type_id' n' fits small fits' small' same =
     let fit = fits_pos (8 + n) small in
-    let fit' = fits_pos (8 + n') small' in
-    let lens = one_len (pos (8 + n)) (pos (8 + n')) type_id type_id' fit fit' same in (
+    let fit' = fits_pos (8 + n') small' in (
       one_kind (pos (8 + n)) (pos (8 + n')) type_id type_id' fit fit' fits fits' same,
       omega (arith, ints),
     )

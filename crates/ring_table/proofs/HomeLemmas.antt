@@ -265,7 +265,6 @@ module _ (C start : ℕ) where
       let m : PlacedMessage = placed_message c in
       let f : StagedClaim → StagedClaim = recorded type_id body in
       let mid : View = with_claims (changed c.place f v.producer.claims) v in
-      let most = fills.most in
       let lawful = fills.lawful in
       let same_span = fills.span_is in
       let zeros : length (blank type_id n).body ≡ n = length-replicate n 0 in

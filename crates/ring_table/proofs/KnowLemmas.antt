@@ -39,7 +39,7 @@ module _ {top : ℕ} {hist : OwnedHistory} {reader : ℕ} {consumer : ConsumerVi
       → Knows top' hist' reader consumer n id v
   knows_after {top'} {hist'} grows same = record {
     claims = k.claims ∙ sym same;
-    tail_seen = (let seen = k.tail_seen in omega arith);
+    tail_seen = (omega arith);
     head_seen = k.head_seen;
     idle = k.idle;
     served = k.served;
@@ -54,7 +54,7 @@ module _ {top : ℕ} {hist : OwnedHistory} {reader : ℕ} {consumer : ConsumerVi
     claims = ap (λ (p : ProducerView). p.claims) same ∙ k.claims;
     tail_seen = subst (λ (p : ProducerView). p.seen_tail ≤ top) (sym same) k.tail_seen;
     head_seen = subst (λ (p : ProducerView). p.seen_head ≤ consumer'.head) (sym same)
-        (let seen = k.head_seen in omega arith);
+        (omega arith);
     idle = subst (λ (p : ProducerView). p.shares ≡ 0 → IsIdle p) (sym same) k.idle;
     served = subst (λ (p : ProducerView). AreServed n' consumer'.heartbeats (p.service ∷ p.joined)) (sym same) served;
     consumes = consumes;

@@ -33,7 +33,6 @@ insert_claim-append c y (d ∷ ds) lt =
 insert_claim_last : (c : StagedClaim) (l : List StagedClaim) → AreBelow c.place l → insert_claim c l ≡ l ++ c ∷ []
 insert_claim_last c [] below = refl
 insert_claim_last c (d ∷ ds) below =
-    let d_below = below.0 in
     ap (λ b. cond b (c ∷ d ∷ ds) (d ∷ insert_claim c ds)) (le-ltb c.place d.place (omega arith))
     ∙ ap (λ l. d ∷ l) (insert_claim_last c ds below.1)
 
@@ -97,7 +96,7 @@ open_count-interleaved xs (y ∷ ys) =
 pub changed_none : (p : ℕ) (f : StagedClaim → StagedClaim) (cs : List StagedClaim) → AreAbove p cs → changed p f cs ≡ cs
 changed_none p f [] above = refl
 changed_none p f (c ∷ cs) above =
-    let first = above.0 in λ i. changed_at_other p f c (λ e. omega arith) i ∷ changed_none p f cs above.1 i
+    λ i. changed_at_other p f c (λ e. omega arith) i ∷ changed_none p f cs above.1 i
 
 pub above_at : (p : ℕ) (cs : List StagedClaim) (k : ℕ) (c : StagedClaim) → AreAbove p cs → get_elem? cs k ≡ some c
     → p < c.place
@@ -142,7 +141,6 @@ none_open [] e = (tt, tt)
 none_open (c ∷ cs) e =
     let here : ℕ = one_if_open (stage_state c.stage) in
     let rest : ℕ = open_count cs in
-    let sum : here + rest ≡ 0 = e in
     let none_here : here ≡ 0 = omega arith in
     let none_there : rest ≡ 0 = omega arith in
     let t = none_open cs none_there in

@@ -24,6 +24,12 @@ mod SplitSums
 pub mod SplitLemmas
 pub mod CloseLemmas
 pub mod WalkLemmas
+pub mod PlainLemmas
+pub mod SettleLemmas
+pub mod RescueLemmas
+pub mod BlankLemmas
+pub mod RefillLemmas
+pub mod SlotsRescue
 pub mod PictureWords
 pub mod CloseSlots
 pub mod ShelfLemmas

@@ -43,7 +43,6 @@ module _ (B : Bodies) (C start : ℕ) where
       → Kept B C start (set words i (slice_index words i)) (set views id w)
   looked words views r id i v w at knows rich later drawn =
       let top : ℕ = staged_end start (all_of r.hist) in
-      let seen = knows.tail_seen in
       subst (λ l. Kept B C start l (set views id w)) (sym (set-get_or words i 0))
       (becomes B C start words views r id v at words r.hist r.consumer r.drawn w (record {
         memory = r.memory;
@@ -131,12 +130,9 @@ module _ (B : Bodies) (C start : ℕ) where
       let is : n ≡ head = r.memory.head_is in
       let k = r.seated.each id v at in
       let tail_seen = k.tail_seen in
-      let head_seen = k.head_seen in
       let bounds = head_bounds B C start r.lawful s.words r.consumer (all_of r.hist) r.memory in
-      let head_below = bounds.1 in
       let aligned = bounds.2 in
-      let limit = r.memory.limit in
-      let room = r.memory.room in (
+      let limit = r.memory.limit in (
         logged (head_index C) n (with_producer (with_head n v.producer) v),
         keeps,
         tt,
@@ -174,7 +170,6 @@ module _ (B : Bodies) (C start : ℕ) where
   pub stands : (words : List ℕ) (views : List View) (r : Kept B C start words views) (id : ℕ) (v : View) (k : ℕ)
       (c : StagedClaim) → HasUnsettled views id v k c → Stands words views r id c
   stands words views r id v k c has =
-      let least = r.lawful.capacity.least in
       let own = owned_at id r.hist k c
       (subst (λ l. get_elem? l k ≡ some c) (r.seated.each id v has.seat).claims has.claim) in
       let behind = not_passed C r.consumer.scan start r.hist r.consumer.got own.0
@@ -212,15 +207,7 @@ module _ (C start : ℕ) where
           (λ nth c o has is_open o8 lt same.
               let st = stands in_words C start s.words s.views r id v nth c
               (record { seat = at; claim = has; unsettled = λ z. subst IsSettled is_open z }) in
-              let padded = st.lies.padded in
-              let below = st.lies.below in
-              let behind = st.behind_scan in
-              let place8 = st.place_aligned in
-              let from = m.clears_from in
-              let to = m.clears_to in
-              let room = m.room in
-              let p : ℕ = c.place + 8 + o in
-              let len : ℕ = length c.message.body in (
+              let p : ℕ = c.place + 8 + o in (
                 ap (λ z. get_or s.words z 0) (sym same ∙ ap (λ z. index z p) cap)
                     ∙ m.shows p (omega arith) (omega arith) (omega arith)
                     ∙ ap (λ b. cond b 0 (staged_word_at in_words (all_of h) p)) (le-ltb p r.consumer.cleared (omega arith))

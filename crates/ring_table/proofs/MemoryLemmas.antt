@@ -67,7 +67,6 @@ module _ (B : Bodies) (C start : ℕ) (law : IsLawful C start) where
     pub head_bounds : (cs : List StagedClaim) → IsMemory B C start words cs consumer
         → (start ≤ consumer.head) × (consumer.head ≤ staged_end start cs) × (consumer.head % 8 ≡ 0)
     head_bounds cs m =
-        let least = law.capacity.least in
         let bounds = reach_bounds C consumer.head start cs consumer.taken m.placed m.took in (
           bounds.0,
           bounds.1,
@@ -101,8 +100,6 @@ module _ (B : Bodies) (C start : ℕ) (law : IsLawful C start) where
     service_elsewhere n s i value away consumer' on =
         let cached : get_or (set words i value) (head_cache_index C) 0 ≡ get_or words (head_cache_index C) 0 =
         get_or-set_other words i (head_cache_index C) value 0 (λ e. away.cache (sym e)) in
-        let was = s.cache in
-        let rises = on.rises in
         record {
           cache = omega arith;
           correlation =
@@ -125,7 +122,6 @@ module _ (B : Bodies) (C start : ℕ) (law : IsLawful C start) where
         let tops : staged_end start (all_of h') ≡ top = staged_end-edited id p f C start h may in
         let head : ℕ = consumer.head in
         let from = m.clears_from in
-        let to = m.clears_to in
         let inside = index_inside q in
         let wide = m.wide in
         record {

@@ -314,8 +314,6 @@ module _ (C start : ℕ) where
       let from = b.from in
       let to = b.to in
       let within = b.within in
-      let same_span = fills.span_is in
-      let big = fills.most in
       let lawful = fills.lawful in
       let zeros : length (blank type_id n).body ≡ n = length-replicate n 0 in
       let short : n ≤ C / 8 = omega (arith, lawful.short) in

@@ -57,8 +57,7 @@ module _ (C start : ℕ) (words : List ℕ) (homes : List (Option ℕ)) (views :
       let st = stands elsewhere C start words views r id v k c
       (record { seat = at; claim = has; unsettled = un }) in
       let scan = st.behind_scan in
-      let from = r.memory.clears_from in
-      let to = r.memory.clears_to in (
+      let from = r.memory.clears_from in (
         record { nth = st.nth; there = st.there },
         claim_lies elsewhere C start words views r st.nth (id, c) st.there (omega arith),
       )
@@ -82,7 +81,6 @@ module _ (C start : ℕ) (words : List ℕ) (homes : List (Option ℕ)) (views :
       ap (λ l. get_elem? l (length front)) is ∙ at_last front m (length front) refl in
       let p = passed_claim r.consumer.scan start r.hist r.consumer.got (length front) m r.memory.passed there in
       let place : p.owned.1.place ≡ m.place = ap (λ (z : PlacedMessage). z.place) p.is in
-      let from = r.memory.clears_from in
       record {
         passed = p;
         lies = subst (λ (z : PlacedMessage). Lies C r.consumer.head r.hist z.place (length z.message.body)) p.is
@@ -179,5 +177,4 @@ module _ (C start : ℕ) (words : List ℕ) (homes : List (Option ℕ)) (views :
   reads_above p d =
       let mine = ((r.seated.each d.seat d.view d.there).consumes d.consumes).1 in
       let heads : d.view.consumer.head ≡ r.consumer.head = ap (λ (z : ConsumerView). z.head) mine in
-      let head = d.head in
       omega arith

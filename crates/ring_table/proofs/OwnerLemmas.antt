@@ -24,7 +24,7 @@ first c (d ∷ ds) h = ap (λ b. cond b (c ∷ d ∷ ds) (d ∷ insert_claim c d
 stays_first : (c : StagedClaim) (xs ys : List StagedClaim) → AreAbove c.place ys
     → interleaved (c ∷ xs) ys ≡ c ∷ interleaved xs ys
 stays_first c xs [] h = refl
-stays_first c xs (y ∷ ys) h = let a : c.place < y.place = h.0 in ap (insert_claim y) (stays_first c xs ys h.1)
+stays_first c xs (y ∷ ys) h = ap (insert_claim y) (stays_first c xs ys h.1)
     ∙ ap (λ b. cond b (y ∷ c ∷ interleaved xs ys) (c ∷ insert_claim y (interleaved xs ys)))
     (le-ltb y.place c.place (omega arith))
 

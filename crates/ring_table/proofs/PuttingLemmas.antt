@@ -83,8 +83,6 @@ module _ (first n : ℕ) (old new : List ℕ) where
   pub put_end : (k : ℕ) (held : List (ℕ × ℕ)) → k ≡ n → n ≡ words_of (length new)
       → Putting first k n old new held → HasBody first new held
   put_end k held is count t =
-      let c = t.count in
-      let gone = t.gone in
       record {
         values = t.done;
         held_is = t.held_is

@@ -15,14 +15,14 @@ use Rattle.ring_table.proofs.HistoryLemmas.{MayReplaceAt, edited_one_cases, clai
 
 pub reach_bounds : (C s e : ℕ) (cs : List StagedClaim) (got : List PlacedMessage) → ArePlaced C e cs
     → Reaches s e cs got → (e ≤ s) × (s ≤ staged_end e cs)
-reach_bounds C s e [] got h r = let at : s ≡ e = r.0 in (omega arith, omega arith)
+reach_bounds C s e [] got h r = (omega arith, omega arith)
 reach_bounds C s e (c ∷ cs) got h r =
     let on = next_le C e (staged_span c) in
     let place = h.0.place in
     let rest = end_le C (claim_end c) cs h.1 in
     ⊎_elim (λ a. let at : s ≡ e = a.0 in (omega arith, omega arith))
-    (⊎_elim (λ a. let at : s ≡ c.place = a.0 in (omega arith, omega arith))
-    (λ a. let later = reach_bounds C s (claim_end c) cs a.1.0 h.1 a.1.2 in let above = later.0 in let below =
+    (⊎_elim (λ a. (omega arith, omega arith))
+    (λ a. let later = reach_bounds C s (claim_end c) cs a.1.0 h.1 a.1.2 in let below =
     later.1 in (omega arith, omega arith))) r
 
 pub reach_aligned : (C s e : ℕ) (cs : List StagedClaim) (got : List PlacedMessage) → 0 < C → C % 8 ≡ 0 → e % 8 ≡ 0
@@ -76,17 +76,15 @@ not_passed C s e (y ∷ ys) got zero x h r at un =
     let place = h.0.place in
     let from = h.0.from in
     subst (λ (z : ℕ × StagedClaim). (s ≤ z.1.place) × (z.1.stage ≡ Moved → s ≤ z.1.from)) same
-    (⊎_elim (λ a. let at_start : s ≡ e = a.0 in (omega arith, λ _. omega arith))
-    (⊎_elim (λ a. let at_place : s ≡ y.1.place = a.0 in (omega arith, λ moved. absurd (a.1 moved)))
+    (⊎_elim (λ a. (omega arith, λ _. omega arith))
+    (⊎_elim (λ a. (omega arith, λ moved. absurd (a.1 moved)))
     (λ a. absurd (un (subst (λ (z : ℕ × StagedClaim). IsSettled z.1.stage) same a.0)))) r)
 not_passed C s e (y ∷ ys) got (suc i) x h r at un =
     let there = lies_in C (claim_end y.1) ys i x h.1 at in
-    let above = there.above in
-    let padded = there.padded in
     let on = next_le C e (staged_span y.1) in
     let place = h.0.place in
-    ⊎_elim (λ a. let at_start : s ≡ e = a.0 in (omega arith, λ _. omega arith))
-    (⊎_elim (λ a. let at_place : s ≡ y.1.place = a.0 in (omega arith, λ moved. omega arith))
+    ⊎_elim (λ a. (omega arith, λ _. omega arith))
+    (⊎_elim (λ a. (omega arith, λ moved. omega arith))
     (λ a. not_passed C s (claim_end y.1) ys a.1.0 i x h.1 a.1.2 at un)) r
 
 -- ---- messages
@@ -148,7 +146,6 @@ shows_body C s e (c ∷ cs) got k m at lap stand r g lt =
     let q : ℕ = m.place + 8 + at in
     let v = shows_body C s (claim_end c) cs a.1.0 t.0 m at lap (record { whole = aligned.1; placed = h.1 }) a.1.2 t.1
     lt in
-    let v_above = v.above in
     record {
       above = omega arith;
       below = v.below;

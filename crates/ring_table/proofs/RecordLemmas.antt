@@ -53,7 +53,6 @@ none_before : (C s e : ℕ) (cs : List StagedClaim) (got : List PlacedMessage) (
 none_before C s e [] got p placed r lt = no_message p got r.1
 none_before C s e (c ∷ cs) got p placed r lt =
     let on = next_le C e (staged_span c) in
-    let place = placed.0.place in
     ⊎_elim (λ a. no_message p got a.1)
     (⊎_elim (λ a. no_message p got a.2)
     (λ a. ap (record_end p) a.1.1 ∙ other_place c.stage (placed_message c) a.1.0 p (λ e. omega arith)
@@ -69,12 +68,8 @@ record IsMessageWord (w : ℕ) : Type 0 where
 no_padding_word : (t : Stage) (n w : ℕ) → w ≡ masked_padding t (padding_word elsewhere n) → ¬ (IsMessageWord w)
 no_padding_word Moved n w e is = is.some e
 no_padding_word Padded n w e is =
-    let form : padding_word elsewhere n ≡ (2 ^ 32 - 2) * 2 ^ 32 + cast_unsigned w32 (pos n) = refl in
-    let below = is.below in
     omega arith
 no_padding_word (Stored s) n w e is =
-    let form : padding_word elsewhere n ≡ (2 ^ 32 - 2) * 2 ^ 32 + cast_unsigned w32 (pos n) = refl in
-    let below = is.below in
     omega arith
 
 masked_zero : (t : Stage) → masked_record t 0 ≡ 0
@@ -120,9 +115,6 @@ record Passed (s p t : ℕ) (cs : List StagedClaim) : Type 0 where
 one_word : (s p t : ℕ) (cs : List StagedClaim) → t ≡ p + 8 → (p % 8 ≡ 0) × (s % 8 ≡ 0) × (p < s)
     → ¬ (IsMessageWord (staged_word_at elsewhere cs p)) → Passed s p t cs
 one_word s p t cs t_is whole quiet =
-    let p8 = whole.0 in
-    let s8 = whole.1 in
-    let lt = whole.2 in
     record {
       on = omega arith;
       below = omega arith;
@@ -149,13 +141,11 @@ at_place C s p c cs got later (Stored Aborted) most m is settled shows rest at =
     ∙ ap (λ t. masked_record t (header_of (claim_of (record { from = c.from; place = c.place; message = c.message; stage = t })))) is in
     let form : header (pos (8 + n)) padding_type ≡ (2 ^ 32 - 1) * 2 ^ 32 + cast_unsigned w32 (pos (8 + n)) = refl in
     one_word s p (record_end p got) (c ∷ cs) (ap (record_end p) shows ∙ rest) (at.1, at.2, omega arith)
-    (λ z. let low = z.below in omega arith)
+    (λ z. omega arith)
 at_place C s p c cs got later (Stored Committed) most m is settled shows rest at =
     let at_it = at.0 in
-    let p8 = at.1 in
     let below = at.3 in
     let n : ℕ = length c.message.body in
-    let short : n ≤ C / 8 = m.short in
     let w : ℕ = staged_word_at elsewhere (c ∷ cs) p in
     let word : w ≡ header (pos (8 + n)) c.message.type_id =
     here c cs p (omega arith) ∙ staged_word-header elsewhere c p (sym at_it)
@@ -174,12 +164,8 @@ at_place C s p c cs got later (Stored Committed) most m is settled shows rest at
 passed_at : (C s p e : ℕ) (cs : List StagedClaim) (got : List PlacedMessage) → IsLap C → C ≤ 2 ^ 24 → StandFrom C e cs
     → Reaches s e cs got → (e ≤ p) × (p < s) × (p % 8 ≡ 0) × (s % 8 ≡ 0) → Passed s p (record_end p got) cs
 passed_at C s p e [] got lap most stand r ok =
-    let from = ok.0 in
-    let lt = ok.1 in
-    let at : s ≡ e = r.0 in
     absurd (omega arith)
 passed_at C s p e (c ∷ cs) got lap most stand r ok =
-    let from = ok.0 in
     let lt = ok.1 in
     let p8 = ok.2 in
     let s8 = ok.3 in
@@ -187,10 +173,9 @@ passed_at C s p e (c ∷ cs) got lap most stand r ok =
     let aligned = claim_aligned C e c lap.some lap.whole stand.whole h.0.place in
     let place8 = aligned.0 in
     let whole = aligned.1 in
-    ⊎_elim (λ a. let at : s ≡ e = a.0 in absurd (omega arith))
+    ⊎_elim (λ a. absurd (omega arith))
     (⊎_elim
     (λ a.
-    let at : s ≡ c.place = a.0 in
     one_word s p (record_end p got) (c ∷ cs) (no_message p got a.2) (p8, s8, lt)
     (λ is. quiet_padding c p (omega arith) (subst IsMessageWord (here c cs p (omega arith)) is)))
     (λ a.
@@ -232,7 +217,6 @@ module _ (C start : ℕ) where
   next_record s r more =
       let law = r.lawful in
       let m = r.memory in
-      let least = law.capacity.least in
       let c8 = capacity_aligned C law.capacity in
       let start8 = start_aligned C start law in
       let from = m.clears_from in
@@ -292,7 +276,6 @@ module _ (C start : ℕ) where
       let t = next_record s r more' in
       let q : ℕ = r.consumer.cleared in
       let from = m.clears_from in
-      let room = m.room in
       let bounds = reach_bounds C r.consumer.scan start (all_of r.hist) r.consumer.got m.placed m.passed in
       let below = bounds.1 in
       let word : n ≡ staged_word_at elsewhere (all_of r.hist) q =
@@ -306,7 +289,6 @@ module _ (C start : ℕ) where
             let ends : record_end q r.consumer.got ≡ q + rounded (n % 2 ^ 32) =
             subst (λ (w : ℕ). IsMessageWord w → record_end q r.consumer.got ≡ q + rounded (w % 2 ^ 32)) (sym word)
             t.word (record { some = some; below = low }) in
-            let above = t.on in
             record {
               some = omega arith;
               ends = subst (λ (z : ConsumerView). record_end z.cleared z.got ≡ z.cleared + rounded (n % 2 ^ 32))

@@ -1,5 +1,5 @@
 -- What a read leaves is a history of its own, from the place of the read.
-use Rattle.ring_table.specs.Staged.{in_words}
+use Rattle.ring_table.specs.Staged.{Bodies, in_words}
 use Rattle.std.proofs.Common.{◌≡◌, ℕ, ◌+◌, ◌-◌, ◌≤◌, ◌<◌, List, [], ◌∷◌, ◌++◌, cond, ltb, sym, refl, ap, ◌∙◌, inl, inr, ⊎_elim, length, lt-ltb, le-ltb, arith}
 use mathlib.Core.Logic.{dite}
 use native.Mathlib.Decide.{ℕ_discrete}
@@ -44,7 +44,6 @@ staged_word_at-claims_of C e (c ∷ cs) p placed stored =
     let from_is : c.from ≡ e = placed.0.from in
     let place : ℕ = next_place C e (staged_span c) in
     let place_is : c.place ≡ place = placed.0.place in
-    let rest : unplaced (c ∷ cs) ≡ claim_of c ∷ unplaced cs = refl in
     elim (cases_lt p c.place) as (λ _. staged_word_at in_words (c ∷ cs) p ≡ word_at C e (claim_of c ∷ unplaced cs) p) [
       | inl in_padding ↦ here c cs p (omega arith) ∙ dite (ℕ_discrete p c.from)
           (λ same.
@@ -74,7 +73,7 @@ staged_word_at-claims_of C e (c ∷ cs) p placed stored =
 
 -- ---- what was passed, and what is left
 
-pub record Splits (C s e : ℕ) (cs : List StagedClaim) (got : List PlacedMessage) : Type 0 where
+pub record Splits (B : Bodies) (C s e : ℕ) (cs : List StagedClaim) (got : List PlacedMessage) : Type 0 where
   pub taken : List StagedClaim
   pub rest : List StagedClaim
   pub whole : cs ≡ taken ++ rest
@@ -82,11 +81,11 @@ pub record Splits (C s e : ℕ) (cs : List StagedClaim) (got : List PlacedMessag
   pub messages : got ≡ placed_committed_of taken
   pub placed : ArePlaced C s (restarted s rest)
   pub ends : staged_end s (restarted s rest) ≡ staged_end e cs
-  pub words : (p : ℕ) → s ≤ p → staged_word_at in_words cs p ≡ staged_word_at in_words (restarted s rest) p
+  pub words : (p : ℕ) → s ≤ p → staged_word_at B cs p ≡ staged_word_at B (restarted s rest) p
 
-pub splits : (C s e : ℕ) (cs : List StagedClaim) (got : List PlacedMessage) → 128 ≤ C → ArePlaced C e cs
-    → Reaches s e cs got → Splits C s e cs got
-splits C s e [] got big placed r = record {
+pub splits : (B : Bodies) (C s e : ℕ) (cs : List StagedClaim) (got : List PlacedMessage) → 128 ≤ C → ArePlaced C e cs
+    → Reaches s e cs got → Splits B C s e cs got
+splits B C s e [] got big placed r = record {
   taken = [];
   rest = [];
   whole = refl;
@@ -97,14 +96,14 @@ splits C s e [] got big placed r = record {
   ends = r.0;
   words = λ _ _. refl;
 }
-splits C s e (c ∷ cs) got big placed r =
+splits B C s e (c ∷ cs) got big placed r =
     let lies = placed.0 in
     let a : ℕ = staged_span c in
     let short = lies.message.short in
     let n : ℕ = length c.message.body in
     let d : StagedClaim = record { from = s; place = c.place; message = c.message; stage = c.stage } in
-    let left : got ≡ [] → c.place ≡ next_place C s a → ((p : ℕ) → s ≤ p → staged_word in_words c p ≡ staged_word in_words d p)
-    → Splits C s e (c ∷ cs) got =
+    let left : got ≡ [] → c.place ≡ next_place C s a → ((p : ℕ) → s ≤ p → staged_word B c p ≡ staged_word B d p)
+    → Splits B C s e (c ∷ cs) got =
     λ none place plain. record {
       taken = [];
       rest = c ∷ cs;
@@ -113,7 +112,7 @@ splits C s e (c ∷ cs) got big placed r =
       messages = none;
       placed = (record { from = refl; place = place; message = lies.message }, placed.1);
       ends = refl;
-      words = λ p le. ap (λ k. cond (ltb p (claim_end c)) k (staged_word_at in_words cs p)) (plain p le);
+      words = λ p le. ap (λ k. cond (ltb p (claim_end c)) k (staged_word_at B cs p)) (plain p le);
     } in
     ⊎_elim
     (λ alt.
@@ -121,19 +120,19 @@ splits C s e (c ∷ cs) got big placed r =
     let same : c ≡ d =
     λ i. record { from = (lies.from ∙ sym at) i; place = c.place; message = c.message; stage = c.stage } in
     left alt.1 (lies.place ∙ ap (λ k. next_place C k a) (sym at))
-    (λ p le. ap (λ (x : StagedClaim). staged_word in_words x p) same))
+    (λ p le. ap (λ (x : StagedClaim). staged_word B x p) same))
     (⊎_elim
     (λ alt.
     let at : s ≡ c.place = alt.0 in
     left alt.2
     (lies.place ∙ sym (next_fixed C e a (omega arith) (omega arith))
     ∙ ap (λ k. next_place C k a) (sym (at ∙ lies.place)))
-    (λ p le. staged_word-record in_words c p (omega arith) ∙ sym (staged_word-record in_words d p (omega arith))))
+    (λ p le. staged_word-record B c p (omega arith) ∙ sym (staged_word-record B d p (omega arith))))
     (λ alt.
     let later : List PlacedMessage = alt.1.0 in
     let bounds = reach_bounds C s (claim_end c) cs later placed.1 alt.1.2 in
     let above = bounds.0 in
-    let t = splits C s (claim_end c) cs later big placed.1 alt.1.2 in
+    let t = splits B C s (claim_end c) cs later big placed.1 alt.1.2 in
     record {
       taken = c ∷ t.taken;
       rest = t.rest;
@@ -142,7 +141,7 @@ splits C s e (c ∷ cs) got big placed r =
       messages = alt.1.1 ∙ ap (λ l. shown_at c.stage (placed_message c) ++ l) t.messages;
       placed = t.placed;
       ends = t.ends;
-      words = λ p le. ap (λ b. cond b (staged_word in_words c p) (staged_word_at in_words cs p)) (le-ltb p (claim_end c) (omega arith))
+      words = λ p le. ap (λ b. cond b (staged_word B c p) (staged_word_at B cs p)) (le-ltb p (claim_end c) (omega arith))
           ∙ t.words p le;
     })) r
 

@@ -28,8 +28,7 @@ module _ (B : Bodies) (C start : ℕ) where
       let k = r.seated.each id v at in
       let seen = k.head_seen in
       let limit = r.memory.limit in
-      let bounds = head_bounds B C start r.lawful s.words r.consumer (all_of r.hist) r.memory in
-      let below = bounds.1 in (
+      let bounds = head_bounds B C start r.lawful s.words r.consumer (all_of r.hist) r.memory in (
         logged (head_cache_index C) n (with_producer (with_head (max v.producer.seen_head n) v.producer) v),
         keeps,
         tt,
@@ -179,7 +178,6 @@ module _ (B : Bodies) (C start : ℕ) where
       let now : ConsumerView = beaten value r.consumer in
       let w : View = with_consumer (beaten value v.consumer) v in
       let top : ℕ = staged_end start (all_of r.hist) in
-      let words_wide = r.memory.wide in
       let cached : get_or (set s.words i value) (head_cache_index C) 0 ≡ get_or s.words (head_cache_index C) 0 =
       get_or-set_other s.words i (head_cache_index C) value 0 (omega arith) in
       let cache = r.service.cache in (

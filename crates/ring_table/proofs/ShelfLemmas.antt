@@ -74,7 +74,6 @@ follows C homes views views' f s = record {
   exact = λ c of reads.
       let t = (f.fed of.seat of.view of.there).claims of.nth c of.has of.stored in
       let r = (f.fed reads.seat reads.view reads.there).reads reads.consumes in
-      let r_head = r.head in
       let head = reads.head in
       let place : t.claim.place ≡ c.place = t.was.place in
       subst (λ (z : ℕ × List ℕ). HasRight C homes z.0 z.1) (λ i. (t.was.place i, t.was.body i))

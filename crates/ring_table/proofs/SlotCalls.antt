@@ -24,12 +24,11 @@ pub slot_step_anywhere : {id : TableId} {key : Key} {capacity : ℕ} {seat : Sea
     → Allows (Holds elsewhere capacity key.start) id.slots seat.id seat.me i f told
     → (seat.table_id ≡ id) × (i < id.words)
     × Allows (Holds elsewhere key.capacity key.start) id.slots seat.id seat.me i f told
-slot_step_anywhere {id} {key} {capacity} {seat} table words key_is i word inside is f told allows =
-    let wide : id.words ≡ ring_words capacity = words in (
-      table,
-      omega arith,
-      subst (λ (z : ℕ). Allows (Holds elsewhere z key.start) id.slots seat.id seat.me i f told) (sym key_is) allows,
-    )
+slot_step_anywhere {id} {key} {capacity} {seat} table words key_is i word inside is f told allows = (
+  table,
+  omega arith,
+  subst (λ (z : ℕ). Allows (Holds elsewhere z key.start) id.slots seat.id seat.me i f told) (sym key_is) allows,
+)
 
 -- at the header of a record, whose position is p in the code and q in the lemma
 pub slot_step : {id : TableId} {key : Key} {capacity : ℕ} {seat : Seat ℕ View} → seat.table_id ≡ id
@@ -40,10 +39,6 @@ pub slot_step : {id : TableId} {key : Key} {capacity : ℕ} {seat : Seat ℕ Vie
     → (seat.table_id ≡ id) × (i < id.words)
     × Allows (Holds elsewhere key.capacity key.start) id.slots seat.id seat.me i f (told i seat.me)
 slot_step {id} {key} {capacity} {seat} table words key_is lawful i p q is at f told allows =
-    let least = lawful.least in
-    let c8 = capacity_aligned capacity lawful in
-    let low = mod_below p capacity (omega arith) in
-    let wide : id.words ≡ ring_words capacity = words in
     let there : i ≡ index capacity q = is ∙ ap (index capacity) (sym at) in (
       table,
       omega arith,

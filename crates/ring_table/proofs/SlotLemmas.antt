@@ -235,7 +235,6 @@ module _ (C start : ℕ) (words : List ℕ) (homes : List (Option ℕ)) (views :
               dite (ℕ_discrete c.place m.place)
               (λ same.
               let right = g.right c of same in
-              let long = right.1 in
               let slot : index C (c.place + 8 + at_byte) ≡ k + i = (λ x. index C (same x + 8 + whole x))
               ∙ body_index C r.consumer.head m.place n i l.body (omega arith) in
               let b = here i (omega arith) in
@@ -250,7 +249,6 @@ module _ (C start : ℕ) (words : List ℕ) (homes : List (Option ℕ)) (views :
               s.exact c have reads' at_byte y a8 inside (sym (laid_else k (map some ws) homes
               (index C (c.place + 8 + at_byte)) (⊎_elim
               (λ (z : (j : ℕ) × (j < length (map some ws)) × (index C (c.place + 8 + at_byte) ≡ k + j)).
-              let less = z.1 in
               let one = one_slot C start r.consumer.head r.hist r.memory.placed c.place (length c.message.body)
               m.place n lies l at_byte (8 * z.0) (a8, inside) (omega arith, omega arith)
               (z.2 ∙ sym (body_index C r.consumer.head m.place n z.0 l.body (omega arith))) in

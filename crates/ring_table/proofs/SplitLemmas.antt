@@ -248,10 +248,6 @@ module _ (B : Bodies) (C start : ℕ) where
       let own = r.seated.each id v at in
       let was = other_was top h r.reader r.consumer r.drawn s.views id other (with_producer_of v w) w ne there in
       let its = r.seated.each other w was in
-      let own_tail = own.tail_seen in
-      let its_tail = its.tail_seen in
-      let own_head = own.head_seen in
-      let its_head = its.head_seen in
       record {
         lawful = r.lawful;
         hist = h';

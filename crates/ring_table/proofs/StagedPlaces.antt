@@ -26,7 +26,6 @@ end_le C e [] h = omega arith
 end_le C e (c ∷ cs) h =
     let rest = end_le C (claim_end c) cs h.1 in
     let on = next_le C e (staged_span c) in
-    let at = h.0.place in
     omega arith
 
 -- the place of a claim of a history
@@ -57,7 +56,6 @@ lies_in C e (y ∷ ys) (suc i) x h at =
     let there = lies_in C (claim_end y.1) ys i x h.1 at in
     let on = next_le C e (staged_span y.1) in
     let place : y.1.place ≡ next_place C e (staged_span y.1) = h.0.place in
-    let far : claim_end y.1 ≤ x.1.from = there.above in
     record {
       above = omega arith;
       padded = there.padded;
@@ -87,7 +85,6 @@ word_of_claim B C e (y ∷ ys) zero x p h at lo hi =
     ∙ ap (λ (z : ℕ × StagedClaim). staged_word B z.1 p) same
 word_of_claim B C e (y ∷ ys) (suc i) x p h at lo hi =
     let there = lies_in C (claim_end y.1) ys i x h.1 at in
-    let above = there.above in
     ap (λ b. cond b (staged_word B y.1 p) (staged_word_at B (all_of ys) p)) (le-ltb p (claim_end y.1) (omega arith))
     ∙ word_of_claim B C (claim_end y.1) ys i x p h.1 at lo hi
 
@@ -137,7 +134,6 @@ pub claim_aligned : (C e : ℕ) (c : StagedClaim) → 0 < C → C % 8 ≡ 0 → 
 claim_aligned C e c pos c8 e8 is =
     let place : ℕ = c.place in
     let aligned : place % 8 ≡ 0 = ap (λ k. k % 8) is ∙ next_aligned C e (staged_span c) pos c8 e8 in
-    let n : ℕ = length c.message.body in
     (aligned, omega arith)
 
 pub end_aligned : (C e : ℕ) (cs : List StagedClaim) → 0 < C → C % 8 ≡ 0 → e % 8 ≡ 0 → ArePlaced C e cs

@@ -42,7 +42,6 @@ sole_sees_top views id v top sum latest at all = dite (ℕ_discrete latest.seat 
     (λ other.
     let poor : latest.view.producer.shares ≡ 0 =
     others_poor views id latest.seat v latest.view sum at all other latest.there in
-    let rich = latest.rich in
     absurd (omega arith))
 
 -- some seat sees the new top if one saw the old one
@@ -85,7 +84,7 @@ module _ (top : ℕ) (hist : OwnedHistory) (reader : ℕ) (consumer : ConsumerVi
       → (top' : ℕ) (hist' : OwnedHistory) (consumer' : ConsumerView) (n' : ℕ) (w : View)
       → Steps views id v top' hist' consumer' n' w → IsSeated top' hist' reader consumer' n' (set views id w)
   reseated views s id v at top' hist' consumer' n' w step =
-      let rich = step.shares in record {
+      record {
         each = each_set (Knows top' hist' reader consumer' n') views id w step.own
             (λ j u ne e. step.others j u ne (s.each j u e));
         nobody = λ j past.

@@ -35,16 +35,10 @@ module _ (C start : ℕ) where
       record { seat = at; claim = has; unsettled = λ z. subst IsSettled is z } in
       let st = stands elsewhere C start s.words s.views r id v k c mine in
       let m = r.memory in
-      let padded = st.lies.padded in
-      let below = st.lies.below in
-      let behind = st.behind_scan in
       let place8 = st.place_aligned in
       let from = m.clears_from in
-      let to = m.clears_to in
-      let room = m.room in
       let p : ℕ = c.place in
       let value : ℕ = header_of (claim_of c) in
-      let bounds = span_bounds (length c.message.body) in
       let found : slice_index s.words (index C p) ≡ value =
       m.shows p place8 (omega arith) (omega arith)
       ∙ ap (λ t. cond t 0 (staged_word_at elsewhere (all_of r.hist) p)) (le-ltb p r.consumer.cleared (omega arith))
@@ -60,7 +54,7 @@ module _ (C start : ℕ) where
           message = λ l. record {
             type_id = l.type_id;
             type_fits = l.type_fits;
-            short = (let short = l.short in omega arith);
+            short = (omega arith);
             bytes = bytes;
           };
         };
@@ -107,7 +101,7 @@ module _ (C start : ℕ) where
             message = λ m. record {
               type_id = m.type_id;
               type_fits = m.type_fits;
-              short = (let short = m.short in omega arith);
+              short = (omega arith);
               bytes = bytes_of-with_word c.message.body o value m.bytes;
             };
           };
@@ -122,15 +116,12 @@ module _ (C start : ℕ) where
               let other : HasUnsettled in_words C start s.views id v k' c' =
               record { seat = at; claim = has'; unsettled = λ z. subst IsSettled is' z } in
               let st' = stands in_words C start s.words s.views r id v k' c' other in
-              let padded' = st'.lies.padded in
-              let place8' = st'.place_aligned in
               let n' : ℕ = length c'.message.body in
               let q' : ℕ = c'.place + 8 + o' in
               let one = same_place in_words C start s.words s.views r id v k k' c c' mine other q q' word
               (record { whole = omega arith; from = omega arith; below = omega arith; late = inl (omega arith) })
               (ap (λ z. index z q') (sym cap) ∙ same) in
               let places : c'.place ≡ c.place = one.0 in
-              let positions : q' ≡ q = one.1 in
               let offsets : o ≡ o' = omega arith in
               λ i. with_claims (changed (sym places i) (with_body_word (offsets i) value) v.producer.claims) v),
           rising in_words C start s.words s.views r id v at,

@@ -97,7 +97,7 @@ module _ (B : Bodies) (C start : ℕ) where
       (get-edited id p f h st.nth (id, c) st.there)
       (subst (λ (z : StagedClaim). z.from ≤ q) (sym is_here) (let same = may.from in omega arith))
       (subst (λ (z : StagedClaim). q < claim_end z) (sym is_here)
-      (let place = may.place in let long = may.same_span in omega arith))
+      (let place = may.place in omega arith))
       ∙ ap (λ (z : StagedClaim). staged_word B z q) is_here ∙ edit.word in
       let inside = index_inside B C start r.lawful q in
       becomes B C start words views r id v at (set words (index C q) value) h' r.consumer r.drawn w (record {
@@ -111,7 +111,7 @@ module _ (B : Bodies) (C start : ℕ) where
           cache = λ e. omega arith;
           correlation = λ e. omega arith;
           heartbeat = λ e. omega arith;
-          unnamed = λ j un e. let far = un.behind in omega arith;
+          unnamed = λ j un e. omega arith;
         }) r.consumer (record { rises = omega arith; same = refl });
         steps = record {
           own =
@@ -150,16 +150,9 @@ module _ (B : Bodies) (C start : ℕ) where
       let st' = stands B C start words views r id v k' c' has' in
       let lo = is.from in
       let hi = is.below in
-      let lo' = is'.from in
-      let hi' = is'.below in
       let m = r.memory in
       let from = m.clears_from in
-      let to = m.clears_to in
-      let room = m.room in
       let below = st.lies.below in
-      let below' = st'.lies.below in
-      let behind = st.behind_scan in
-      let behind' = st'.behind_scan in
       let low : r.consumer.scan ≤ q = ⊎_elim (λ (a : c.place ≤ q). omega arith)
       (λ (a : c.stage ≡ Moved). let padding = st.padding_behind a in omega arith) is.late in
       let low' : r.consumer.scan ≤ q' = ⊎_elim (λ (a : c'.place ≤ q'). omega arith)
@@ -266,7 +259,6 @@ module _ (B : Bodies) (C start : ℕ) where
               let other : HasUnsettled B C start s.views id v k' c' =
               record { seat = at; claim = has'; unsettled = λ z. subst IsSettled is' z } in
               let st' = stands B C start s.words s.views r id v k' c' other in
-              let padded' = st'.lies.padded in
               ap (λ p. with_claims (changed p (staged Padded) v.producer.claims) v)
               (sym (same_place s.words s.views r id v k k' c c' mine other c.from c'.from padding
               (record { whole = st'.from_aligned; from = omega arith; below = omega arith; late = inr is' })
@@ -281,7 +273,6 @@ module _ (B : Bodies) (C start : ℕ) where
       → Allows (Ok B C start) slots id me (index C c.place) (λ _. value)
       (λ _ me'. (me'.1 ≡ me.1) × StoresClaimed (index C c.place) value me.0 me'.0 × AreRising me.0.producer.claims)
   opens slots id me cap k c type_id n value value_is has is fills s r wide at small =
-      let big = fills.most in
       let lawful = fills.lawful in
       let zeros : length (blank type_id n).body ≡ n = length-replicate n 0 in
       let short : n ≤ C / 8 = omega (arith, lawful.short) in

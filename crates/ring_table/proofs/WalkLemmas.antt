@@ -38,7 +38,7 @@ stands_first e [] = refl
 stands_first e (c ∷ cs) = inl refl
 
 pub stands_below : (C s e : ℕ) (cs : List StagedClaim) → ArePlaced C e cs → Stands s e cs → s ≤ staged_end e cs
-stands_below C s e [] placed st = let at : s ≡ e = st in omega arith
+stands_below C s e [] placed st = omega arith
 stands_below C s e (c ∷ cs) placed st =
     let on = next_le C e (staged_span c) in
     let place = placed.0.place in
@@ -62,7 +62,7 @@ pub record Meets (s e : ℕ) (h : OwnedHistory) : Type 0 where
 
 pub meets : (C s e : ℕ) (h : OwnedHistory) → ArePlaced C e (all_of h) → AreSettled (all_of h)
     → Stands s e (all_of h) → s < staged_end e (all_of h) → Meets s e h
-meets C s e [] placed settled st lt = let at : s ≡ e = st in absurd (omega arith)
+meets C s e [] placed settled st lt = absurd (omega arith)
 meets C s e (x ∷ xs) placed settled st lt =
     let on = next_le C e (staged_span x.1) in
     let place = placed.0.place in
@@ -124,10 +124,8 @@ settled_header C c most m settled = by_stage c.stage settled
         let below = type_below c.message.type_id m.type_id m.type_fits in
         record { len = both.0; plain = shown_other elsewhere w (λ mark. omega arith) }
     by_stage (Stored Aborted) s =
-        let short : length c.message.body ≤ C / 8 = m.short in
         let w : ℕ = header (pos (8 + length c.message.body)) padding_type in
         let both = halves {w = w} (8 + length c.message.body) padding_type (omega arith) refl in
-        let bits : w / 2 ^ 32 ≡ 2 ^ 32 - 1 = both.1 in
         record { len = both.0; plain = shown_other elsewhere w (λ mark. omega arith) }
 
 -- ---- one step
@@ -154,7 +152,6 @@ module _ (C : ℕ) (words slots : List ℕ) (t : Parts C words slots) where
       let least = law.capacity.least in
       let c8 = capacity_aligned C law.capacity in
       let s8 = lies.whole in
-      let n8 = lies.words in
       let from = walked.from in
       let within = lies.within in
       let m8 = mod_aligned C s c8 s8 in
@@ -186,10 +183,7 @@ module _ (C : ℕ) (words slots : List ℕ) (t : Parts C words slots) where
       let h : OwnedHistory = t.hist in
       let start : ℕ = t.start in
       let head : ℕ = t.consumer.head in
-      let least = law.capacity.least in
       let most = law.capacity.most in
-      let limit = m.limit in
-      let room_is = m.room in
       let from = walked.from in
       let s8 = walked.whole in
       let c8 = capacity_aligned C law.capacity in
@@ -197,11 +191,9 @@ module _ (C : ℕ) (words slots : List ℕ) (t : Parts C words slots) where
       let c : StagedClaim = x.owned.1 in
       let l = lies_in C start h x.nth x.owned m.placed x.there in
       let below = l.below in
-      let padded = l.padded in
       let aligned = places_aligned C start h x.nth x.owned (omega arith) c8 (start_aligned C start law) m.placed x.there in
       let place8 : c.place % 8 ≡ 0 = aligned.1 in
       let place : c.place ≡ next_place C c.from (staged_span c) = l.place in
-      let short : length c.message.body ≤ C / 8 = l.message.short in
       let stored : IsStored c.stage = stored_of c.stage x.settled in
       let here_e = λ (p : ℕ) (lo : c.from ≤ p) (hi : p < claim_end c).
       word_of_claim elsewhere C start h x.nth x.owned p m.placed x.there lo hi in
@@ -210,7 +202,6 @@ module _ (C : ℕ) (words slots : List ℕ) (t : Parts C words slots) where
       let is : w ≡ staged_word_at elsewhere (all_of h) s = sym w_is ∙ walked.ahead s s8 (omega arith) (omega arith) in
       let at_index = index_inside elsewhere C start law s in
       let wide : length made ≡ length words = walked.wide in
-      let wide' = m.wide in
       ⊎_elim
       (λ (z : AtPadding s start h c).
       let at : s ≡ c.from = z.0 in
@@ -220,19 +211,15 @@ module _ (C : ℕ) (words slots : List ℕ) (t : Parts C words slots) where
       (⊎_elim (λ (q : (staged_span c ≤ room C c.from) × (next_place C c.from (staged_span c) ≡ c.from)).
       let same = q.1 in absurd (omega arith))
       (λ (q : (room C c.from < staged_span c) × (next_place C c.from (staged_span c) ≡ c.from + room C c.from)).
-      let goes_to = q.1 in
       let mods : s % C ≡ c.from % C = ap (λ k. k % C) at in
       let low = mod_below s C (omega arith) in
       (omega arith, low)) (next_cases C c.from (staged_span c))) in
-      let gap_is = gap.0 in
-      let gap_low = gap.1 in
       let word : w ≡ padding_word elsewhere size = is ∙ here_e s (omega arith) (omega arith)
       ∙ staged_word-padding elsewhere c s at less ∙ stored_padding c.stage (padding_word elsewhere size) stored in
       let small : size < 2 ^ 31 = omega arith in
       let shown : u ≡ padding_header size = u_is ∙ ap (shown_header elsewhere) word ∙ shown_padding elsewhere size small in
       let both = halves {w = u} size padding_type small shown in
       let low : u % 2 ^ 32 ≡ size = both.0 in
-      let high : u / 2 ^ 32 ≡ 2 ^ 32 - 1 = both.1 in
       let raw : w / 2 ^ 32 ≡ 2 ^ 32 - 2 =
       ap (λ k. k / 2 ^ 32) word ∙ high_half (pos size) padding_mark (fits_pos size small) in
       let n_size : n ≡ size = omega arith in
@@ -335,7 +322,6 @@ module _ (C : ℕ) (words slots : List ℕ) (t : Parts C words slots) where
   begins =
       let law = t.lawful in
       let m = t.memory in
-      let none = t.none_cleared in
       let bounds = head_bounds elsewhere C t.start law words t.consumer (all_of t.hist) m in
       record {
         wide = refl;

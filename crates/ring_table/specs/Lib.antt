@@ -16,3 +16,6 @@ pub mod Ranges
 pub mod SlotSteps
 pub mod Filling
 pub mod Walk
+pub mod Rescued
+pub mod Settling
+pub mod Refilling

@@ -14,7 +14,8 @@ abbrev pub no_service : Service
 no_service = record { draws = []; heartbeats = [] }
 
 abbrev pub consumer_from : ℕ → ConsumerView
-consumer_from start = record { head = start; cleared = start; scan = start; taken = []; got = []; heartbeats = [] }
+consumer_from start =
+    record { head = start; cleared = start; scan = start; taken = []; got = []; heads = []; heartbeats = [] }
 
 abbrev pub new_producer : ℕ → ℕ → ℕ → ProducerView
 new_producer shares seen_tail seen_head =
@@ -78,9 +79,10 @@ scanned scan got c = record c { scan = scan; got = got }
 abbrev pub cleared_to : ℕ → ConsumerView → ConsumerView
 cleared_to to c = record c { cleared = to }
 
--- nothing is cleared and nothing is got beyond the head
+-- the head was stored here: nothing is cleared and nothing is got beyond it
 abbrev pub stands_at : ℕ → List PlacedMessage → ConsumerView → ConsumerView
-stands_at head got c = record c { head = head; cleared = head; scan = head; taken = got; got = got }
+stands_at head got c =
+    record c { head = head; cleared = head; scan = head; taken = got; got = got; heads = c.heads ++ head ∷ [] }
 
 -- ---- service
 

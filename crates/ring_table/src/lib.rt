@@ -13,6 +13,7 @@ mod mode;
 mod picture;
 mod plays;
 mod putting;
+mod rescue;
 mod rule;
 mod steps;
 mod table;
@@ -29,6 +30,7 @@ pub use laws::{
 pub use mode::{InSlots, InWords, Mode};
 pub use picture::{copy_words, show_slots};
 pub use putting::put_slots;
+pub use rescue::{Unsettled, rescue_slots, rescue_words, settle_words};
 pub use rule::RingRule;
 pub use steps::consumer::{
     clear_word, load_body_word, load_first_header, load_next_header, load_passed_word, store_head,

@@ -26,7 +26,12 @@ pub fn copy_words(closed: &Closed<u64, Global>, words: &mut Vec<u64>)
 }
 
 /// Copies `count` slots, from `first` on, into the words of the same indices.
-fn copy_range(closed: &Closed<u64, Global>, words: &mut Vec<u64>, first: usize, count: usize)
+pub(crate) fn copy_range(
+    closed: &Closed<u64, Global>,
+    words: &mut Vec<u64>,
+    first: usize,
+    count: usize,
+)
     requires full { IsFull closed.now.slots }
     requires slots { first + count ≤ slots_len closed.now.slots }
     requires words { first + count ≤ vec_len words.old }
@@ -78,7 +83,7 @@ fn show_bodies(closed: &Closed<u64, Global>, words: &mut Vec<u64>, capacity: u32
 }
 
 /// Frees a table that was closed, with its slots.
-fn free_slots(mut closed: Closed<u64, Global>)
+pub(crate) fn free_slots(mut closed: Closed<u64, Global>)
     requires { IsFull closed.slots }
 {
     let mut i = 0;

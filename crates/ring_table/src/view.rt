@@ -52,6 +52,8 @@ pub struct ConsumerView {
     pub taken: LinkedList<PlacedMessage>,
     /// The messages below `scan`.
     pub got: LinkedList<PlacedMessage>,
+    /// The heads stored, the oldest first.
+    pub heads: LinkedList<u64>,
     /// The heartbeats stored.
     pub heartbeats: LinkedList<u64>,
 }

@@ -3,10 +3,14 @@ use Rattle.std.proofs.Common.{◌≡◌, ◌∙◌, ◌+◌, ◌*◌, ◌≤◌,
 use Rattle.std.proofs.lemmas.List.Elements.{filter-append}
 use Rattle.std.specs.Ordering.{int_eq}
 use Rattle.ring_layout.specs.declared.message.Message.{Message}
-use Rattle.ring_rings.specs.Ring.{AreMerged, IsWhole}
+use Rattle.ring_rings.specs.declared.ring.Consumer.{Consumer}
+use Rattle.ring_rings.specs.declared.ring.Producer.{Producer}
+use Rattle.ring_rings.specs.Ring.{AreMerged, received, sent}
 use Rattle.ring_uses.specs.declared.numbers.Summed.{Summed}
+use Rattle.ring_uses.specs.Closing.{IsClosedWith}
 use Rattle.ring_uses.specs.Numbers.{numbered, numbers, sum_of}
 use Rattle.ring_uses.specs.Producers.{of_type, AreInOrder, AreOfFour, AreOfTwo}
+use Rattle.ring_uses.proofs.ClosedLemmas.{whole_in}
 use Rattle.ring_uses.proofs.SumLemmas.{length-numbers, none_unread}
 
 length-merged : (xs ys zs : List Message) → AreMerged xs ys zs → length zs ≡ length xs + length ys
@@ -90,43 +94,43 @@ module _ (first second : ℤ) (last : ℕ) (ms : List Message) (h : AreOfTwo fir
       ∙ (λ i. length-numbers first h.n i + length-numbers second h.m i)
 
 -- as many messages were received as four producers were to send
-pub in_order : (last : ℕ) (s : Summed) (sent received : List Message) → AreOfFour last sent
-    → 4 * last ≤ length received → IsWhole sent received s.rest → s.sum ≡ sum_of received → AreInOrder last s
-in_order last s sent received four enough whole is =
+pub in_order : (last : ℕ) (s : Summed) (p : Producer) (q : Consumer) → IsClosedWith p q s.closed
+    → AreOfFour last (sent p) → 4 * last ≤ length (received q) → s.sum ≡ sum_of (received q) → AreInOrder last s
+in_order last s p q closed four enough is =
+    let whole = closed.whole in
     let a = four.first in
     let b = four.second in
     let count_a = count_of (pos 1) (pos 2) last four.left a in
     let count_b = count_of (pos 3) (pos 4) last four.right b in
-    let both = length-merged four.left four.right sent four.merged in
+    let both = length-merged four.left four.right (sent p) four.merged in
     let few_a = a.few in
     let few_b = a.few_too in
     let few_c = b.few in
     let few_d = b.few_too in
     let lengths = ap length whole.all ∙ refl in
-    let split = length-append received whole.unread in
-    let all = none_unread received whole.unread sent whole.all (omega arith) in
+    let split = length-append (received q) whole.unread in
+    let all = none_unread (received q) whole.unread (sent p) whole.all (omega arith) in
     let same = ap length all in
     let one : a.n ≡ last = omega arith in
     let two : a.m ≡ last = omega arith in
     let three : b.n ≡ last = omega arith in
     let four' : b.m ≡ last = omega arith in
     let left = λ (k : ℤ). λ (none : of_type k four.right ≡ []). ap (of_type k) all
-    ∙ of_first (λ (m : Message). int_eq m.type_id k) four.left four.right sent four.merged none in
+    ∙ of_first (λ (m : Message). int_eq m.type_id k) four.left four.right (sent p) four.merged none in
     let right = λ (k : ℤ). λ (none : of_type k four.left ≡ []). ap (of_type k) all
-    ∙ of_second (λ (m : Message). int_eq m.type_id k) four.left four.right sent four.merged none in
+    ∙ of_second (λ (m : Message). int_eq m.type_id k) four.left four.right (sent p) four.merged none in
+    let same_received = ap received closed.by_consumer in
     record {
-      sent = sent;
-      received = received;
-      whole = whole;
-      all = all;
-      first = left (pos 1) (none_of (pos 3) (pos 4) last four.right b (pos 1) refl refl)
+      whole = whole_in p q s.closed closed;
+      all = same_received ∙ (all ∙ sym (ap sent closed.by_producer));
+      first = ap (of_type (pos 1)) same_received ∙ left (pos 1) (none_of (pos 3) (pos 4) last four.right b (pos 1) refl refl)
           ∙ first_of (pos 1) (pos 2) last four.left a refl refl ∙ ap (numbers (pos 1)) one;
-      second = left (pos 2) (none_of (pos 3) (pos 4) last four.right b (pos 2) refl refl)
+      second = ap (of_type (pos 2)) same_received ∙ left (pos 2) (none_of (pos 3) (pos 4) last four.right b (pos 2) refl refl)
           ∙ second_of (pos 1) (pos 2) last four.left a refl refl ∙ ap (numbers (pos 2)) two;
-      third = right (pos 3) (none_of (pos 1) (pos 2) last four.left a (pos 3) refl refl)
+      third = ap (of_type (pos 3)) same_received ∙ right (pos 3) (none_of (pos 1) (pos 2) last four.left a (pos 3) refl refl)
           ∙ first_of (pos 3) (pos 4) last four.right b refl refl ∙ ap (numbers (pos 3)) three;
-      fourth = right (pos 4) (none_of (pos 1) (pos 2) last four.left a (pos 4) refl refl)
+      fourth = ap (of_type (pos 4)) same_received ∙ right (pos 4) (none_of (pos 1) (pos 2) last four.left a (pos 4) refl refl)
           ∙ second_of (pos 3) (pos 4) last four.right b refl refl ∙ ap (numbers (pos 4)) four';
-      no_others = omega arith;
-      sum = is;
+      no_others = ap length same_received ∙ omega arith;
+      sum = is ∙ ap sum_of (sym same_received);
     }

@@ -10,8 +10,9 @@ use Rattle.ring_board.specs.Board.{copied, lapped_count_of, new_copy}
 use Rattle.ring_board.specs.Runs.{AreRuns}
 use Rattle.ring_protocol.specs.declared.reply.Reply.{Reply}
 use Rattle.ring_protocol.specs.Reply.{spelling_of, type_id_of}
-use Rattle.ring_conductor.specs.Account.{messages_in, reply_message}
-use Rattle.ring_conductor.specs.Service.{CopiesMessage}
+use Rattle.ring_service.specs.Account.{messages_in, reply_message}
+use Rattle.ring_service.specs.Service.{CopiesMessage}
+use Rattle.ring_uses.specs.Laps.{messages_of}
 use Rattle.ring_uses.specs.Reply.{replies_to}
 
 -- a reply that was received is the message of a transmitted record
@@ -20,6 +21,13 @@ pub record IsTransmitted (records : List Record) (m : Message) : Type 0 where
   pub entry : Record
   pub there : get_elem? records nth ≡ some entry
   pub is : entry.message ≡ m
+
+-- the one copy after a reply was received
+pub one_copy : (reply : Reply) (old new : CopyReceiver) → copied old ≡ [] → CopiesMessage old new (reply_message reply)
+    → messages_of (copied new) ≡ reply_message reply ∷ []
+one_copy reply old new none copies =
+    let copy : Taken = new_copy copies.1 (type_id_of reply) (spelling_of reply) (lapped_count_of old) in
+    ap messages_of (copies.2 ∙ ap (λ l. l ++ copy ∷ []) none)
 
 pub copied_is_transmitted : (records : List Record) (from : ℕ) (reply : Reply) (old new : CopyReceiver) → copied old ≡ []
     → CopiesMessage old new (reply_message reply) → AreRuns records from (copied new)

@@ -1,15 +1,19 @@
 -- Sums of the numbers in messages.
-use Rattle.std.proofs.Common.{◌≡◌, ◌∙◌, ◌+◌, ◌%◌, ◌^◌, ◌≤◌, ℕ, ℤ, zero, suc, pos, List, [], ◌∷◌, ◌++◌, length, length-append, refl, sym, ap, subst, append_assoc, arith}
+use Rattle.std.proofs.Common.{◌≡◌, ◌∙◌, ◌+◌, ◌%◌, ◌^◌, ◌≤◌, ℕ, ℤ, zero, suc, pos, List, [], ◌∷◌, ◌++◌, length, length-append, refl, sym, ap, append_assoc, arith}
 use Rattle.std.proofs.lemmas.List.{append-nil}
 use Rattle.std.proofs.lemmas.List.Sums.{sum_by-append}
 use Rattle.ring_layout.specs.declared.message.Message.{Message}
 use Rattle.ring_layout.specs.Handles.{Handles}
 use Rattle.ring_words.specs.declared.read.action.Action.{Action}
-use Rattle.ring_rings.specs.Ring.{IsWhole}
+use Rattle.ring_rings.specs.declared.ring.Consumer.{Consumer}
+use Rattle.ring_rings.specs.declared.ring.Producer.{Producer}
+use Rattle.ring_rings.specs.Ring.{received, sent}
 use Rattle.ring_uses.specs.declared.numbers.Sum.{Sum}
 use Rattle.ring_uses.specs.declared.numbers.Summed.{Summed}
+use Rattle.ring_uses.specs.Closing.{IsClosedWith}
 use Rattle.ring_uses.specs.Numbers.{number_in, numbered, numbers, sum_of, Adds}
 use Rattle.ring_uses.specs.Sum.{IsSummed}
+use Rattle.ring_uses.proofs.ClosedLemmas.{whole_in}
 
 pub sum_more : (ms : List Message) (m : Message) → (sum_of ms + number_in m) % 2 ^ 64 ≡ sum_of (ms ++ m ∷ [])
 sum_more ms m = let all = sum_by-append number_in ms (m ∷ []) in omega (arith, all)
@@ -41,16 +45,17 @@ none_unread received (m ∷ unread) sent all le =
     let lengths = ap length all in
     absurd (omega (arith, length-append received (m ∷ unread)))
 
-pub summed : (last n : ℕ) (s : Summed) (sent received : List Message) → n ≤ last → sent ≡ numbers (pos 1) n
-    → last ≤ length received → IsWhole sent received s.rest → s.sum ≡ sum_of received → IsSummed last s
-summed last n s sent received few are enough whole is =
+pub summed : (last n : ℕ) (s : Summed) (p : Producer) (q : Consumer) → IsClosedWith p q s.closed → n ≤ last
+    → sent p ≡ numbers (pos 1) n → last ≤ length (received q) → s.sum ≡ sum_of (received q) → IsSummed last s
+summed last n s p q closed few are enough is =
     let count = ap length are ∙ length-numbers (pos 1) n in
-    let all = none_unread received whole.unread sent whole.all (omega arith) in
+    let whole = closed.whole in
+    let all = none_unread (received q) whole.unread (sent p) whole.all (omega arith) in
     let same : n ≡ last = (let l = ap length all in omega arith) in
     let sent_is = are ∙ ap (numbers (pos 1)) same in
     record {
-      received = received;
-      whole = subst (λ l. IsWhole l received s.rest) sent_is whole;
-      all = all ∙ sent_is;
-      sum = is;
+      sends = ap sent closed.by_producer ∙ sent_is;
+      receives = ap received closed.by_consumer ∙ (all ∙ sent_is);
+      whole = whole_in p q s.closed closed;
+      sum = is ∙ ap sum_of (sym (ap received closed.by_consumer));
     }

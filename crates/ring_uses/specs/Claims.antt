@@ -1,12 +1,12 @@
 -- A claim that is aborted, and one that is committed.
-use Rattle.std.specs.Prelude.{◌≡◌, ℕ, pos, List, [], ◌∷◌}
-use Rattle.ring_layout.specs.declared.message.Message.{Message}
-use Rattle.ring_rings.specs.Ring.{IsWhole}
+use Rattle.std.specs.Prelude.{◌≡◌, ℕ, pos, [], ◌∷◌}
 use Rattle.ring_uses.specs.declared.numbers.Summed.{Summed}
+use Rattle.ring_uses.specs.Closing.{IsWholeIn, received_in, sent_in}
 use Rattle.ring_uses.specs.Numbers.{numbered, sum_of}
 
--- Exactly the message of this number was sent. What was received, followed by what is unread, is that message
+-- Exactly the message of this number was sent. What was received, followed by what is unread, is that message. The sum
+-- is that of what was received
 pub record IsOnly (number : ℕ) (s : Summed) : Type 0 where
-  pub received : List Message
-  pub whole : IsWhole (numbered (pos 1) number ∷ []) received s.rest
-  pub sum : s.sum ≡ sum_of received
+  pub sends : sent_in s.closed ≡ numbered (pos 1) number ∷ []
+  pub whole : IsWholeIn s.closed
+  pub sum : s.sum ≡ sum_of (received_in s.closed)

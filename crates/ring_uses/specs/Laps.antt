@@ -3,6 +3,7 @@ use Rattle.std.specs.Prelude.{◌≡◌, ℕ, ◌≤◌, pos, List, map, All}
 use Rattle.ring_layout.specs.declared.message.Message.{Message}
 use Rattle.ring_board.specs.declared.shared.view.Record.{Record}
 use Rattle.ring_board.specs.declared.shared.view.Taken.{Taken}
+use Rattle.ring_board.specs.Board.{copied, lapped_count_of, subscribed_at, transmitted}
 use Rattle.ring_board.specs.Runs.{AreRuns}
 use Rattle.ring_uses.specs.declared.laps.Overtaken.{Overtaken}
 use Rattle.ring_uses.specs.Numbers.{numbers, sum_of}
@@ -20,12 +21,11 @@ abbrev pub AreWithin : ℕ → List Taken → Type 0
 AreWithin laps copies = All (λ (c : Taken). c.count ≤ laps) copies
 
 -- The numbers from 1 to `last` were transmitted. What the receiver copied are runs of them, broken only where its lapped
--- count rose, and the count rose by this many laps in all. The sum is that of the numbers copied
+-- count rose. `laps` is that count at the end, and no copy was made after more laps. The sum is that of the numbers
+-- copied
 pub record HasCopied (last : ℕ) (h : Overtaken) : Type 0 where
-  pub transmitted : List Record
-  pub from : ℕ
-  pub copied : List Taken
-  pub all : messages_in transmitted ≡ numbers (pos 1) last
-  pub runs : AreRuns transmitted from copied
-  pub laps : AreWithin h.laps copied
-  pub sum : h.sum ≡ sum_of (messages_of copied)
+  pub all : messages_in (transmitted h.transmitter.value) ≡ numbers (pos 1) last
+  pub runs : AreRuns (transmitted h.transmitter.value) (subscribed_at h.receiver.value) (copied h.receiver.value)
+  pub laps : h.laps ≡ lapped_count_of h.receiver.value
+  pub within : AreWithin h.laps (copied h.receiver.value)
+  pub sum : h.sum ≡ sum_of (messages_of (copied h.receiver.value))

@@ -1,14 +1,19 @@
 -- A request, and its reply.
 use Rattle.std.specs.Prelude.{◌≡◌, ℕ, pos, List, [], ◌∷◌, codes}
 use Rattle.ring_layout.specs.declared.message.Message.{Message}
-use Rattle.ring_rings.specs.Ring.{IsWhole}
+use Rattle.ring_board.specs.Board.{copied}
+use Rattle.ring_rings.specs.Reading.{messages_of}
+use Rattle.ring_rings.specs.Ring.{IsWhole, sent}
 use Rattle.ring_protocol.specs.declared.command.Request.TheVariants.{Allocate}
 use Rattle.ring_protocol.specs.Command.{with_id}
 use Rattle.ring_protocol.specs.Reply.{correlation_id_of}
-use Rattle.ring_conductor.specs.Account.{account_of, fresh_account, reply_message}
-use Rattle.ring_conductor.specs.Fold.{at_moment}
-use Rattle.ring_conductor.specs.Service.{command_message}
+use Rattle.ring_service.specs.Account.{account_of, fresh_account, messages_in, reply_message}
+use Rattle.ring_service.specs.Conducting.{received_of}
+use Rattle.ring_service.specs.Finishing.{replies_of}
+use Rattle.ring_service.specs.Fold.{at_moment}
+use Rattle.ring_service.specs.Service.{command_message}
 use Rattle.ring_uses.specs.declared.reply.Answer.{Answer}
+use Rattle.ring_uses.specs.Laps.{messages_of as copied_messages}
 
 -- the command that asks for a counter of type 1, with an empty key and the label `requests`
 abbrev pub request_with : ℕ → Message
@@ -19,12 +24,12 @@ abbrev pub replies_to : List Message → List Message
 replies_to ms = (account_of (fresh_account 4 50) (at_moment 0 ms)).replies
 
 -- Exactly the request was sent, and it was received. The one reply that was transmitted is the reply to it, and it is the
--- one that the client polled
+-- one that the client's receiver copied
 pub record IsAnswered (a : Answer) : Type 0 where
-  pub received : List Message
-  pub transmitted : List Message
-  pub whole : IsWhole (request_with a.correlation ∷ []) received a.rest
-  pub all : received ≡ request_with a.correlation ∷ []
-  pub replies : transmitted ≡ replies_to received
-  pub polled : transmitted ≡ reply_message a.reply ∷ []
+  pub sends : sent a.producer.value ≡ request_with a.correlation ∷ []
+  pub receives : messages_of (received_of a.conductor.value) ≡ request_with a.correlation ∷ []
+  pub whole : IsWhole (sent a.producer.value) (messages_of (received_of a.conductor.value)) a.rest
+  pub replies : messages_in (replies_of a.conductor.value) ≡ replies_to (messages_of (received_of a.conductor.value))
+  pub transmits : messages_in (replies_of a.conductor.value) ≡ reply_message a.reply ∷ []
+  pub copies : copied_messages (copied a.receiver.value) ≡ reply_message a.reply ∷ []
   pub correlated : correlation_id_of a.reply ≡ a.correlation

@@ -44,6 +44,9 @@ pub fn abort_first(alloc: Global, first: u64, second: u64) -> anyhow::Result<Sum
     ring.commit(&mut producer, claim);
     let mut sum = Sum { sum: 0 };
     ring.read(&mut consumer, u32::MAX, &mut sum);
-    let rest = close(ring, producer, consumer)?;
-    Ok(Summed { sum: sum.sum, rest })
+    let closed = close(ring, producer, consumer)?;
+    Ok(Summed {
+        sum: sum.sum,
+        closed,
+    })
 }

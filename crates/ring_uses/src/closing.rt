@@ -1,22 +1,39 @@
 //! How each use ends.
 ghost use Rattle.std.specs.Prelude.{IfOk};
-ghost use Rattle.ring_rings.specs.Ring.{received, sent, IsWhole};
 ghost use Rattle.ring_rings.specs.Seats.{IsConsumerOf, IsProducerOf};
+ghost use Rattle.ring_uses.specs.Closing.{IsClosedWith};
 
 use ring_rings::{CloseFault, Consumer, PlainRing, Producer};
 use ring_words::SoloRing;
+use std::snapshot::Snapshot;
+
+/// A ring as it was closed.
+#[derive(Drop)]
+pub struct Closed {
+    /// What is still in the ring.
+    pub rest: SoloRing,
+    /// The producer that was given, for contracts: it has no bytes. They read in it what was sent.
+    pub producer: Snapshot<Producer>,
+    /// The consumer that was given, for contracts. They read in it what was received.
+    pub consumer: Snapshot<Consumer>,
+}
 
 /// Closes a ring, and gives up if it can't be closed.
 pub fn close<K>(
     ring: PlainRing<K>,
     producer: Producer,
     consumer: Consumer,
-) -> Result<SoloRing, CloseFault>
+) -> Result<Closed, CloseFault>
     requires { IsProducerOf ring producer × IsConsumerOf ring consumer }
-    ensures { IfOk result (IsWhole (sent producer) (received consumer)) }
+    ensures { IfOk result (IsClosedWith producer consumer) }
 {
+    let named = (Snapshot::of(&producer), Snapshot::of(&consumer));
     match ring.close(producer, consumer) {
-        Ok(rest) => Ok(rest),
+        Ok(rest) => Ok(Closed {
+            rest,
+            producer: named.0,
+            consumer: named.1,
+        }),
         Err(refused) => Err(refused.reason),
     }
 }

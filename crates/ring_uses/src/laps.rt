@@ -8,6 +8,7 @@ ghost use Rattle.ring_uses.specs.Numbers.{numbers, sum_of};
 use crate::numbers::number_of;
 use ring_board::{Board, CopyReceiver, TransmitFault, Transmitter};
 use std::alloc::Global;
+use std::snapshot::Snapshot;
 
 /// The type id of the messages.
 const NUMBER: i32 = 1;
@@ -19,6 +20,11 @@ pub struct Overtaken {
     pub sum: u64,
     /// The number of times that it was lapped.
     pub laps: u64,
+    /// The transmitter that the receiver was joined into, for contracts: it has no bytes. They read in it what was
+    /// transmitted.
+    pub transmitter: Snapshot<Transmitter>,
+    /// The receiver before it was joined, for contracts. They read in it what was copied.
+    pub receiver: Snapshot<CopyReceiver>,
 }
 
 /// Transmits the numbers from 1 to `last`.
@@ -68,6 +74,12 @@ pub fn overtake(alloc: Global, last: u32) -> anyhow::Result<Overtaken>
     transmit_numbers(&board, &mut transmitter, last)?;
     let sum = receive_all(&board, &mut receiver, last);
     let laps = receiver.lapped_count();
+    let named = Snapshot::of(&receiver);
     board.join(&mut transmitter, receiver);
-    Ok(Overtaken { sum, laps })
+    Ok(Overtaken {
+        sum,
+        laps,
+        transmitter: Snapshot::of(&transmitter),
+        receiver: named,
+    })
 }

@@ -19,7 +19,7 @@ use sum::add_up;
 
 /// Prints a sum, and the bytes that are left in the ring.
 fn print_sum(rt: &impl Print, what: &str, summed: &Summed) -> io::Result<()> {
-    let left = summed.rest.positions().used();
+    let left = summed.closed.rest.positions().used();
     println!(rt; "{what}: sum {} left {left}", summed.sum)
 }
 

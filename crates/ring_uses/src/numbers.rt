@@ -4,9 +4,9 @@ ghost use Rattle.ring_rings.specs.Ring.{received};
 ghost use Rattle.ring_rings.specs.Seats.{IsConsumerOf};
 ghost use Rattle.ring_uses.specs.Numbers.{number_of, sum_of, Adds};
 
+use crate::closing::Closed;
 use crossbeam_utils::Backoff;
 use ring_rings::{Action, Consumer, Handler, PlainRing};
-use ring_words::SoloRing;
 use std::sync::Wait;
 
 /// Adds up the numbers that it is shown.
@@ -19,7 +19,7 @@ pub struct Sum {
 #[derive(Drop)]
 pub struct Summed {
     pub sum: u64,
-    pub rest: SoloRing,
+    pub closed: Closed,
 }
 
 /// The number in a body: its first eight bytes, or 0 if it has fewer.

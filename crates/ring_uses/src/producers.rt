@@ -135,6 +135,9 @@ pub fn gather<R: Threads + Wait + Sync>(rt: &R, alloc: Global, last: u32) -> any
                 × (result.1.sum ≡ sum_of (received result.0)) }
         { read_numbers(rt, shared, consumer, all) },
     );
-    let rest = close(ring, producer, consumer)?;
-    Ok(Summed { sum: sum.sum, rest })
+    let closed = close(ring, producer, consumer)?;
+    Ok(Summed {
+        sum: sum.sum,
+        closed,
+    })
 }

@@ -2,12 +2,13 @@
 ghost use Rattle.std.specs.Prelude.{IfOk};
 ghost use Rattle.ring_uses.specs.Reply.{IsAnswered};
 
-use ring_board::Board;
-use ring_conductor::{Client, Conductor, Polled, Reply, Request, finish};
+use ring_board::{Board, CopyReceiver};
 use ring_counters::CountersManager;
-use ring_rings::PlainManyToOneRing;
+use ring_rings::{PlainManyToOneRing, Producer};
+use ring_service::{Client, Conductor, Polled, Reply, Request, finish};
 use ring_words::SoloRing;
 use std::alloc::Global;
+use std::snapshot::Snapshot;
 use thiserror::Error;
 
 /// The client's poll returned no reply to its request.
@@ -21,6 +22,12 @@ pub struct Answer {
     pub correlation: u64,
     pub reply: Reply,
     pub rest: SoloRing,
+    /// The producer that the ring was closed with, for contracts: it has no bytes.
+    pub producer: Snapshot<Producer>,
+    /// The conductor that finished, for contracts.
+    pub conductor: Snapshot<Conductor>,
+    /// The client's receiver before it was joined, for contracts.
+    pub receiver: Snapshot<CopyReceiver>,
 }
 
 /// Asks a conductor for a counter, and polls for the reply.
@@ -44,12 +51,16 @@ pub fn ask(alloc: Global) -> anyhow::Result<Answer>
         return Err(NoReply.into());
     };
     let (producer, receiver) = client.into_parts();
+    let named = Snapshot::of(&receiver);
     conductor.join_receiver(&board, receiver);
     match finish(ring, board, values, conductor, producer) {
         Ok(finished) => Ok(Answer {
             correlation,
             reply,
             rest: finished.rest,
+            producer: finished.producer,
+            conductor: finished.conductor,
+            receiver: named,
         }),
         Err(refused) => Err(refused.reason.into()),
     }

@@ -70,6 +70,9 @@ pub fn add_up<R: Threads + Wait + Sync>(rt: &R, alloc: Global, last: u64) -> any
                 × (result.1.sum ≡ sum_of (received result.0)) }
         { read_numbers(rt, shared, consumer, last) },
     );
-    let rest = close(ring, producer, consumer)?;
-    Ok(Summed { sum: sum.sum, rest })
+    let closed = close(ring, producer, consumer)?;
+    Ok(Summed {
+        sum: sum.sum,
+        closed,
+    })
 }

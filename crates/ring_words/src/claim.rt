@@ -1,8 +1,8 @@
 //! An open claim in the hands of its owner.
 use std::marker::Model;
 
-/// An open claim of a `SoloRing`. `commit` or `abort` ends it. A dropped claim blocks the reader for good.
-#[derive(Drop)]
+/// An open claim of a `SoloRing`. `commit` or `abort` ends it. It is not `Drop`: a program that forgets one does not
+/// compile, since the reader never passes an open claim.
 pub struct SoloClaim {
     place: u64,
     index: u32,
@@ -58,6 +58,21 @@ impl SoloClaim {
         ensures { result ≡ self.now.len }
     {
         self.body_len
+    }
+
+    /// Takes it apart: it was settled.
+    pub(crate) fn spend(self) {
+        let SoloClaim {
+            place: _,
+            index: _,
+            type_id: _,
+            body_len: _,
+        } = self;
+    }
+
+    /// Leaves the claim open for good, on purpose. The reader then never passes it.
+    pub fn leak(self) {
+        self.spend();
     }
 
     /// Tests whether its body has no byte.

@@ -6,7 +6,7 @@ use crate::script::{Message, Script};
 use ring_words::{Action, ClaimFault, Positions, ReadEnd, SoloClaim, SoloRing, Standing, Stop};
 use std::alloc::Global;
 use std::marker::Model;
-use std::process;
+use std::{mem, process};
 
 /// A call on a ring or on a claim.
 #[derive(Clone, Copy)]
@@ -60,7 +60,6 @@ pub enum Said {
 }
 
 /// A ring with its open claims.
-#[derive(Drop)]
 pub struct Bench {
     ring: SoloRing,
     last: Option<SoloClaim>,
@@ -145,13 +144,36 @@ fn opened(claim: &SoloClaim) -> Said {
     }
 }
 
+/// Leaves a claim open, if there is one.
+fn leave(claim: Option<SoloClaim>) {
+    match claim {
+        Some(claim) => claim.leak(),
+        None => {}
+    }
+}
+
 /// A claim that is not at this place.
 fn apart(claim: Option<SoloClaim>, place: u64) -> Option<SoloClaim>
     ensures { IfSome result (λ t. (claim ≡ Some t) × (t.place ≢ place)) }
 {
     match claim {
         Some(claim) if claim.place() != place => Some(claim),
-        _ => None,
+        other => {
+            leave(other);
+            None
+        }
+    }
+}
+
+impl Drop for Bench {
+    fn drop(self) {
+        let Bench {
+            ring: _,
+            last,
+            before,
+        } = self;
+        leave(last);
+        leave(before);
     }
 }
 
@@ -178,8 +200,8 @@ impl Bench {
         match claimed(&mut self.ring, type_id, len) {
             Ok(claim) => {
                 let said = opened(&claim);
-                self.before = self.last.take();
-                self.last = Some(claim);
+                let before = self.last.replace(claim);
+                leave(mem::replace(&mut self.before, before));
                 said
             }
             Err(fault) => Said::Refused(fault),
@@ -187,37 +209,39 @@ impl Bench {
     }
 
     fn turn(&mut self) -> Said {
-        let last = self.last.take();
-        self.last = self.before.take();
-        self.before = last;
+        mem::swap(&mut self.last, &mut self.before);
         Said::Done
     }
 
     fn put(&mut self, offset: usize, bytes: &[u8]) -> Said {
-        let Some(mut claim) = self.last.take() else {
-            return Said::Missing;
-        };
-        let put = self.ring.put(&mut claim, offset, bytes);
-        self.last = Some(claim);
-        if put.is_ok() {
-            Said::Done
-        } else {
-            Said::Outside
+        match self.last.take() {
+            Some(mut claim) => {
+                let put = self.ring.put(&mut claim, offset, bytes);
+                leave(self.last.replace(claim));
+                if put.is_ok() {
+                    Said::Done
+                } else {
+                    Said::Outside
+                }
+            }
+            None => Said::Missing,
         }
     }
 
     fn settle(&mut self, commits: bool) -> Said {
-        let Some(claim) = self.last.take() else {
-            return Said::Missing;
-        };
-        let before = apart(self.before.take(), claim.place());
-        if commits {
-            self.ring.commit(claim);
-        } else {
-            self.ring.abort(claim);
+        match self.last.take() {
+            Some(claim) => {
+                let before = apart(self.before.take(), claim.place());
+                if commits {
+                    self.ring.commit(claim);
+                } else {
+                    self.ring.abort(claim);
+                }
+                leave(mem::replace(&mut self.last, before));
+                Said::Done
+            }
+            None => Said::Missing,
         }
-        self.last = before;
-        Said::Done
     }
 
     /// Makes a call.

@@ -5,16 +5,31 @@ use ring_layout::{
     open_header, pack_header, pad_and_span, padding_header, place_record, put_bytes_word, put_part,
     put_word, span, unpack_header, word_depends_on_one_claim, word_index,
 };
+use std::process::Abort;
+
+/// Compares words, in one function for all tests, since each `assert_eq!` is proved.
+fn same(rt: &impl Abort, found: &[u64], wanted: &[u64]) {
+    assert_eq!(rt; found, wanted);
+}
+
+/// Compares answers.
+fn answers(rt: &impl Abort, found: &[bool], wanted: &[bool]) {
+    assert_eq!(rt; found, wanted);
+}
 
 #[test]
 fn rounds_up_to_eight(rt: HostRuntime) {
-    assert_eq!(rt; [align8(13), align8(16), align8(0)], [16, 16, 0]);
+    same(&rt, &[align8(13), align8(16), align8(0)], &[16, 16, 0]);
 }
 
 #[test]
 fn packs_length_and_type_id(rt: HostRuntime) {
     let packed = [pack_header(13, 7), pack_header(-8, 1)];
-    assert_eq!(rt; packed, [0x0000_0007_0000_000D, 0x0000_0001_FFFF_FFF8]);
+    same(
+        &rt,
+        &packed,
+        &[0x0000_0007_0000_000D, 0x0000_0001_FFFF_FFF8],
+    );
     let unpacked = [
         unpack_header(0x0000_0001_FFFF_FFF8),
         unpack_header(0xFFFF_FFFF_0000_0010),
@@ -36,7 +51,7 @@ fn makes_the_four_headers_of_a_record(rt: HostRuntime) {
         0xFFFF_FFFF_0000_000D,
         0xFFFF_FFFF_0000_0010,
     ];
-    assert_eq!(rt; made, wanted);
+    same(&rt, &made, &wanted);
 }
 
 #[test]
@@ -59,7 +74,7 @@ fn admits_what_fits(rt: HostRuntime) {
         fits(capacity, 120, 0, 16),
         fits(capacity, 120, 0, 0),
     ];
-    assert_eq!(rt; tested, [false, false, true]);
+    answers(&rt, &tested, &[false, false, true]);
     assert_eq!(rt; max_message(capacity), 16);
     word_depends_on_one_claim();
 }
@@ -67,10 +82,8 @@ fn admits_what_fits(rt: HostRuntime) {
 #[test]
 fn puts_bytes_into_a_word(rt: HostRuntime) {
     let word = put_bytes_word(0, 3, &[0xAA, 0xBB]);
-    assert_eq!(rt;
-        (word, get_byte_word(word, 4)),
-        (0x0000_00BB_AA00_0000, 0xBB)
-    );
+    let found = [word, u64::from(get_byte_word(word, 4))];
+    same(&rt, &found, &[0x0000_00BB_AA00_0000, 0xBB]);
 }
 
 #[test]
@@ -127,28 +140,26 @@ fn places_a_record_behind_padding(rt: HostRuntime) {
 
 #[test]
 fn tests_a_request(rt: HostRuntime) {
-    assert_eq!(rt;
-        [is_type_id(0), is_type_id(1), is_type_id(-1)],
-        [false, true, false]
+    let lengths = [is_length(128, 16), is_length(128, 17)];
+    answers(
+        &rt,
+        &[is_type_id(0), is_type_id(1), is_type_id(-1)],
+        &[false, true, false],
     );
-    assert_eq!(rt; [is_length(128, 16), is_length(128, 17)], [true, false]);
+    answers(&rt, &lengths, &[true, false]);
 }
 
 #[test]
 fn tests_where_a_record_ends(rt: HostRuntime) {
-    assert_eq!(rt;
-        [is_position(1 << 62), is_position((1 << 62) + 8)],
-        [true, false]
-    );
-    assert_eq!(rt;
-        [has_room(128, 152, 24), has_room(128, 152, 16)],
-        [true, false]
-    );
+    let positions = [is_position(1 << 62), is_position((1 << 62) + 8)];
+    let rooms = [has_room(128, 152, 24), has_room(128, 152, 16)];
+    answers(&rt, &positions, &[true, false]);
+    answers(&rt, &rooms, &[true, false]);
 }
 
 #[test]
 fn a_span_has_the_header_and_whole_words(rt: HostRuntime) {
     // The last one is of the longest command.
     let spans = [span(0), span(1), span(8), span(9), span(520)];
-    assert_eq!(rt; spans, [8, 16, 16, 24, 528]);
+    same(&rt, &spans, &[8, 16, 16, 24, 528]);
 }

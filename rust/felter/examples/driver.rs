@@ -1,22 +1,23 @@
-//! A conductor, two clients and a monitor, each on a thread of its own. It does and prints what `crates/ring_example`
-//! does.
+//! A conductor, two clients and a monitor, each on a thread of its own. The program does and prints what
+//! `crates/ring_example` does.
 #![forbid(unsafe_code)]
 
 use felter::{Client, Conductor, Error, Polled, Reader, Reply, WorkStop};
 use std::sync::atomic::{AtomicBool, Ordering::SeqCst};
 use std::thread;
 
-/// The bytes of the command ring. It takes commands of up to 32 bytes, and is often full.
+/// The capacity of the command ring, in bytes. The ring takes commands of up to 32 bytes, and is often full.
 const RING: u32 = 256;
 
-/// The bytes of the board. A reply takes 24 at the most, so all 2,002 fit and no client is lapped.
+/// The capacity of the board, in bytes. A reply takes at most 24 bytes, so the board has room for all 2,002 replies,
+/// and no client is lapped.
 const BOARD: u32 = 65_536;
 
 const COUNTERS: u32 = 2;
 const BATCH: usize = 8;
 const BATCHES: i64 = 125;
 
-/// A client that counts up, and what it came to.
+/// A client that counts up, with the results of its run.
 struct Caller {
     label: &'static str,
     client: Client,
@@ -35,16 +36,17 @@ impl Caller {
         loop {
             match send(&mut self.client) {
                 Ok(id) => return Some(id),
-                // Another client was faster: at once again.
+                // Another client was faster: try again at once.
                 Err(Error::Contended) => {}
-                // Full: first the conductor has to take something.
+                // The ring is full: the conductor must take a command first.
                 Err(Error::InsufficientCapacity) => thread::yield_now(),
                 Err(_) => return None,
             }
         }
     }
 
-    /// Waits for the reply to a command. `None` where replies were missed: what became of it is then not known.
+    /// Waits for the reply to a command. Returns `None` if replies were missed. What became of the command is then not
+    /// known.
     fn hear(&mut self, id: u64) -> Option<Reply> {
         loop {
             match self.client.poll(id) {
@@ -82,20 +84,21 @@ impl Caller {
         Some(())
     }
 
-    /// Runs to its end. Whatever came of it, the client comes back, for without it the conductor does not finish.
+    /// Runs the client to its end. The client is returned also after an error, because the conductor does not finish
+    /// without it.
     fn run(mut self) -> Caller {
         self.count_up();
         self
     }
 }
 
-/// Works until it is told to stop and no command is left.
+/// Works until it is asked to stop and no command is left.
 fn conduct(stop: &AtomicBool, mut conductor: Conductor) -> Result<Conductor, Error> {
     loop {
-        // Looked at first: what was sent before the stop is then still taken below.
+        // Load this first: then the work below takes all commands that were sent before the stop.
         let is_last = stop.load(SeqCst);
         match conductor.work(0, u32::MAX)?.stopped {
-            // The end of the buffer is not the end of the commands: the next call goes on behind it.
+            // If the call stopped at the end of the buffer, there can be more commands, which the next call takes.
             WorkStop::Limit | WorkStop::Block => {}
             WorkStop::Unpublished if !is_last => thread::yield_now(),
             _ => return Ok(conductor),
@@ -103,7 +106,7 @@ fn conduct(stop: &AtomicBool, mut conductor: Conductor) -> Result<Conductor, Err
     }
 }
 
-/// Reads all values until it is told to stop. Says whether one was ever below an earlier one of the same counter.
+/// Reads all values until it is asked to stop. Returns whether a value ever fell.
 fn watch(stop: &AtomicBool, mut reader: Reader) -> (Reader, bool) {
     let (mut latest, mut saw_fall) = ([0; COUNTERS as usize], false);
     while !stop.load(SeqCst) {
@@ -118,7 +121,8 @@ fn watch(stop: &AtomicBool, mut reader: Reader) -> (Reader, bool) {
 }
 
 fn main() -> Result<(), Error> {
-    // All is made before a thread is started: afterwards the conductor is in the hands of its thread.
+    // All clients and readers are made before a thread is started: afterwards only the conductor's thread uses the
+    // conductor.
     let mut conductor = Conductor::new(RING, BOARD, COUNTERS, 0)?;
     let callers = [Caller::new("requests", conductor.client()?), Caller::new("errors", conductor.client()?)];
     let (reader, stop) = (conductor.reader()?, AtomicBool::new(false));
@@ -132,7 +136,7 @@ fn main() -> Result<(), Error> {
         (callers, conductor, watching.join().expect("it does not panic"))
     });
 
-    // All that was given out is taken back, and then the conductor can finish.
+    // The conductor takes back its clients and readers, and can then finish.
     let (mut conductor, mut replies, mut laps) = (conductor?, 0, 0);
     for caller in callers {
         match caller.counter {

@@ -1,11 +1,11 @@
-//! Boards: one transmitter, and receivers that learn when they missed something.
-use crate::ends::End;
+//! Boards, which are broadcast buffers: one transmitter, and receivers that learn when they missed something.
+use crate::ends::{Bed, End};
 use crate::error::{Error, Refused};
 use crate::handle::{done, Handle, Number, Sizes};
 use crate::message::{message_of, Message};
 use crate::raw::{self, Raw};
 
-/// Transmits on a board. It never waits: a receiver that is too slow is overtaken, and learns that.
+/// Transmits on a board. A transmitter never waits. A receiver that is too slow is overtaken, and learns that.
 ///
 /// ```
 /// let mut transmitter = felter::Transmitter::new(4096)?;
@@ -25,16 +25,16 @@ pub struct Transmitter {
 }
 
 impl Transmitter {
-    /// Makes a board of a capacity, a power of two from 256 to 2^24, with its transmitter.
+    /// Makes a board with its transmitter. The capacity is a power of two from 256 to 2^24.
     ///
     /// Errors: [`Error::BadCapacity`], [`Error::OutOfMemory`].
     pub fn new(capacity: u32) -> Result<Transmitter, Error> {
         Transmitter::new_at(capacity, 0)
     }
 
-    /// Makes a board whose positions begin at `start`.
+    /// Makes such a board, with positions that begin at `start`.
     ///
-    /// Errors: also [`Error::BadStart`].
+    /// Errors: [`Error::BadCapacity`], [`Error::BadStart`], [`Error::OutOfMemory`].
     pub fn new_at(capacity: u32, start: u64) -> Result<Transmitter, Error> {
         let (board, mut handle) = (Number::next(), Handle::empty());
         // SAFETY: a number that nothing else has, and an empty handle.
@@ -42,7 +42,7 @@ impl Transmitter {
         Ok(Transmitter { handle, board, end: End::writer() })
     }
 
-    /// The capacity, and how many bytes the longest message has.
+    /// The capacity of the board, and the length of its longest message.
     pub fn sizes(&mut self) -> Result<Sizes, Error> {
         self.handle.sizes()
     }
@@ -52,12 +52,14 @@ impl Transmitter {
     /// Errors: [`Error::BadType`], [`Error::TooLong`], [`Error::PositionLimit`].
     pub fn transmit(&mut self, type_id: i32, body: &[u8]) -> Result<(), Error> {
         // SAFETY: our handle, and a slice's pointer and length.
-        done(unsafe { raw::felter_transmit(self.handle.raw(), type_id, body.as_ptr(), body.len()) })
+        done(unsafe { raw::felter_transmit(self.handle.raw(), type_id, body.as_ptr(), body.len()) })?;
+        self.end.wake();
+        Ok(())
     }
 
-    /// Makes a receiver, which starts with the message that was transmitted last, with one share of the board's 65,536.
-    /// One that is dropped takes its share with it, and the board is then never closed: [`join`](Transmitter::join) it
-    /// instead where that matters.
+    /// Makes a receiver, which starts with the message that was transmitted last. The receiver gets one of the board's
+    /// 65,536 shares. If the receiver is dropped, this share is lost, and the board can end without the receiver.
+    /// [`join`](Transmitter::join) gives the share back.
     ///
     /// Errors: [`Error::NoShares`], [`Error::OutOfMemory`].
     pub fn subscribe(&mut self) -> Result<Receiver, Error> {
@@ -67,7 +69,8 @@ impl Transmitter {
         Ok(Receiver { handle, board: self.board, end: self.end.other(false) })
     }
 
-    /// Makes a raw receiver, which answers each record unread; else as [`subscribe`](Transmitter::subscribe).
+    /// Makes a raw receiver, which returns each record without its body. The rest is as for
+    /// [`subscribe`](Transmitter::subscribe).
     ///
     /// ```
     /// let mut transmitter = felter::Transmitter::new(4096)?;
@@ -90,10 +93,11 @@ impl Transmitter {
 
     /// Takes back a receiver of this board, with its share.
     ///
-    /// Errors: [`Error::OtherRing`], where it is another board's, or a conductor's; both are then as they were.
+    /// Errors: [`Error::OtherRing`] if the receiver belongs to another board, or to a conductor. The error gives the
+    /// receiver back.
     pub fn join(&mut self, mut receiver: Receiver) -> Result<(), Refused<Receiver>> {
         let joined = self.board.must_be(receiver.board).and_then(|()| {
-            // SAFETY: two handles of one board, as their numbers tell.
+            // SAFETY: two handles of one board, as their numbers show.
             done(unsafe { raw::felter_board_join(self.handle.raw(), receiver.handle.raw()) })
         });
         joined.map_err(|reason| Refused { reason, back: receiver })
@@ -101,7 +105,7 @@ impl Transmitter {
 
     /// Takes back a raw receiver of this board, with its share.
     ///
-    /// Errors: [`Error::OtherRing`], where it is another board's; both are then as they were.
+    /// Errors: [`Error::OtherRing`] if the receiver belongs to another board. The error gives the receiver back.
     ///
     /// ```
     /// let mut transmitter = felter::Transmitter::new(256)?;
@@ -113,16 +117,17 @@ impl Transmitter {
     /// ```
     pub fn join_raw(&mut self, mut receiver: RawReceiver) -> Result<(), Refused<RawReceiver>> {
         let joined = self.board.must_be(receiver.board).and_then(|()| {
-            // SAFETY: two handles of one board, as their numbers tell.
+            // SAFETY: two handles of one board, as their numbers show.
             done(unsafe { raw::felter_board_join_raw(self.handle.raw(), receiver.handle.raw()) })
         });
         joined.map_err(|reason| Refused { reason, back: receiver })
     }
 
-    /// Ends a board whose receivers of both kinds were all taken back, and says the tail: the position where the last
-    /// transmission ended.
+    /// Ends a board whose receivers of both kinds were all taken back or dropped. Returns the tail: the position at
+    /// which the last transmission ended.
     ///
-    /// Errors: [`Error::ReceiversOut`]; the transmitter comes back, and goes on or closes later.
+    /// Errors: [`Error::ReceiversOut`] while a receiver is there. The error gives the transmitter back, which can go
+    /// on, and close later.
     ///
     /// ```
     /// use felter::{Error, Transmitter};
@@ -143,17 +148,17 @@ impl Transmitter {
     }
 }
 
-/// Where a receiver was when it was lapped.
+/// The place of a receiver when it was lapped.
 #[derive(Clone, Copy, Debug, PartialEq, Eq)]
 pub struct Lap {
-    /// The position, in bytes, at which it looked for a message.
+    /// The position, in bytes, at which the receiver looked for a message.
     pub place: u64,
     /// The intent that showed the lap: the position up to which the transmitter had begun to write.
     pub intent: u64,
 }
 
 impl Lap {
-    /// How a receiver was lapped last, by the call that says it.
+    /// How a receiver was lapped last. `call` is the call for this kind of receiver.
     fn of(
         handle: &mut Handle,
         call: unsafe extern "C" fn(*mut Raw, *mut u64, *mut u64) -> i32,
@@ -168,7 +173,7 @@ impl Lap {
     }
 }
 
-/// The error of a lap that was just now, of a receiver that goes on from a place.
+/// The error for a lap that was just found. The receiver goes on from `place`.
 fn lapped_now(count: u64, lap: Result<Option<Lap>, Error>, place: Result<u64, Error>) -> Error {
     let missed_bytes = match (lap, place) {
         (Ok(Some(lap)), Ok(place)) => place - lap.place,
@@ -177,17 +182,17 @@ fn lapped_now(count: u64, lap: Result<Option<Lap>, Error>, place: Result<u64, Er
     Error::Lapped { count, missed_bytes }
 }
 
-/// Receives what is transmitted on a board.
+/// Receives the messages that are transmitted on a board.
 #[derive(Debug)]
 pub struct Receiver {
     pub(crate) handle: Handle,
-    /// That of the board's transmitter, or of the conductor that transmits on it.
+    /// The number of the board, or of the conductor that transmits on it.
     pub(crate) board: Number,
     pub(crate) end: End,
 }
 
 impl Receiver {
-    /// The capacity, and how many bytes the longest message has.
+    /// The capacity of the board, and the length of its longest message.
     pub fn sizes(&mut self) -> Result<Sizes, Error> {
         self.handle.sizes()
     }
@@ -197,13 +202,13 @@ impl Receiver {
         self.handle.said(raw::felter_receiver_place)
     }
 
-    /// How it was lapped last, if it was.
+    /// How the receiver was lapped last, or `None` if it never was.
     pub fn lap(&mut self) -> Result<Option<Lap>, Error> {
         Lap::of(&mut self.handle, raw::felter_receiver_lap)
     }
 
-    /// Whether the transmitter was dropped, or closed, or the conductor that transmits: nothing more will come. What was
-    /// transmitted before is still to be received.
+    /// Whether the transmitter, or the conductor that transmits, was dropped or ended. Then nothing more will come, but
+    /// what was transmitted before can still be received.
     ///
     /// ```
     /// let mut transmitter = felter::Transmitter::new(256)?;
@@ -217,11 +222,14 @@ impl Receiver {
         self.end.is_abandoned()
     }
 
-    /// Copies the next message into a buffer; `None` where nothing is there yet.
+    /// Copies the next message into a buffer. Returns `None` if no message is there yet.
     ///
-    /// Errors: [`Error::Lapped`] where the transmitter overtook the receiver; the next call goes on with the message
-    /// that was transmitted last. [`Error::ShortBuffer`] where the buffer is shorter than an eighth of the capacity,
-    /// whatever the message; nothing is taken then.
+    /// Errors:
+    ///
+    /// - [`Error::Lapped`] if the transmitter overtook the receiver. The next call goes on with the message that was
+    ///   transmitted last.
+    /// - [`Error::ShortBuffer`] if the buffer is shorter than an eighth of the capacity, however short the message is.
+    ///   Then nothing is taken.
     pub fn receive<'a>(&mut self, buffer: &'a mut [u8]) -> Result<Option<Message<'a>>, Error> {
         let (mut type_id, mut len, mut lapped) = (0, 0, 0);
         let (at, room) = (buffer.as_mut_ptr(), buffer.len());
@@ -233,22 +241,27 @@ impl Receiver {
         }
     }
 
+    /// The place at which the receiver sleeps until the transmitter wakes it.
+    pub(crate) fn bed(&self) -> Bed {
+        self.end.bed()
+    }
+
     /// How often the receiver was lapped.
     pub fn lapped_count(&mut self) -> Result<u64, Error> {
         self.handle.said(raw::felter_lapped_count)
     }
 }
 
-/// What a raw receiver says of a record, whose body it has not read.
+/// What a raw receiver returns of a record, whose body is not yet copied.
 #[derive(Clone, Copy, Debug, PartialEq, Eq)]
 pub struct RawRecord {
     /// Its type id, at least 1.
     pub type_id: i32,
-    /// How many bytes its body has.
+    /// The length of its body.
     pub len: usize,
 }
 
-/// Receives what is transmitted on a board, each record unread.
+/// Receives records that are transmitted on a board, without their bodies.
 #[derive(Debug)]
 pub struct RawReceiver {
     handle: Handle,
@@ -257,7 +270,7 @@ pub struct RawReceiver {
 }
 
 impl RawReceiver {
-    /// The capacity, and how many bytes the longest message has.
+    /// The capacity of the board, and the length of its longest message.
     pub fn sizes(&mut self) -> Result<Sizes, Error> {
         self.handle.sizes()
     }
@@ -267,7 +280,7 @@ impl RawReceiver {
         self.handle.said(raw::felter_raw_receiver_place)
     }
 
-    /// How it was lapped last, if it was.
+    /// How the receiver was lapped last, or `None` if it never was.
     pub fn lap(&mut self) -> Result<Option<Lap>, Error> {
         Lap::of(&mut self.handle, raw::felter_raw_receiver_lap)
     }
@@ -277,10 +290,11 @@ impl RawReceiver {
         self.end.is_abandoned()
     }
 
-    /// Goes behind the next record, and says its type id and length; `None` where nothing is there yet.
+    /// Passes the next record, and returns its type id and the length of its body. Returns `None` if no record is there
+    /// yet.
     ///
-    /// Errors: [`Error::Lapped`] where the transmitter overtook the receiver; the next call goes on with the record
-    /// that was transmitted last.
+    /// Errors: [`Error::Lapped`] if the transmitter overtook the receiver. The next call goes on with the record that
+    /// was transmitted last.
     pub fn receive_next(&mut self) -> Result<Option<RawRecord>, Error> {
         let (mut type_id, mut len, mut lapped) = (0, 0, 0);
         // SAFETY: our handle, and three numbers of ours.
@@ -293,20 +307,20 @@ impl RawReceiver {
         }
     }
 
-    /// Copies the body of the record that was answered last to the front of a buffer. The bytes may be those of another
-    /// record, unless [`validate`](RawReceiver::validate) then says true.
+    /// Copies the body of the record that was returned last to the front of a buffer. The bytes are certain to be those
+    /// of this record only if [`validate`](RawReceiver::validate) then returns true.
     ///
-    /// Errors: [`Error::NoMessage`] where none was answered yet; [`Error::ShortBuffer`], whose `wanted` is 0: the
-    /// record says its length.
+    /// Errors: [`Error::NoMessage`] if no record was returned yet. [`Error::ShortBuffer`] if the buffer is too short.
+    /// Then `wanted` is 0, since the record has the length.
     pub fn load_body(&mut self, buffer: &mut [u8]) -> Result<(), Error> {
         // SAFETY: our handle, and a slice's pointer and length.
         done(unsafe { raw::felter_load_body(self.handle.raw(), buffer.as_mut_ptr(), buffer.len()) })
     }
 
-    /// Tests whether the record that was answered last was not yet overwritten. If so, each body of it that was loaded
-    /// before is the one that was transmitted.
+    /// Tests that the record which was returned last is not yet overwritten. If the result is true, each copy of its
+    /// body that was made before is the body that was transmitted.
     ///
-    /// Errors: [`Error::NoMessage`] where none was answered yet.
+    /// Errors: [`Error::NoMessage`] if no record was returned yet.
     pub fn validate(&mut self) -> Result<bool, Error> {
         // SAFETY: our handle.
         match done(unsafe { raw::felter_validate(self.handle.raw()) }) {
@@ -316,7 +330,7 @@ impl RawReceiver {
         }
     }
 
-    /// How often [`receive_next`](RawReceiver::receive_next) answered that it was lapped.
+    /// How often [`receive_next`](RawReceiver::receive_next) returned [`Error::Lapped`].
     pub fn lapped_count(&mut self) -> Result<u64, Error> {
         self.handle.said(raw::felter_raw_lapped_count)
     }

@@ -4,14 +4,19 @@ use crate::error::Error;
 use crate::handle::{done, Handle, Number};
 use crate::raw::{self, Raw};
 
-/// Sends commands to its conductor, and hears its replies.
+/// Sends commands to a conductor, and receives the replies.
 ///
-/// Each call that sends makes one try, and answers the correlation id that was drawn for the command; its reply, for
-/// which [`poll`](Client::poll) asks, tells whether the conductor obeys. Errors of each: [`Error::TooLong`] where the
-/// command takes more than 520 bytes, or more than an eighth of the ring's capacity; [`Error::PositionLimit`],
-/// [`Error::InsufficientCapacity`], [`Error::Contended`]. Nothing was sent then, and the next try draws another id.
+/// Each call that sends tries once, and returns the correlation id that was drawn for the command. The reply says
+/// whether the conductor applied or refused the command. [`poll`](Client::poll) asks for the reply.
 ///
-/// A client is taken back by [`Conductor::join`](crate::Conductor::join).
+/// Errors of each call that sends:
+///
+/// - [`Error::TooLong`] if the command takes more than 520 bytes, or more than an eighth of the ring's capacity;
+/// - [`Error::PositionLimit`], [`Error::InsufficientCapacity`], [`Error::Contended`].
+///
+/// After an error nothing was sent, and the next try draws another id.
+///
+/// [`Conductor::join`](crate::Conductor::join) takes a client back.
 #[derive(Debug)]
 pub struct Client {
     pub(crate) handle: Handle,
@@ -23,7 +28,7 @@ pub struct Client {
 #[derive(Clone, Copy, Debug, PartialEq, Eq)]
 #[non_exhaustive]
 pub enum Reply {
-    /// A counter was made.
+    /// A counter was allocated.
     Allocated {
         /// Its id.
         id: u32,
@@ -32,12 +37,12 @@ pub enum Reply {
     Done,
     /// Nothing was done.
     Refused {
-        /// Why, as [`Counters`](crate::Counters) refuse it.
+        /// Why: an error that a call of [`Counters`](crate::Counters) returns too.
         reason: Error,
     },
     /// The owner's counters were freed.
     Closed {
-        /// How many.
+        /// How many counters were freed.
         freed: u32,
     },
 }
@@ -54,27 +59,27 @@ impl Reply {
     }
 }
 
-/// What a client is told that waits for a reply.
+/// What [`Client::poll`] finds.
 #[derive(Clone, Copy, Debug, PartialEq, Eq)]
 pub enum Polled {
-    /// The reply that was asked about.
+    /// The reply to the command.
     Answered(Reply),
-    /// The reply to another command, of this client or of another, which is passed over: poll again.
+    /// The reply to another command, of this client or of another one. It was passed over, so poll again.
     Another,
-    /// Nothing is there yet.
+    /// No message is there yet.
     Nothing,
 }
 
 impl Client {
-    /// Whether the conductor was dropped, or has finished: no further reply will come.
+    /// Whether the conductor was dropped, or has finished. Then no further reply will come.
     pub fn is_abandoned(&self) -> bool {
         self.end.is_abandoned()
     }
 
-    /// Asks for a counter of value 0 with a type, a key and a label; its registration id is the correlation id. The
-    /// command takes 20 bytes and those of key and label.
+    /// Asks for a counter with the value 0, a type id, a key and a label. Its registration id is the correlation id.
+    /// The command takes 20 bytes plus those of key and label.
     ///
-    /// Its reply is [`Reply::Allocated`], or refused with [`Error::KeyTooLong`], [`Error::LabelTooLong`],
+    /// The reply is [`Reply::Allocated`], or [`Reply::Refused`] with [`Error::KeyTooLong`], [`Error::LabelTooLong`],
     /// [`Error::LabelNotAscii`] or [`Error::NoFreeCounter`].
     pub fn allocate(&mut self, type_id: i32, key: &[u8], label: &[u8]) -> Result<u64, Error> {
         let (key_at, key_len) = (key.as_ptr(), key.len());
@@ -85,7 +90,8 @@ impl Client {
         })
     }
 
-    /// The same with an owner; 0 stands for none. The command takes 8 bytes more.
+    /// Asks for a counter with an owner, and is otherwise the same. The owner 0 means that there is none. The command
+    /// takes 8 bytes more.
     pub fn allocate_owned(&mut self, type_id: i32, owner: u64, key: &[u8], label: &[u8]) -> Result<u64, Error> {
         let (key_at, key_len) = (key.as_ptr(), key.len());
         let (label_at, label_len) = (label.as_ptr(), label.len());
@@ -95,38 +101,44 @@ impl Client {
         })
     }
 
-    /// Asks that a counter is freed. Its reply is [`Reply::Done`], or refused with [`Error::BadId`] or
-    /// [`Error::NotAllocated`].
+    /// Asks the conductor to free a counter. The reply is [`Reply::Done`], or [`Reply::Refused`] with [`Error::BadId`]
+    /// or [`Error::NotAllocated`].
     pub fn free(&mut self, counter: u32) -> Result<u64, Error> {
         // SAFETY: our handle, and a number of ours.
         self.sent(|handle, id| unsafe { raw::felter_send_free(handle, counter, id) })
     }
 
-    /// Asks that a counter's value is set. Its reply is as that to [`free`](Client::free).
+    /// The same call as [`free`](Client::free), under its name in C++ and Python.
+    pub fn release(&mut self, counter: u32) -> Result<u64, Error> {
+        self.free(counter)
+    }
+
+    /// Asks the conductor to set a counter's value. The replies are those of [`free`](Client::free).
     pub fn set(&mut self, counter: u32, value: i64) -> Result<u64, Error> {
         // SAFETY: our handle, and a number of ours.
         self.sent(|handle, id| unsafe { raw::felter_send_set(handle, counter, value, id) })
     }
 
-    /// Asks that each counter of an owner is freed. Its reply is [`Reply::Closed`], or refused with
+    /// Asks the conductor to free each counter of an owner. The reply is [`Reply::Closed`], or [`Reply::Refused`] with
     /// [`Error::BadOwner`].
     pub fn close_owner(&mut self, owner: u64) -> Result<u64, Error> {
         // SAFETY: our handle, and a number of ours.
         self.sent(|handle, id| unsafe { raw::felter_send_close_owner(handle, owner, id) })
     }
 
-    /// The correlation id that a call says by its last parameter.
+    /// Returns the correlation id that a call writes through its last parameter.
     fn sent(&mut self, call: impl FnOnce(*mut Raw, *mut u64) -> i32) -> Result<u64, Error> {
         let mut id = 0;
         done(call(self.handle.raw(), &mut id))?;
         Ok(id)
     }
 
-    /// Takes the next message of the board, for one who waits for the reply to the command with this correlation id.
-    /// The conductor answers the commands of a client in the order in which they were sent: ask for them in that order.
+    /// Takes the next message of the board, for a caller that waits for the reply to the command with this correlation
+    /// id. The conductor replies to the commands of a client in the order in which they were sent, so ask for the
+    /// replies in that order.
     ///
-    /// Errors: [`Error::Lapped`] where the conductor overtook the client. The next call goes on with the reply that was
-    /// transmitted last, and what became of the commands that were on their way is not known.
+    /// Errors: [`Error::Lapped`] if the conductor overtook the client. The next call goes on with the reply that was
+    /// transmitted last. What became of the commands that had no reply yet is not known.
     pub fn poll(&mut self, correlation: u64) -> Result<Polled, Error> {
         let (mut kind, mut number, mut lapped) = (0, 0, 0);
         // SAFETY: our handle, and three numbers of ours.
@@ -140,7 +152,7 @@ impl Client {
         }
     }
 
-    /// Loads the heartbeat that the conductor stored last, 0 before the first.
+    /// Loads the heartbeat that the conductor stored last. It is 0 before the first one.
     pub fn heartbeat(&mut self) -> Result<u64, Error> {
         self.handle.said(raw::felter_client_heartbeat)
     }

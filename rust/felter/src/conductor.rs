@@ -1,4 +1,4 @@
-//! Conductors: they own counters, which clients command.
+//! Conductors, which own counters and change them as their clients command.
 use crate::board::Receiver;
 use crate::client::Client;
 use crate::counters::Reader;
@@ -7,10 +7,10 @@ use crate::error::{Error, Refused};
 use crate::handle::{done, Handle, Number};
 use crate::raw;
 
-/// Owns counters, and takes the commands of its clients, each of which it answers by one reply on a board.
+/// Owns counters, and applies the commands of its clients to them. It transmits one reply to each command on a board.
 ///
-/// Clients, receivers of the replies and readers of the counters' values are for threads of their own. A client or a
-/// receiver that is dropped is missed for good: the conductor then never finishes.
+/// Clients, receivers of the replies and readers of the counters' values are for other threads. The share of a client
+/// or a receiver that is dropped is lost, and the conductor can finish without it.
 ///
 /// ```
 /// use felter::{Conductor, Polled, Reply, Work, WorkStop};
@@ -26,7 +26,7 @@ use crate::raw;
 /// # Ok::<(), felter::Error>(())
 /// ```
 ///
-/// One thread uses a conductor, a client, a receiver or a reader at a time:
+/// One thread at a time uses a conductor, a client, a receiver or a reader. This does not compile:
 ///
 /// ```compile_fail,E0596
 /// let mut conductor = felter::Conductor::new(128, 256, 1, 0).expect("sizes");
@@ -42,26 +42,26 @@ pub struct Conductor {
     end: End,
 }
 
-/// What a conductor did.
+/// What one call of [`Conductor::work`] did.
 #[derive(Clone, Copy, Debug, PartialEq, Eq)]
 pub struct Work {
-    /// How many commands it took, which may be 0.
+    /// How many commands were taken, which may be 0.
     pub messages: u64,
-    /// Why it stopped.
+    /// Why the call stopped.
     pub stopped: WorkStop,
 }
 
-/// Why a conductor stopped.
+/// Why a call of [`Conductor::work`] stopped.
 #[derive(Clone, Copy, Debug, PartialEq, Eq, Hash)]
 #[non_exhaustive]
 pub enum WorkStop {
-    /// As many commands were taken as were wanted.
+    /// The limit was reached.
     Limit,
-    /// At the end of the ring's buffer: the next call goes on behind it.
+    /// The end of the ring's buffer was reached: the next call goes on after it.
     Block,
     /// No further command was there.
     Unpublished,
-    /// A reply might end above 2^62 on the board: the command stays, not applied.
+    /// A reply might end above 2^62 on the board: the command stays, and is not applied.
     BoardEnd,
 }
 
@@ -80,16 +80,19 @@ impl WorkStop {
 /// How a conductor ended.
 #[derive(Clone, Copy, Debug, PartialEq, Eq)]
 pub struct Finished {
-    /// How many commands it received in all.
+    /// How many commands the conductor received in all.
     pub received: u64,
-    /// How many still lay in the ring, which get no reply.
+    /// How many commands were still in the ring. These get no reply.
     pub left: u64,
 }
 
 impl Conductor {
-    /// Makes a conductor with a ring of `capacity` bytes for the commands (a power of two from 128 to 2^24), a board of
-    /// `replies` bytes for the replies (from 256 on), and counters with the ids below `counters`, at most 4096, of
-    /// which a freed one rests for `reuse_ms` milliseconds.
+    /// Makes a conductor.
+    ///
+    /// - The ring for commands has `capacity` bytes, a power of two from 128 to 2^24.
+    /// - The board for replies has `replies` bytes, a power of two from 256 to 2^24.
+    /// - The counters have the ids below `counters`, which is at most 4096. A freed id is not given again for
+    ///   `reuse_ms` milliseconds.
     ///
     /// Errors: [`Error::BadCapacity`], [`Error::BadCount`], [`Error::OutOfMemory`].
     pub fn new(capacity: u32, replies: u32, counters: u32, reuse_ms: u32) -> Result<Conductor, Error> {
@@ -100,10 +103,10 @@ impl Conductor {
         Ok(Conductor { handle, number, end: End::writer() })
     }
 
-    /// Makes a client, with one share of the ring's 65,536 and one of the board's. It starts with the reply that was
-    /// transmitted last.
+    /// Makes a client, which starts with the reply that was transmitted last. The client gets one share of the ring and
+    /// one of the board, which have 65,536 each.
     ///
-    /// Errors: [`Error::NoShares`], [`Error::OutOfMemory`]; nothing is lost then.
+    /// Errors: [`Error::NoShares`], [`Error::OutOfMemory`]. After an error no share is lost.
     pub fn client(&mut self) -> Result<Client, Error> {
         let mut handle = Handle::empty();
         // SAFETY: two handles, the second empty.
@@ -111,8 +114,8 @@ impl Conductor {
         Ok(Client { handle, conductor: self.number, end: self.end.other(false) })
     }
 
-    /// Makes a receiver of the replies as they lie on the board, which starts with the one that was transmitted last,
-    /// with one of the board's shares.
+    /// Makes a receiver of the replies as they are on the board. The receiver starts with the reply that was
+    /// transmitted last, and gets one of the board's shares.
     ///
     /// Errors: [`Error::NoShares`], [`Error::OutOfMemory`].
     pub fn subscribe(&mut self) -> Result<Receiver, Error> {
@@ -122,8 +125,8 @@ impl Conductor {
         Ok(Receiver { handle, board: self.number, end: self.end.other(false) })
     }
 
-    /// Makes a reader of the counters' values, for another thread, with one of the counters' 65,536 shares. One that is
-    /// dropped takes its share with it, and is in nobody's way.
+    /// Makes a reader of the counters' values, for another thread. The reader gets one of the counters' 65,536 shares.
+    /// If the reader is dropped, this share is lost, and the conductor can finish without the reader.
     ///
     /// Errors: [`Error::NoShares`], [`Error::OutOfMemory`].
     pub fn reader(&mut self) -> Result<Reader, Error> {
@@ -135,11 +138,12 @@ impl Conductor {
 
     /// Takes up to `limit` commands, applies each at the moment `now`, in milliseconds, and transmits its reply.
     ///
-    /// Errors: [`Error::BadMoment`], where nothing is taken.
+    /// Errors: [`Error::BadMoment`]; nothing is then taken.
     pub fn work(&mut self, now: u64, limit: u32) -> Result<Work, Error> {
         let (mut messages, mut stopped) = (0, 0);
         // SAFETY: our handle, and two numbers of ours.
         done(unsafe { raw::felter_conductor_work(self.handle.raw(), now, limit, &mut messages, &mut stopped) })?;
+        self.end.wake();
         Ok(Work { messages, stopped: WorkStop::of(stopped)? })
     }
 
@@ -149,43 +153,46 @@ impl Conductor {
         done(unsafe { raw::felter_conductor_set_heartbeat(self.handle.raw(), value) })
     }
 
-    /// Takes back a client of this conductor's, with its shares.
+    /// Takes back a client of this conductor with its shares.
     ///
-    /// Errors: [`Error::OtherRing`], where it is another's; both are then as they were.
+    /// Errors: [`Error::OtherRing`] if the client belongs to another conductor. The error gives the client back.
     pub fn join(&mut self, mut client: Client) -> Result<(), Refused<Client>> {
         let joined = self.number.must_be(client.conductor).and_then(|()| {
-            // SAFETY: two handles of one conductor, as their numbers tell.
+            // SAFETY: two handles of one conductor, as their numbers show.
             done(unsafe { raw::felter_conductor_join(self.handle.raw(), client.handle.raw()) })
         });
         joined.map_err(|reason| Refused { reason, back: client })
     }
 
-    /// Takes back a receiver of this conductor's, with its share.
+    /// Takes back a receiver of this conductor with its share.
     ///
-    /// Errors: [`Error::OtherRing`], where it is another's, or a board's; both are then as they were.
+    /// Errors: [`Error::OtherRing`] if the receiver belongs to another conductor, or to a board. The error gives the
+    /// receiver back.
     pub fn join_receiver(&mut self, mut receiver: Receiver) -> Result<(), Refused<Receiver>> {
         let joined = self.number.must_be(receiver.board).and_then(|()| {
-            // SAFETY: two handles of one conductor, as their numbers tell.
+            // SAFETY: two handles of one conductor, as their numbers show.
             done(unsafe { raw::felter_conductor_join_receiver(self.handle.raw(), receiver.handle.raw()) })
         });
         joined.map_err(|reason| Refused { reason, back: receiver })
     }
 
-    /// Takes back a reader of this conductor's, with its share.
+    /// Takes back a reader of this conductor with its share.
     ///
-    /// Errors: [`Error::OtherRing`], where it is another's, or of counters; both are then as they were.
+    /// Errors: [`Error::OtherRing`] if the reader belongs to another conductor, or to counters. The error gives the
+    /// reader back.
     pub fn join_reader(&mut self, mut reader: Reader) -> Result<(), Refused<Reader>> {
         let joined = self.number.must_be(reader.counters).and_then(|()| {
-            // SAFETY: two handles of one conductor, as their numbers tell.
+            // SAFETY: two handles of one conductor, as their numbers show.
             done(unsafe { raw::felter_conductor_join_reader(self.handle.raw(), reader.handle.raw()) })
         });
         joined.map_err(|reason| Refused { reason, back: reader })
     }
 
-    /// Ends a conductor whose clients and receivers were all taken back.
+    /// Ends a conductor whose clients, receivers and readers were all taken back or dropped.
     ///
-    /// Errors: [`Error::ProducersOut`], then [`Error::ReceiversOut`], and then [`Error::InUse`], where a reader is out;
-    /// the conductor comes back, and goes on or finishes later.
+    /// Errors while one of them is there: [`Error::ProducersOut`] if a client was not taken back, then
+    /// [`Error::ReceiversOut`] if a receiver was not, and otherwise [`Error::InUse`]. The error gives the conductor
+    /// back, which can go on, and finish later.
     ///
     /// ```
     /// use felter::{Conductor, Error, Finished};

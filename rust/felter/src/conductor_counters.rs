@@ -1,4 +1,4 @@
-//! What a conductor's counters are asked, on the thread that uses the conductor.
+//! Questions about a conductor's counters, on the thread that uses the conductor.
 use crate::conductor::Conductor;
 use crate::counters::MAX_KEY;
 use crate::error::Error;
@@ -33,14 +33,14 @@ impl Conductor {
         self.handle.number(id, raw::felter_conductor_owner)
     }
 
-    /// The state of a record: 0 if it was never used, 1 if the counter is in use, -1 if it was freed.
+    /// The state of an id: 0 if it was never used, 1 if its counter is in use, -1 if its counter was freed.
     ///
     /// Errors: [`Error::BadId`].
     pub fn state(&mut self, id: u32) -> Result<i32, Error> {
         self.handle.number(id, raw::felter_conductor_state)
     }
 
-    /// The moment from which an id may be allocated again: 0 if it was never used, 2^63 - 1 if the counter is in use.
+    /// The moment from which an id may be allocated again: 0 if it was never used, 2^63 - 1 if its counter is in use.
     ///
     /// Errors: [`Error::BadId`].
     pub fn deadline(&mut self, id: u32) -> Result<u64, Error> {
@@ -54,14 +54,14 @@ impl Conductor {
         self.handle.label(id, raw::felter_conductor_label)
     }
 
-    /// A counter's key, with zeros after a shorter one.
+    /// A counter's key, which is filled up to 112 bytes with zeros.
     ///
     /// Errors: [`Error::BadId`], [`Error::NotAllocated`].
     pub fn key(&mut self, id: u32) -> Result<[u8; MAX_KEY], Error> {
         self.handle.key(id, raw::felter_conductor_key)
     }
 
-    /// The lowest id in use of a type and registration id.
+    /// The lowest id in use with this type id and registration id.
     pub fn find(&mut self, type_id: i32, registration: u64) -> Result<Option<u32>, Error> {
         self.handle.find(type_id, registration, raw::felter_conductor_find)
     }

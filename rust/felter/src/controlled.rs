@@ -1,4 +1,4 @@
-//! Reads that their caller controls.
+//! Controlled reads: the caller decides after each message how the read goes on.
 use crate::error::Error;
 use crate::handle::done;
 use crate::message::{message_of, Message};
@@ -12,16 +12,16 @@ pub enum Action {
     Abort,
     /// Takes the message, and stops.
     Break,
-    /// Takes the message, and goes on. Its room is given back to the producers at once.
+    /// Takes the message, and goes on. The producers get its room at once.
     Commit,
-    /// The same as `Commit`: here the room of each message that was taken is given back at once.
+    /// The same as `Commit`: the producers get the room of each message as soon as it was taken.
     Continue,
 }
 
 impl Consumer {
-    /// Copies the next message into a buffer, and leaves it in the ring. Returns `None` if nothing is there yet.
+    /// Copies the next message into a buffer, and leaves it in the ring. Returns `None` if no message is there yet.
     ///
-    /// Errors: [`Error::ShortBuffer`]. An eighth of the capacity is always enough.
+    /// Errors: [`Error::ShortBuffer`]. A buffer of an eighth of the capacity is always long enough.
     pub fn peek<'a>(&mut self, buffer: &'a mut [u8]) -> Result<Option<Message<'a>>, Error> {
         let (mut type_id, mut len) = (0, 0);
         let (at, room) = (buffer.as_mut_ptr(), buffer.len());
@@ -30,7 +30,7 @@ impl Consumer {
         message_of(code, type_id, len, buffer)
     }
 
-    /// Takes the next message, and copies nothing. Returns `false` if nothing is there yet.
+    /// Takes the next message from the ring, and copies nothing. Returns `false` if no message is there yet.
     pub fn take(&mut self) -> Result<bool, Error> {
         // SAFETY: our handle.
         match done(unsafe { raw::felter_take(self.handle.raw()) }) {
@@ -40,10 +40,12 @@ impl Consumer {
         }
     }
 
-    /// Shows up to `limit` messages, each copied into a buffer, and does with each what `show` says. Returns how many
-    /// were taken. If `show` panics, its message stays in the ring.
+    /// Copies up to `limit` messages, one after another, into a buffer, and calls `show` with each. The [`Action`] that
+    /// `show` returns says what happens to the message. Returns how many messages were taken. If `show` panics, its
+    /// message stays in the ring.
     ///
-    /// Errors: [`Error::ShortBuffer`] if the first message has no room. A later one that has none ends the read.
+    /// Errors: [`Error::ShortBuffer`] if the first message has no room. If a later message has no room, the read ends
+    /// before it.
     ///
     /// ```
     /// use felter::Action;

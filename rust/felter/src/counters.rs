@@ -3,10 +3,10 @@ use crate::error::{Error, Refused};
 use crate::handle::{done, Handle, Number};
 use crate::raw;
 
-/// The most bytes of a label.
+/// The length of the longest label, in bytes.
 pub(crate) const MAX_LABEL: usize = 380;
 
-/// The bytes of a key.
+/// The length of a key, in bytes.
 pub const MAX_KEY: usize = 112;
 
 /// Counters with the ids from 0 on.
@@ -25,7 +25,8 @@ pub struct Counters {
 }
 
 impl Counters {
-    /// Makes counters with the ids below `count`, at most 4096. A freed id rests for `reuse_ms` milliseconds.
+    /// Makes counters with the ids below `count`, which is at most 4096. A freed id is not given again for `reuse_ms`
+    /// milliseconds.
     ///
     /// Errors: [`Error::BadCount`], [`Error::OutOfMemory`].
     pub fn new(count: u32, reuse_ms: u32) -> Result<Counters, Error> {
@@ -35,7 +36,7 @@ impl Counters {
         Ok(Counters { handle, number })
     }
 
-    /// Allocates a counter of value 0 at a moment, and says its id.
+    /// Allocates a counter with the value 0 at the moment `now`, and returns its id.
     ///
     /// Errors: [`Error::KeyTooLong`], [`Error::LabelTooLong`], [`Error::LabelNotAscii`], [`Error::NoFreeCounter`].
     pub fn allocate(
@@ -49,7 +50,7 @@ impl Counters {
         self.allocate_owned(now, type_id, key, label, registration, 0)
     }
 
-    /// The same with an owner; 0 stands for none.
+    /// Allocates a counter with an owner, and is otherwise the same. The owner 0 means that there is none.
     pub fn allocate_owned(
         &mut self,
         now: u64,
@@ -81,12 +82,17 @@ impl Counters {
         Ok(id)
     }
 
-    /// Frees a counter at a moment.
+    /// Frees a counter at the moment `now`.
     ///
     /// Errors: [`Error::BadId`], [`Error::NotAllocated`], [`Error::BadMoment`].
     pub fn free(&mut self, now: u64, id: u32) -> Result<(), Error> {
         // SAFETY: our handle.
         done(unsafe { raw::felter_counter_free(self.handle.raw(), now, id) })
+    }
+
+    /// The same call as [`free`](Counters::free), under its name in C++ and Python.
+    pub fn release(&mut self, now: u64, id: u32) -> Result<(), Error> {
+        self.free(now, id)
     }
 
     /// Sets a counter's value.
@@ -97,7 +103,7 @@ impl Counters {
         done(unsafe { raw::felter_counter_set(self.handle.raw(), id, value) })
     }
 
-    /// Adds to a counter's value, which wraps, and says the value before.
+    /// Adds to a counter's value, which wraps, and returns the value before the addition.
     ///
     /// Errors: [`Error::BadId`], [`Error::NotAllocated`].
     pub fn add(&mut self, id: u32, delta: i64) -> Result<i64, Error> {
@@ -107,7 +113,7 @@ impl Counters {
         Ok(before)
     }
 
-    /// Raises a counter's value to this one if it is below it, and returns whether it was.
+    /// Raises a counter's value to `value` if the counter is below it. Returns whether that was so.
     ///
     /// Errors: [`Error::BadId`], [`Error::NotAllocated`].
     pub fn propose_max(&mut self, id: u32, value: i64) -> Result<bool, Error> {
@@ -117,14 +123,14 @@ impl Counters {
         Ok(raised == 1)
     }
 
-    /// The state of a record: 0 if it was never used, 1 if the counter is in use, -1 if it was freed.
+    /// The state of an id: 0 if it was never used, 1 if its counter is in use, -1 if its counter was freed.
     ///
     /// Errors: [`Error::BadId`].
     pub fn state(&mut self, id: u32) -> Result<i32, Error> {
         self.handle.number(id, raw::felter_counter_state)
     }
 
-    /// The moment from which an id may be allocated again: 0 if it was never used, 2^63 - 1 if the counter is in use.
+    /// The moment from which an id may be allocated again: 0 if it was never used, 2^63 - 1 if its counter is in use.
     ///
     /// Errors: [`Error::BadId`].
     pub fn deadline(&mut self, id: u32) -> Result<u64, Error> {
@@ -138,17 +144,17 @@ impl Counters {
         self.handle.number(id, raw::felter_counter_value)
     }
 
-    /// A counter's type id. Errors as [`value`](Counters::value).
+    /// A counter's type id. The errors are those of [`value`](Counters::value).
     pub fn type_id(&mut self, id: u32) -> Result<i32, Error> {
         self.handle.number(id, raw::felter_counter_type_id)
     }
 
-    /// A counter's registration id. Errors as [`value`](Counters::value).
+    /// A counter's registration id. The errors are those of [`value`](Counters::value).
     pub fn registration(&mut self, id: u32) -> Result<u64, Error> {
         self.handle.number(id, raw::felter_counter_registration)
     }
 
-    /// A counter's owner, 0 where it has none. Errors as [`value`](Counters::value).
+    /// A counter's owner, 0 if it has none. The errors are those of [`value`](Counters::value).
     pub fn owner(&mut self, id: u32) -> Result<u64, Error> {
         self.handle.number(id, raw::felter_counter_owner)
     }
@@ -160,14 +166,14 @@ impl Counters {
         self.handle.label(id, raw::felter_counter_label)
     }
 
-    /// A counter's key, with zeros after a shorter one.
+    /// A counter's key, which is filled up to 112 bytes with zeros.
     ///
     /// Errors: [`Error::BadId`], [`Error::NotAllocated`].
     pub fn key(&mut self, id: u32) -> Result<[u8; MAX_KEY], Error> {
         self.handle.key(id, raw::felter_counter_key)
     }
 
-    /// The lowest id in use of a type and registration id.
+    /// The lowest id in use with this type id and registration id.
     pub fn find(&mut self, type_id: i32, registration: u64) -> Result<Option<u32>, Error> {
         self.handle.find(type_id, registration, raw::felter_counter_find)
     }
@@ -177,13 +183,13 @@ impl Counters {
         self.handle.said(raw::felter_counters_count)
     }
 
-    /// The ids in use, rising.
+    /// The ids in use, in rising order.
     pub fn ids(&mut self) -> Result<Vec<u32>, Error> {
         let count = self.count()?;
         Ok((0..count).filter(|&id| self.type_id(id).is_ok()).collect())
     }
 
-    /// Frees each counter of an owner at a moment, and says how many.
+    /// Frees each counter of an owner at the moment `now`, and returns how many there were.
     ///
     /// Errors: [`Error::BadOwner`], [`Error::BadMoment`].
     pub fn close_owner(&mut self, now: u64, owner: u64) -> Result<u32, Error> {
@@ -193,8 +199,8 @@ impl Counters {
         Ok(freed)
     }
 
-    /// Makes a reader of the values, for another thread, with one of the counters' 65,536 shares. One that is dropped
-    /// takes its share with it: [`join`](Counters::join) it instead where that matters.
+    /// Makes a reader of the values, for another thread. The reader gets one of the counters' 65,536 shares. If the
+    /// reader is dropped, this share is lost. [`join`](Counters::join) gives it back.
     ///
     /// Errors: [`Error::NoShares`], [`Error::OutOfMemory`].
     pub fn reader(&mut self) -> Result<Reader, Error> {
@@ -204,9 +210,10 @@ impl Counters {
         Ok(Reader { handle: reader, counters: self.number })
     }
 
-    /// Takes back a reader of these counters, with its share.
+    /// Takes back a reader of these counters with its share.
     ///
-    /// Errors: [`Error::OtherRing`], where it is of others, or of a conductor's; both are then as they were.
+    /// Errors: [`Error::OtherRing`] if the reader belongs to other counters, or to a conductor. The error gives the
+    /// reader back.
     ///
     /// ```
     /// let mut counters = felter::Counters::new(8, 0)?;
@@ -218,14 +225,14 @@ impl Counters {
     /// ```
     pub fn join(&mut self, mut reader: Reader) -> Result<(), Refused<Reader>> {
         let joined = self.number.must_be(reader.counters).and_then(|()| {
-            // SAFETY: two handles of one set of counters, as their numbers tell.
+            // SAFETY: two handles of one set of counters, as their numbers show.
             done(unsafe { raw::felter_counters_join(self.handle.raw(), reader.handle.raw()) })
         });
         joined.map_err(|reason| Refused { reason, back: reader })
     }
 }
 
-/// Loads values of counters, on a thread of its own.
+/// Loads values of counters on another thread.
 ///
 /// ```
 /// let mut counters = felter::Counters::new(8, 0)?;
@@ -239,12 +246,12 @@ impl Counters {
 #[derive(Debug)]
 pub struct Reader {
     pub(crate) handle: Handle,
-    /// That of the counters, or of the conductor that owns them.
+    /// The number of the counters, or of the conductor that owns them.
     pub(crate) counters: Number,
 }
 
 impl Reader {
-    /// Loads a value: of an id that was never used 0, of a freed one its last.
+    /// Loads a value. The value of an id that was never used is 0, and that of a freed id is its last value.
     ///
     /// Errors: [`Error::BadId`].
     pub fn value(&mut self, id: u32) -> Result<i64, Error> {

@@ -1,13 +1,13 @@
-//! A doorbell for event loops: whoever wrote rings it, and whoever reads waits for it, also by epoll.
+//! A doorbell for event loops. Writers ring it, and readers wait for it, also by epoll.
 use std::fs::File;
 use std::io::{self, ErrorKind, Read, Write};
 use std::os::fd::{AsFd, AsRawFd, BorrowedFd, FromRawFd, RawFd};
 use std::time::Duration;
 
-/// A number in the kernel (an eventfd), which is above 0 while the bell was rung and not yet cleared.
+/// An eventfd of Linux. Its descriptor is readable after the doorbell was rung, until it is cleared.
 ///
-/// A ring does not ring it: its users do, after they wrote. Whoever waits clears it and then reads until nothing is
-/// there, so that no message is missed.
+/// Writers ring the doorbell after they have written: a ring does not do that itself. The reader clears the doorbell
+/// first, and then reads until no message is there. So no message is missed.
 ///
 /// ```
 /// let (mut producer, mut consumer) = felter::one_to_one(1024)?;
@@ -46,9 +46,9 @@ const CLOEXEC_NONBLOCK: i32 = 0o2_000_000 | 0o4_000;
 const POLLIN: i16 = 1;
 
 impl Doorbell {
-    /// Makes one that was not rung.
+    /// Makes a doorbell that is not rung.
     ///
-    /// Errors: those of the system, as that no further file can be opened.
+    /// Errors: those of the system, for example if no more files can be opened.
     pub fn new() -> io::Result<Doorbell> {
         // SAFETY: two numbers.
         let fd = unsafe { eventfd(0, CLOEXEC_NONBLOCK) };
@@ -59,16 +59,16 @@ impl Doorbell {
         Ok(Doorbell { file: unsafe { File::from_raw_fd(fd) } })
     }
 
-    /// Rings it. Any thread may.
+    /// Rings the doorbell. Any thread may call this.
     pub fn ring(&self) -> io::Result<()> {
         match (&self.file).write(&1u64.to_ne_bytes()) {
-            // (it was rung 2^64 - 2 times already)
+            // (the count is full, so the doorbell is rung already)
             Err(error) if error.kind() == ErrorKind::WouldBlock => Ok(()),
             other => other.map(|_| ()),
         }
     }
 
-    /// Takes back that it was rung, and says whether it was.
+    /// Clears the doorbell, and returns whether it was rung.
     pub fn clear(&self) -> io::Result<bool> {
         match (&self.file).read(&mut [0; 8]) {
             Err(error) if error.kind() == ErrorKind::WouldBlock => Ok(false),
@@ -76,7 +76,8 @@ impl Doorbell {
         }
     }
 
-    /// Waits until it is rung, or for at most so long, and says whether it was rung. `None`: it waits for ever.
+    /// Waits until the doorbell is rung, or until the timeout. Returns whether it was rung. Without a timeout the call
+    /// waits for ever.
     pub fn wait(&self, timeout: Option<Duration>) -> io::Result<bool> {
         let millis = timeout.map_or(-1, |it| it.as_nanos().div_ceil(1_000_000).min(i32::MAX as u128) as i32);
         let mut it = PollFd { fd: self.file.as_raw_fd(), events: POLLIN, revents: 0 };

@@ -1,10 +1,11 @@
 //! Why calls are refused.
+use crate::raw;
 use std::fmt;
 
-/// Defines the errors: each with its number, and for one that carries something what it carries.
+/// Defines the errors, each with its number and its fields.
 macro_rules! errors {
     ($($(#[$doc:meta])* $name:ident $({ $($(#[$note:meta])* $field:ident: $kind:ty),* })? = $number:literal,)*) => {
-        /// Why a call was refused. Each has the number that C gets, and the same name.
+        /// Why a call was refused. Each error has the name and the number that it has in C.
         #[derive(Clone, Copy, Debug, PartialEq, Eq, Hash)]
         #[non_exhaustive]
         pub enum Error {
@@ -14,7 +15,7 @@ macro_rules! errors {
         }
 
         impl Error {
-            /// The number that C gets.
+            /// The number that the error has in C.
             pub fn number(self) -> i32 {
                 match self {
                     $(Error::$name $({ $($field: _),* })? => $number,)*
@@ -22,7 +23,7 @@ macro_rules! errors {
                 }
             }
 
-            /// The error of a number that is not 0. What it carries is 0.
+            /// The error with this number, which is not 0. Its fields are 0.
             pub(crate) fn of(number: i32) -> Error {
                 match number {
                     $($number => Error::$name $({ $($field: 0),* })?,)*
@@ -34,15 +35,15 @@ macro_rules! errors {
 }
 
 errors! {
-    /// No power of two from 128 to 2^24.
+    /// The capacity is not a power of two from 128 (of a board 256) to 2^24.
     BadCapacity = 1,
-    /// No multiple of the capacity, or above 2^62.
+    /// The start is not a multiple of the capacity, or is above 2^62.
     BadStart = 2,
-    /// There was no memory.
+    /// Out of memory.
     OutOfMemory = 3,
     /// The type id is below 1.
     BadType = 4,
-    /// The message is longer than an eighth of the capacity.
+    /// The message is longer than an eighth of the capacity, or a command longer than 520 bytes.
     TooLong = 5,
     /// The record would end above 2^62.
     PositionLimit = 6,
@@ -50,22 +51,22 @@ errors! {
     InsufficientCapacity = 7,
     /// Another producer was faster: try again.
     Contended = 8,
-    /// The bytes do not lie inside the claim.
+    /// The bytes are not inside the claim.
     PutRange = 9,
-    /// A claim of the producer is open: it was kept, or forgotten.
+    /// A claim of the producer is open: the claim was kept or forgotten.
     ClaimsOpen = 10,
-    /// A producer or a client was not taken back: it is out, or was dropped, and then for good.
+    /// A producer or a client was neither taken back nor dropped.
     ProducersOut = 11,
     /// One share is left, and is needed.
     NoShares = 12,
     /// The transmitter overtook the receiver.
     Lapped {
-        /// How often by now.
+        /// How often the receiver was lapped by now.
         count: u64,
-        /// How many bytes it passed over. Of a client it is 0, since that does not know.
+        /// How many bytes the receiver passed over. For a client this is 0, because a client does not know the number.
         missed_bytes: u64
     } = 13,
-    /// A receiver was not taken back: it is out, or was dropped, and then for good.
+    /// A receiver was neither taken back nor dropped.
     ReceiversOut = 14,
     /// The number of counters is 0 or above 4096.
     BadCount = 15,
@@ -75,38 +76,38 @@ errors! {
     LabelTooLong = 17,
     /// The label has a byte of 128 or more.
     LabelNotAscii = 18,
-    /// Every id was used, and none that was freed is due.
+    /// Every counter is in use, or was freed too short a time ago.
     NoFreeCounter = 19,
     /// The id is not below the number of counters.
     BadId = 20,
     /// No counter with this id is in use.
     NotAllocated = 21,
-    /// The owner is 0, which stands for none.
+    /// The owner is 0, which means none.
     BadOwner = 28,
-    /// The handle is empty. No call of this crate brings it about.
+    /// The handle is empty. This crate never returns it.
     NoHandle = 100,
-    /// The handle is of another kind: a producer of a one-to-one ring was to be split.
+    /// The handle is of another kind: a one-to-one ring has one producer, which cannot be split or joined.
     WrongHandle = 101,
-    /// The handle that was to be filled is not empty. No call of this crate brings it about.
+    /// The handle that was to be filled is not empty. This crate never returns it.
     HandleInUse = 102,
     /// No claim of this number is open.
     NoClaim = 104,
-    /// Nothing is there yet. This crate answers `None` in its place.
+    /// No message is there yet. Most calls of this crate return `None` instead.
     NoMessage = 105,
     /// The message is longer than the buffer, and stays.
     ShortBuffer {
-        /// How many bytes are wanted.
+        /// The number of bytes that are needed.
         wanted: usize
     } = 106,
     /// The moment is above 2^62.
     BadMoment = 107,
     /// The two handles are of two rings, boards, conductors or sets of counters.
     OtherRing = 108,
-    /// What came is the reply to another command. This crate answers [`Polled::Another`](crate::Polled) in its place.
+    /// The message is the reply to another command. This crate returns [`Polled::Another`](crate::Polled) instead.
     OtherReply = 109,
-    /// Another handle holds what was to be closed: a reader of a conductor's that is out.
+    /// Another handle holds what was to be closed: a reader of the conductor was neither taken back nor dropped.
     InUse = 110,
-    /// A pointer is NULL. No call of this crate brings it about.
+    /// A pointer is NULL. This crate never returns it.
     NullPointer = 111,
 }
 
@@ -125,13 +126,15 @@ impl Error {
     }
 }
 
+/// Writes what the error means, in the words of `felter_text`.
 impl fmt::Display for Error {
     fn fmt(&self, f: &mut fmt::Formatter<'_>) -> fmt::Result {
+        f.write_str(raw::text(self.number()))?;
         match self {
-            Error::Lapped { count, missed_bytes } => write!(f, "13 Lapped {count} missed_bytes {missed_bytes}"),
-            Error::ShortBuffer { wanted } => write!(f, "106 ShortBuffer wanted {wanted}"),
-            Error::Unknown(number) => write!(f, "{number} Unknown"),
-            other => write!(f, "{} {other:?}", other.number()),
+            Error::Lapped { count, missed_bytes } => write!(f, ": {count} times by now, {missed_bytes} bytes missed"),
+            Error::ShortBuffer { wanted } => write!(f, ": {wanted} bytes are needed"),
+            Error::Unknown(number) => write!(f, " {number}"),
+            _ => Ok(()),
         }
     }
 }
@@ -141,7 +144,7 @@ impl std::error::Error for Error {}
 /// A message of a batch was refused, and those after it were not tried.
 #[derive(Clone, Copy, Debug, PartialEq, Eq)]
 pub struct BatchRefused {
-    /// How many were written before it.
+    /// How many messages were written before it.
     pub written: usize,
     /// Why it was refused.
     pub reason: Error,
@@ -149,7 +152,7 @@ pub struct BatchRefused {
 
 impl fmt::Display for BatchRefused {
     fn fmt(&self, f: &mut fmt::Formatter<'_>) -> fmt::Result {
-        write!(f, "{} after {} messages", self.reason, self.written)
+        write!(f, "a message was refused after {} that were written", self.written)
     }
 }
 
@@ -159,12 +162,12 @@ impl std::error::Error for BatchRefused {
     }
 }
 
-/// A call that took handles was refused, and gives them back as they were.
+/// A call that took a handle was refused, and gives the handle back as it was.
 #[derive(Debug)]
 pub struct Refused<T> {
-    /// Why.
+    /// Why the call was refused.
     pub reason: Error,
-    /// What was given to the call.
+    /// The handle that was given to the call.
     pub back: T,
 }
 

@@ -1,15 +1,15 @@
-//! A handle that frees itself, and the numbers that tell what a handle belongs to.
+//! Handles that free themselves, and the numbers that say which structure a handle belongs to.
 use crate::error::Error;
 use crate::raw::{self, Raw};
 use std::fmt;
 use std::sync::atomic::{AtomicU64, Ordering};
 
-/// How large a ring or a board is.
+/// The size of a ring or a board.
 #[derive(Clone, Copy, Debug, PartialEq, Eq)]
 pub struct Sizes {
-    /// The bytes of its buffer.
+    /// The size of its buffer, in bytes.
     pub capacity: u32,
-    /// The most bytes of a message: an eighth of the capacity.
+    /// The length of its longest message: an eighth of the capacity.
     pub max_message: u32,
 }
 
@@ -18,20 +18,20 @@ pub(crate) struct Handle {
     raw: Raw,
 }
 
-// SAFETY: that the library's handles may go to another thread is proved there. A value that is moved to another thread
-// is moved after the calls before it.
+// SAFETY: the library proves that its handles may go to another thread. A value that is moved to another thread is
+// moved after all earlier calls with it.
 unsafe impl Send for Handle {}
 
-// SAFETY: nothing can be done with a handle that is shared: each call takes it by `&mut`.
+// SAFETY: a shared handle cannot be used, because each call takes its handle by `&mut`.
 unsafe impl Sync for Handle {}
 
 impl Handle {
-    /// An empty one.
+    /// An empty handle.
     pub(crate) const fn empty() -> Handle {
         Handle { raw: Raw::EMPTY }
     }
 
-    /// The sizes of the ring or board that the handle is an end of.
+    /// The sizes of the ring or board of this handle.
     pub(crate) fn sizes(&mut self) -> Result<Sizes, Error> {
         let (mut capacity, mut max_message) = (0, 0);
         // SAFETY: our handle, and two numbers of ours.
@@ -39,7 +39,7 @@ impl Handle {
         Ok(Sizes { capacity, max_message })
     }
 
-    /// The number that a call says.
+    /// The number that a call writes.
     pub(crate) fn said<T: Default>(&mut self, call: unsafe extern "C" fn(*mut Raw, *mut T) -> i32) -> Result<T, Error> {
         let mut number = T::default();
         // SAFETY: our handle, and a number of ours.
@@ -47,7 +47,7 @@ impl Handle {
         Ok(number)
     }
 
-    /// For a call. The pointer is used in that call alone.
+    /// The pointer for a call, which uses it only during the call.
     pub(crate) fn raw(&mut self) -> *mut Raw {
         &mut self.raw
     }
@@ -66,7 +66,7 @@ impl fmt::Debug for Handle {
     }
 }
 
-/// What a call answered.
+/// Turns the code of a call into a result.
 pub(crate) fn done(code: i32) -> Result<(), Error> {
     match code {
         raw::OK => Ok(()),
@@ -74,24 +74,25 @@ pub(crate) fn done(code: i32) -> Result<(), Error> {
     }
 }
 
-/// Which ring, board, counters or conductor a handle belongs to. No two have the same number in one process, and what
-/// the header's count or the Python module's gave a number has another one: the one begins at 1, the other at 2^63.
+/// The number of a ring, a board, counters or a conductor. Each handle has the number of its structure. No two
+/// structures of a process have the same number: the header for C counts from 1 on, this crate from 2^62, and the
+/// Python module from 2^63.
 #[derive(Clone, Copy, Debug, PartialEq, Eq)]
 pub(crate) struct Number(u64);
 
 impl Number {
-    /// The next one.
+    /// The next number.
     pub(crate) fn next() -> Number {
         static NEXT: AtomicU64 = AtomicU64::new(1 << 62);
         Number(NEXT.fetch_add(1, Ordering::Relaxed))
     }
 
-    /// For a call that makes what has this number.
+    /// The number for a call that makes a structure.
     pub(crate) fn raw(self) -> u64 {
         self.0
     }
 
-    /// Refuses the handle of another.
+    /// Refuses a handle of another structure.
     pub(crate) fn must_be(self, other: Number) -> Result<(), Error> {
         if self == other {
             Ok(())

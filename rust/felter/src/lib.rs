@@ -1,4 +1,6 @@
-//! Rings, boards, counters and conductors for the threads of one process, proved for every interleaving.
+//! Rings, boards, counters and conductors for the threads of one process, proved for every interleaving. A board is a
+//! broadcast buffer. The bodies of a ring are in memory of their own, beside the words of headers and positions, so
+//! rings do not have the memory layout of Agrona's rings.
 //!
 //! ```
 //! let (mut producer, mut consumer) = felter::many_to_one(65_536)?;
@@ -11,14 +13,15 @@
 //! # Ok::<(), felter::Error>(())
 //! ```
 //!
-//! The calls of the proved library never wait: a full ring, a faster producer and an empty ring are answers, and the
-//! caller tries again. [`Producer::send`] and [`Consumer::recv`] do so until a deadline, `is_abandoned` says that the
-//! other side is gone, and a [`Doorbell`] wakes event loops. Capacities, lengths and positions are bytes; moments are
-//! milliseconds by a clock of the caller.
+//! The calls of the proved library never wait. A full ring, a faster producer and an empty ring are results, after
+//! which the caller may try again. [`Producer::send`] and [`Consumer::recv`] try until a deadline, `is_abandoned` says
+//! that the other side is gone, and a [`Doorbell`] wakes event loops.
 //!
-//! Each handle owns what it stands for together with its ring, board, counters or conductor, so no lifetime ties them,
-//! and they may be dropped in any order. A handle may go to another thread. Each call takes its handle by `&mut`, so one
-//! thread at a time uses it:
+//! Capacities, lengths and positions are in bytes. Moments are in milliseconds, by a clock of the caller.
+//!
+//! Each handle owns its endpoint together with its ring, board, counters or conductor. So handles have no lifetime
+//! parameter, and they may be dropped in any order. A handle may go to another thread. Each call takes its handle by
+//! `&mut`, so one thread at a time uses a handle:
 //!
 //! ```compile_fail,E0596
 //! let (producer, _consumer) = felter::many_to_one(128).expect("a power of two");
@@ -27,14 +30,21 @@
 //! });
 //! ```
 //!
-//! What the proved library asks of its callers is kept by this crate, so that its users need no `unsafe`: a call takes
-//! its handle by `&mut`, which is one call at a time and two handles in a call of two; handles cannot be copied;
-//! and buffers are slices. Handles of two rings, boards, conductors or sets of counters are refused
-//! ([`Error::OtherRing`]), by the numbers that this crate gives them from one count: it compares them, and so does the
-//! library. What is left to users is the process: no call from a signal handler or in a forked child, and a processor
-//! of x86-64-v2 or later. This crate itself, its declarations among it, is tested and not proved.
+//! The proved library has rules for its callers. This crate keeps these rules, so its users need no `unsafe`:
+//!
+//! - A call takes its handles by `&mut`. So one call at a time uses a handle, and a call with two handles gets
+//!   different ones.
+//! - Handles cannot be copied.
+//! - Buffers are slices.
+//! - If two handles of a call belong to different rings, boards, conductors or sets of counters, the call returns
+//!   [`Error::OtherRing`]. This crate gives each of them a number, from one count. Both the crate and the library
+//!   compare the numbers.
+//!
+//! Users keep two rules: no call comes from a signal handler or a forked child, and the processor has x86-64-v2. This
+//! crate, with its declarations of the library, is tested and not proved.
 
 mod board;
+mod claims;
 mod client;
 mod conductor;
 mod conductor_counters;
@@ -47,11 +57,14 @@ mod handle;
 mod message;
 mod raw;
 mod records;
+mod request;
 mod ring;
 mod standing;
+mod taking;
 mod wait;
 
 pub use board::{Lap, RawReceiver, RawRecord, Receiver, Transmitter};
+pub use claims::{Claim, KeptClaim};
 pub use client::{Client, Polled, Reply};
 pub use conductor::{Conductor, Finished, Work, WorkStop};
 pub use controlled::Action;
@@ -60,8 +73,8 @@ pub use doorbell::Doorbell;
 pub use error::{BatchRefused, Error, Refused};
 pub use handle::Sizes;
 pub use message::{Batch, Message};
-pub use ring::{
-    many_to_one, many_to_one_at, one_to_one, one_to_one_at, Claim, Consumer, KeptClaim, Positions, Producer,
-};
+pub use request::{Command, RequestError};
+pub use ring::{many_to_one, many_to_one_at, one_to_one, one_to_one_at, Consumer, Positions, Producer};
 pub use standing::{Found, Standing};
+pub use taking::{Iter, OwnedMessage, TryIter};
 pub use wait::WaitError;

@@ -11,7 +11,7 @@ pub struct Message<'a> {
     pub body: &'a [u8],
 }
 
-/// What a read of one message answered.
+/// The result of a read of one message.
 pub(crate) fn message_of(code: i32, type_id: i32, len: usize, buffer: &[u8]) -> Result<Option<Message<'_>>, Error> {
     match done(code) {
         Ok(()) => Ok(Some(Message { type_id, body: &buffer[..len] })),
@@ -21,7 +21,7 @@ pub(crate) fn message_of(code: i32, type_id: i32, len: usize, buffer: &[u8]) -> 
     }
 }
 
-/// The messages of a read, in the order in which they were written.
+/// The messages of one read, in the order in which they were written.
 #[derive(Clone, Debug)]
 pub struct Batch<'a> {
     left: u32,

@@ -1,9 +1,9 @@
-//! Written by c/bindings from felter.h: change that, and run it again.
+//! Written by c/bindings from felter.h. To change this file, change felter.h and run c/bindings.
 #![allow(dead_code)]
 use std::ffi::c_void;
 use std::ptr;
 
-/// What a handle is to C: a struct of one pointer.
+/// A handle as C sees it: a struct with one pointer.
 #[repr(C)]
 pub(crate) struct Raw {
     at: *mut c_void,
@@ -14,6 +14,47 @@ impl Raw {
 }
 
 pub(crate) const OK: i32 = 0;
+
+/// Returns what a code means, in words.
+pub(crate) fn text(code: i32) -> &'static str {
+    match code {
+        0 => "no error",
+        1 => "the capacity is not a power of two from 128 (of a board 256) to 2^24",
+        2 => "the start is not a multiple of the capacity, or is above 2^62",
+        3 => "out of memory",
+        4 => "the type id is below 1",
+        5 => "the message has more than an eighth of the capacity, or the command 520",
+        6 => "the record would end above 2^62",
+        7 => "the ring is full",
+        8 => "another producer was faster",
+        9 => "the bytes are not inside the claim",
+        10 => "a claim of the producer is open",
+        11 => "a producer or a client is still in a handle",
+        12 => "one share is left, and is needed",
+        13 => "the transmitter overtook the receiver",
+        14 => "a receiver is still in a handle",
+        15 => "the number of counters is 0 or above 4096",
+        16 => "the key has more than 112 bytes",
+        17 => "the label has more than 380 bytes",
+        18 => "the label has a byte of 128 or more",
+        19 => "every counter is in use, or was freed too short a time ago",
+        20 => "the id is not below the number of counters",
+        21 => "no such counter is in use",
+        28 => "the owner is 0, which means none",
+        100 => "the handle is empty",
+        101 => "the handle is of another kind",
+        102 => "the handle that was to be filled is not empty",
+        104 => "no claim of this number is open",
+        105 => "no message is there yet",
+        106 => "the message is longer than the buffer, and stays",
+        107 => "the moment is above 2^62",
+        108 => "the two handles are of two rings, boards, conductors or sets of counters",
+        109 => "the message is the reply to another command, or no reply",
+        110 => "another handle holds what was to be closed",
+        111 => "a pointer is NULL",
+        _ => "unknown code",
+    }
+}
 
 extern "C" {
     pub(crate) fn felter_free(handle: *mut Raw);

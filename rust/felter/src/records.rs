@@ -1,4 +1,4 @@
-//! What counters say of a record, to whoever owns them: a conductor's counters have calls of their own for it.
+//! Calls that read the record of a counter. Counters and conductors share them, with different calls of the library.
 use crate::counters::{MAX_KEY, MAX_LABEL};
 use crate::error::Error;
 use crate::handle::{done, Handle};
@@ -42,7 +42,7 @@ impl Handle {
         Ok(key)
     }
 
-    /// The lowest id in use of a type and registration id.
+    /// The lowest id in use with this type id and registration id.
     pub(crate) fn find(
         &mut self,
         type_id: i32,

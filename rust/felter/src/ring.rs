@@ -1,39 +1,40 @@
 //! Rings: many-to-one and one-to-one.
-use crate::ends::End;
+use crate::claims::Claim;
+use crate::ends::{Bed, End};
 use crate::error::{BatchRefused, Error, Refused};
 use crate::handle::{done, Handle, Number, Sizes};
 use crate::message::{message_of, Batch, Message};
 use crate::raw::{self, Raw};
 
-/// Makes a ring of any number of producers, with the first of them, which holds all 65,536 shares, and its consumer.
+/// Makes a ring for any number of producers: its first producer, which holds all 65,536 shares, and its consumer.
 ///
 /// Errors: [`Error::BadCapacity`], [`Error::OutOfMemory`].
 pub fn many_to_one(capacity: u32) -> Result<(Producer, Consumer), Error> {
     many_to_one_at(capacity, 0)
 }
 
-/// Makes such a ring, whose positions begin at `start`.
+/// Makes such a ring, with positions that begin at `start`.
 ///
-/// Errors: also [`Error::BadStart`].
+/// Errors: [`Error::BadCapacity`], [`Error::BadStart`], [`Error::OutOfMemory`].
 pub fn many_to_one_at(capacity: u32, start: u64) -> Result<(Producer, Consumer), Error> {
     made_by(raw::felter_many_to_one_new_at_numbered, capacity, start)
 }
 
-/// Makes a ring of one producer, which cannot be split.
+/// Makes a ring for one producer, which cannot be split.
 ///
 /// Errors: [`Error::BadCapacity`], [`Error::OutOfMemory`].
 pub fn one_to_one(capacity: u32) -> Result<(Producer, Consumer), Error> {
     one_to_one_at(capacity, 0)
 }
 
-/// Makes such a ring, whose positions begin at `start`.
+/// Makes such a ring, with positions that begin at `start`.
 ///
-/// Errors: also [`Error::BadStart`].
+/// Errors: [`Error::BadCapacity`], [`Error::BadStart`], [`Error::OutOfMemory`].
 pub fn one_to_one_at(capacity: u32, start: u64) -> Result<(Producer, Consumer), Error> {
     made_by(raw::felter_one_to_one_new_at_numbered, capacity, start)
 }
 
-/// A ring, by the call that makes its kind.
+/// Makes a ring of one kind, by the call that makes this kind.
 fn made_by(
     call: unsafe extern "C" fn(u64, u32, u64, *mut Raw, *mut Raw) -> i32,
     capacity: u32,
@@ -43,36 +44,39 @@ fn made_by(
     // SAFETY: a number that nothing else has, and two empty handles.
     done(unsafe { call(ring.raw(), capacity, start, producer.raw(), consumer.raw()) })?;
     let (writes, reads) = End::pair();
-    Ok((Producer { handle: producer, ring, end: writes }, Consumer { handle: consumer, ring, end: reads }))
+    let sizes = producer.sizes()?;
+    let producer = Producer { handle: producer, ring, end: writes, sizes };
+    Ok((producer, Consumer { handle: consumer, ring, end: reads, sizes }))
 }
 
-/// Where a ring's head and tail stand, in bytes that only rise.
+/// The head and the tail of a ring, in bytes. Both only rise.
 #[derive(Clone, Copy, Debug, PartialEq, Eq)]
 pub struct Positions {
-    /// Where the next read begins.
+    /// The position at which the next read begins.
     pub head: u64,
-    /// Where the next claim begins.
+    /// The position at which the next claim begins.
     pub tail: u64,
 }
 
 /// Writes into a ring.
 ///
-/// A producer that is dropped takes its shares of the ring with it, of which there are 65,536, and the ring is then
-/// never closed: [`join`](Producer::join) it, or [`close`](Consumer::close) the ring with it, where that matters.
+/// If a producer is dropped, its open claims are aborted, and the ring can end without the producer. But its shares are
+/// lost. A ring has 65,536 shares, and [`join`](Producer::join) gives those of a producer back.
 #[derive(Debug)]
 pub struct Producer {
-    handle: Handle,
+    pub(crate) handle: Handle,
     pub(crate) ring: Number,
-    end: End,
+    pub(crate) end: End,
+    sizes: Sizes,
 }
 
 impl Producer {
-    /// The capacity, and how many bytes the longest message has.
-    pub fn sizes(&mut self) -> Result<Sizes, Error> {
-        self.handle.sizes()
+    /// The capacity of the ring, and the length of its longest message.
+    pub fn sizes(&self) -> Result<Sizes, Error> {
+        Ok(self.sizes)
     }
 
-    /// Whether the consumer was dropped: nothing that is written will be read.
+    /// Whether the consumer was dropped. Then nothing that is written will be read.
     ///
     /// ```
     /// let (mut producer, consumer) = felter::many_to_one(128)?;
@@ -85,18 +89,20 @@ impl Producer {
         self.end.is_abandoned()
     }
 
-    /// Writes a message, by one try.
+    /// Tries once to write a message.
     ///
     /// Errors: [`Error::BadType`], [`Error::TooLong`], [`Error::PositionLimit`], [`Error::InsufficientCapacity`], and
-    /// of a many-to-one ring [`Error::Contended`].
+    /// for a many-to-one ring [`Error::Contended`].
     pub fn write(&mut self, type_id: i32, body: &[u8]) -> Result<(), Error> {
         // SAFETY: our handle, and a slice's pointer and length.
-        done(unsafe { raw::felter_write(self.handle.raw(), type_id, body.as_ptr(), body.len()) })
+        done(unsafe { raw::felter_write(self.handle.raw(), type_id, body.as_ptr(), body.len()) })?;
+        self.end.wake();
+        Ok(())
     }
 
-    /// Writes messages one after another, up to the first that is refused, and says how many were written.
+    /// Writes messages one after another, up to the first one that is refused. Returns how many were written.
     ///
-    /// Errors: those of [`write`](Producer::write), with how many were written before.
+    /// Errors: those of [`write`](Producer::write), together with how many messages were written before.
     ///
     /// ```
     /// let (mut producer, _consumer) = felter::one_to_one(128)?;
@@ -117,9 +123,11 @@ impl Producer {
         Ok(written)
     }
 
-    /// Claims room for a message of `len` bytes, which are 0 until they are put. The consumer passes no open claim.
+    /// Tries once to claim room for a message of `len` bytes, which are 0 until they are put. The consumer passes no
+    /// open claim.
     ///
-    /// Errors: as [`write`](Producer::write); [`Error::OutOfMemory`], before anything is tried.
+    /// Errors: those of [`write`](Producer::write). [`Error::OutOfMemory`] if there is no memory for one more claim;
+    /// then nothing was tried.
     ///
     /// ```
     /// let (mut producer, mut consumer) = felter::many_to_one(128)?;
@@ -134,8 +142,8 @@ impl Producer {
     /// # Ok::<(), felter::Error>(())
     /// ```
     ///
-    /// A claim does not outlive its producer, which can do nothing else meanwhile ([`keep`](Claim::keep) it to have
-    /// several open at once):
+    /// A claim borrows its producer, which can do nothing else meanwhile. To have several claims open at once,
+    /// [`keep`](Claim::keep) them. This does not compile:
     ///
     /// ```compile_fail,E0499
     /// let (mut producer, _consumer) = felter::many_to_one(128).expect("a power of two");
@@ -147,26 +155,27 @@ impl Producer {
         let mut number = 0;
         // SAFETY: our handle, and a number of ours.
         done(unsafe { raw::felter_claim(self.handle.raw(), type_id, len, &mut number) })?;
-        Ok(Claim { producer: self, number, is_open: true })
+        Ok(Claim::of(self, number))
     }
 
-    /// Makes another producer of a many-to-one ring, with one share. Claims that are kept stay this one's.
+    /// Makes another producer of a many-to-one ring, with one share. Claims that were kept stay with the first
+    /// producer.
     ///
-    /// Errors: [`Error::NoShares`], [`Error::OutOfMemory`]; [`Error::WrongHandle`] of a one-to-one ring.
+    /// Errors: [`Error::NoShares`], [`Error::OutOfMemory`], and for a one-to-one ring [`Error::WrongHandle`].
     pub fn split(&mut self) -> Result<Producer, Error> {
         let mut other = Handle::empty();
         // SAFETY: two handles, the second empty.
         done(unsafe { raw::felter_split(self.handle.raw(), other.raw()) })?;
-        Ok(Producer { handle: other, ring: self.ring, end: self.end.other(true) })
+        Ok(Producer { handle: other, ring: self.ring, end: self.end.other(true), sizes: self.sizes })
     }
 
-    /// Takes another producer of the same ring in, with its shares and the claims of it that are kept.
+    /// Joins another producer of the same ring to this one, with its shares and its claims that were kept.
     ///
-    /// Errors: [`Error::OtherRing`], [`Error::OutOfMemory`], and [`Error::WrongHandle`] of a one-to-one ring; both
-    /// producers are then as they were.
+    /// Errors: [`Error::OtherRing`], [`Error::OutOfMemory`], and for a one-to-one ring [`Error::WrongHandle`]. After an
+    /// error both producers are as they were.
     pub fn join(&mut self, mut other: Producer) -> Result<(), Refused<Producer>> {
         let joined = self.ring.must_be(other.ring).and_then(|()| {
-            // SAFETY: two handles of one ring, as their numbers tell.
+            // SAFETY: two handles of one ring, as their numbers show.
             done(unsafe { raw::felter_join(self.handle.raw(), other.handle.raw()) })
         });
         joined.map_err(|reason| Refused { reason, back: other })
@@ -180,127 +189,46 @@ impl Producer {
         Ok(Positions { head, tail })
     }
 
+    /// How many bytes of the ring are claimed and not yet read. The call loads the positions once.
+    ///
+    /// ```
+    /// let (mut producer, mut consumer) = felter::one_to_one(128)?;
+    /// assert!(producer.is_empty()? && producer.available()? == 128);
+    /// producer.write(1, b"sixteen bytes...")?;
+    /// assert_eq!((producer.used()?, producer.available()?), (24, 104));
+    /// consumer.read(&mut [0; 16])?;
+    /// assert!(producer.is_empty()?);
+    /// # Ok::<(), felter::Error>(())
+    /// ```
+    pub fn used(&mut self) -> Result<u64, Error> {
+        // (the head is loaded first, so the tail may be more than a capacity above it by then)
+        let Positions { head, tail } = self.positions()?;
+        Ok((tail - head).min(u64::from(self.sizes.capacity)))
+    }
+
+    /// How many bytes are free. A message also takes some of these bytes for its header, and for padding.
+    pub fn available(&mut self) -> Result<u64, Error> {
+        Ok(u64::from(self.sizes.capacity) - self.used()?)
+    }
+
+    /// Whether everything that was claimed was read.
+    pub fn is_empty(&mut self) -> Result<bool, Error> {
+        Ok(self.used()? == 0)
+    }
+
     /// Draws the ring's next correlation id.
     pub fn next_id(&mut self) -> Result<u64, Error> {
         self.handle.said(raw::felter_next_id)
     }
 
-    /// Loads the heartbeat that the consumer stored last, 0 before the first.
+    /// Loads the heartbeat that the consumer stored last. It is 0 before the first one.
     pub fn heartbeat(&mut self) -> Result<u64, Error> {
         self.handle.said(raw::felter_heartbeat)
     }
 
-    /// How many of the ring's 65,536 shares it holds.
+    /// How many of the ring's 65,536 shares this producer holds.
     pub fn shares(&mut self) -> Result<u32, Error> {
         self.handle.said(raw::felter_shares)
-    }
-}
-
-/// Room in a ring for one message. It is aborted where it is dropped: the consumer then passes it. One that is
-/// forgotten (`mem::forget`) stays open until its producer is dropped.
-#[derive(Debug)]
-pub struct Claim<'a> {
-    producer: &'a mut Producer,
-    number: u64,
-    is_open: bool,
-}
-
-impl Claim<'_> {
-    /// Puts bytes into the message, from a byte on.
-    ///
-    /// Errors: [`Error::PutRange`].
-    pub fn put(&mut self, offset: usize, bytes: &[u8]) -> Result<(), Error> {
-        let raw = self.producer.handle.raw();
-        // SAFETY: our producer's handle, and a slice's pointer and length.
-        done(unsafe { raw::felter_put(raw, self.number, offset, bytes.as_ptr(), bytes.len()) })
-    }
-
-    /// Shows the message to the consumer.
-    pub fn commit(mut self) {
-        // SAFETY: our producer's handle.
-        let code = unsafe { raw::felter_commit(self.producer.handle.raw(), self.number) };
-        debug_assert_eq!(code, raw::OK);
-        self.is_open = false;
-    }
-
-    /// Keeps it open, and gives its producer back, so that several can be open at once.
-    ///
-    /// ```
-    /// let (mut producer, mut consumer) = felter::many_to_one(256)?;
-    /// let first = producer.claim(1, 2)?.keep();
-    /// let second = producer.claim(2, 2)?.keep();
-    /// second.put(&mut producer, 0, b"22")?;
-    /// first.put(&mut producer, 0, b"11")?;
-    /// second.commit(&mut producer)?;
-    /// let mut room = [0; 32];
-    /// assert_eq!(consumer.read(&mut room)?, None);
-    /// first.commit(&mut producer)?;
-    /// assert_eq!(consumer.read(&mut room)?.map(|message| message.body), Some(&b"11"[..]));
-    /// assert_eq!(consumer.read(&mut room)?.map(|message| message.body), Some(&b"22"[..]));
-    /// # Ok::<(), felter::Error>(())
-    /// ```
-    pub fn keep(mut self) -> KeptClaim {
-        self.is_open = false;
-        KeptClaim { number: self.number, ring: self.producer.ring }
-    }
-}
-
-/// A claim that stays open until it is committed or aborted, or its producer is dropped, which aborts it. The consumer
-/// does not pass it before.
-///
-/// Its calls take its producer, or the one that took that producer in ([`Producer::join`]). Another producer of its
-/// ring refuses it with [`Error::NoClaim`], and one of another ring with [`Error::OtherRing`].
-#[derive(Debug)]
-#[must_use = "the consumer does not pass it before it is settled"]
-pub struct KeptClaim {
-    number: u64,
-    ring: Number,
-}
-
-impl KeptClaim {
-    /// Puts bytes into the message, from a byte on.
-    ///
-    /// Errors: [`Error::PutRange`], and those of another producer.
-    pub fn put(&self, producer: &mut Producer, offset: usize, bytes: &[u8]) -> Result<(), Error> {
-        self.ring.must_be(producer.ring)?;
-        let raw = producer.handle.raw();
-        // SAFETY: a producer's handle, and a slice's pointer and length.
-        done(unsafe { raw::felter_put(raw, self.number, offset, bytes.as_ptr(), bytes.len()) })
-    }
-
-    /// Shows the message to the consumer.
-    ///
-    /// Errors: those of another producer; the claim then comes back.
-    pub fn commit(self, producer: &mut Producer) -> Result<(), Refused<KeptClaim>> {
-        // SAFETY: a producer's handle.
-        self.settle(producer, |raw, number| unsafe { raw::felter_commit(raw, number) })
-    }
-
-    /// Lets the consumer pass it.
-    ///
-    /// Errors: those of another producer; the claim then comes back.
-    pub fn abort(self, producer: &mut Producer) -> Result<(), Refused<KeptClaim>> {
-        // SAFETY: a producer's handle.
-        self.settle(producer, |raw, number| unsafe { raw::felter_abort(raw, number) })
-    }
-
-    fn settle(
-        self,
-        producer: &mut Producer,
-        call: impl FnOnce(*mut Raw, u64) -> i32,
-    ) -> Result<(), Refused<KeptClaim>> {
-        let settled = self.ring.must_be(producer.ring).and_then(|()| done(call(producer.handle.raw(), self.number)));
-        settled.map_err(|reason| Refused { reason, back: self })
-    }
-}
-
-impl Drop for Claim<'_> {
-    fn drop(&mut self) {
-        if self.is_open {
-            // SAFETY: our producer's handle.
-            let code = unsafe { raw::felter_abort(self.producer.handle.raw(), self.number) };
-            debug_assert_eq!(code, raw::OK);
-        }
     }
 }
 
@@ -310,23 +238,25 @@ pub struct Consumer {
     pub(crate) handle: Handle,
     pub(crate) ring: Number,
     end: End,
+    sizes: Sizes,
 }
 
 impl Consumer {
-    /// The capacity, and how many bytes the longest message has.
-    pub fn sizes(&mut self) -> Result<Sizes, Error> {
-        self.handle.sizes()
+    /// The capacity of the ring, and the length of its longest message.
+    pub fn sizes(&self) -> Result<Sizes, Error> {
+        Ok(self.sizes)
     }
 
-    /// Whether every producer was dropped, or taken in by [`close`](Consumer::close): nothing more will be written.
-    /// What was written before is still to be read, so look first, and then read until there is `None`.
+    /// Whether every producer was dropped, or given to [`close`](Consumer::close). Then nothing more will be written,
+    /// but what was written before can still be read. So call this first, and then read until there is `None`.
     pub fn is_abandoned(&self) -> bool {
         self.end.is_abandoned()
     }
 
-    /// Reads the next message into a buffer; `None` where nothing is there yet.
+    /// Reads the next message into a buffer. Returns `None` if no message is there yet.
     ///
-    /// Errors: [`Error::ShortBuffer`]; the message then stays. An eighth of the capacity is always enough.
+    /// Errors: [`Error::ShortBuffer`], and then the message stays. A buffer of an eighth of the capacity is always long
+    /// enough.
     pub fn read<'a>(&mut self, buffer: &'a mut [u8]) -> Result<Option<Message<'a>>, Error> {
         let (mut type_id, mut len) = (0, 0);
         let (at, room) = (buffer.as_mut_ptr(), buffer.len());
@@ -335,12 +265,14 @@ impl Consumer {
         message_of(code, type_id, len, buffer)
     }
 
-    /// Reads up to `limit` messages into a buffer; of none the batch is empty. Fewer can come than are there.
+    /// Reads up to `limit` messages into a buffer. The batch is empty if no message is there. The call can return fewer
+    /// messages than are in the ring.
     ///
-    /// A message takes 16 bytes and its own, rounded up to 8, and one that has no room stays.
+    /// A message takes 16 bytes of the buffer, and the bytes of its body rounded up to a multiple of 8. A message that
+    /// has no room stays in the ring.
     ///
-    /// Errors: [`Error::ShortBuffer`] where the first one has no room; `wanted` is then 0, and
-    /// [`read`](Consumer::read) says its length.
+    /// Errors: [`Error::ShortBuffer`] if the first message has no room. Then `wanted` is 0, and
+    /// [`read`](Consumer::read) says the length of the message.
     ///
     /// ```
     /// let (mut producer, mut consumer) = felter::one_to_one(1024)?;
@@ -367,17 +299,22 @@ impl Consumer {
         }
     }
 
+    /// The place at which it sleeps until a producer wakes it.
+    pub(crate) fn bed(&self) -> Bed {
+        self.end.bed()
+    }
+
     /// Stores the heartbeat that producers load.
     pub fn set_heartbeat(&mut self, value: u64) -> Result<(), Error> {
         // SAFETY: our handle.
         done(unsafe { raw::felter_set_heartbeat(self.handle.raw(), value) })
     }
 
-    /// Takes the producer of this ring in, which has to hold all shares and no open claim. Nothing can be written any
-    /// more; what lies in the ring stays to be read.
+    /// Closes the ring with its last producer, which has no open claim. Nothing can be written afterwards. What is in
+    /// the ring can still be read. Before this call all other producers were joined, or dropped.
     ///
-    /// Errors: [`Error::OtherRing`]; [`Error::ClaimsOpen`], and then [`Error::ProducersOut`], where another producer
-    /// was not joined. Both are then as they were.
+    /// Errors, in this order: [`Error::OtherRing`], [`Error::ClaimsOpen`], and [`Error::ProducersOut`] if there is
+    /// another producer. After an error consumer and producer are as they were.
     ///
     /// ```
     /// use felter::Error;
@@ -398,15 +335,17 @@ impl Consumer {
     /// ```
     pub fn close(&mut self, mut producer: Producer) -> Result<(), Refused<Producer>> {
         let closed = self.ring.must_be(producer.ring).and_then(|()| {
-            // SAFETY: two handles of one ring, as their numbers tell.
+            // SAFETY: two handles of one ring, as their numbers show.
             done(unsafe { raw::felter_close(self.handle.raw(), producer.handle.raw()) })
         });
         closed.map_err(|reason| Refused { reason, back: producer })
     }
 
-    /// Ends a ring that was [closed](Consumer::close), and says how many messages were left unread.
+    /// Ends a ring that was [closed](Consumer::close), or whose producers were all dropped. Returns how many committed
+    /// messages were left unread.
     ///
-    /// Errors: [`Error::ProducersOut`], where it was not closed; the consumer comes back, and goes on.
+    /// Errors: [`Error::ProducersOut`] if the ring was not closed and a producer is still there. The error gives the
+    /// consumer back, which can go on.
     ///
     /// ```
     /// let (producer, mut consumer) = felter::one_to_one(128)?;

@@ -1,4 +1,4 @@
-//! What a consumer has before it.
+//! What a consumer finds next.
 use crate::error::Error;
 use crate::ring::{Consumer, Producer};
 
@@ -11,22 +11,23 @@ pub enum Found {
     Nothing,
     /// A claim that is not settled yet: its producer is slow, or lost.
     Claim,
-    /// Something changed meanwhile: ask again.
+    /// Something changed during the call: call again.
     Change,
 }
 
-/// What is next in a ring, and where.
+/// What is next in a ring, and its position.
 #[derive(Clone, Copy, Debug, PartialEq, Eq)]
 pub struct Standing {
-    /// What it is.
+    /// What is next.
     pub found: Found,
-    /// The head, in bytes, which is the place of the claim if it is one.
+    /// The head, in bytes. If a claim is next, the head is its place.
     pub head: u64,
 }
 
 impl Consumer {
-    /// Returns what is next in the ring, of which it needs a producer. It loads the positions, reads into no room, and
-    /// loads the positions again: padding and aborted claims before the next message are passed, which is a change.
+    /// Returns what is next in the ring. The call needs a producer of the same ring. It loads the positions, reads into
+    /// a buffer of no bytes, and loads the positions again. The read passes padding and aborted claims before the next
+    /// message. If it passed any, the result is [`Found::Change`] unless a message is next.
     ///
     /// Errors: [`Error::OtherRing`].
     ///
@@ -44,7 +45,7 @@ impl Consumer {
     pub fn standing(&mut self, producer: &mut Producer) -> Result<Standing, Error> {
         self.ring.must_be(producer.ring)?;
         let first = producer.positions()?;
-        // (a message has no room, and stays)
+        // (no message has room in this buffer, so a message stays)
         let is_message = match self.read_batch(1, &mut []) {
             Err(Error::ShortBuffer { .. }) => true,
             other => other.map(|_| false)?,

@@ -1,20 +1,24 @@
-//! Calls that wait, by trying again with pauses. Nothing of it is proved: the proved calls never wait.
+//! Calls that wait. They are not proved: the proved calls never wait.
+use crate::board::Receiver;
+use crate::ends::Bed;
 use crate::error::Error;
 use crate::message::Message;
 use crate::ring::{Consumer, Producer};
 use std::fmt;
+use std::future;
+use std::task::Poll;
 use std::thread;
 use std::time::{Duration, Instant};
 
-/// Why a call that waits has ended without what it waited for.
+/// Why a call that waits ended without a result.
 #[derive(Clone, Copy, Debug, PartialEq, Eq)]
 #[non_exhaustive]
 pub enum WaitError {
     /// The deadline has come.
     Timeout,
-    /// Every end of the other side was dropped, and of a consumer all was read.
+    /// Every end of the other side was dropped, and a reader has read all messages.
     Disconnected,
-    /// The call was refused, and would be so again.
+    /// The call was refused for a reason that does not pass.
     Refused(Error),
 }
 
@@ -28,9 +32,16 @@ impl fmt::Display for WaitError {
     }
 }
 
-impl std::error::Error for WaitError {}
+impl std::error::Error for WaitError {
+    fn source(&self) -> Option<&(dyn std::error::Error + 'static)> {
+        match self {
+            WaitError::Refused(error) => Some(error),
+            WaitError::Timeout | WaitError::Disconnected => None,
+        }
+    }
+}
 
-/// Pauses that grow: it spins, then yields, and then sleeps for up to a millisecond.
+/// Pauses that grow: first the thread spins, then it yields, and then it sleeps for up to a millisecond.
 pub(crate) struct Backoff {
     turns: u32,
     deadline: Option<Instant>,
@@ -41,7 +52,17 @@ impl Backoff {
         Backoff { turns: 0, deadline }
     }
 
-    /// Pauses, and says whether the deadline has come.
+    /// Goes back to short pauses.
+    pub(crate) fn restart(&mut self) {
+        self.turns = 0;
+    }
+
+    /// Whether the next pause spins or yields, and does not sleep.
+    fn is_awake(&self) -> bool {
+        self.turns <= 10
+    }
+
+    /// Pauses, and returns false, or returns true if the deadline has come.
     pub(crate) fn is_over(&mut self) -> bool {
         let left = match self.deadline.map(|it| it.saturating_duration_since(Instant::now())) {
             Some(Duration::ZERO) => return true,
@@ -60,8 +81,9 @@ impl Backoff {
 impl Producer {
     /// Writes a message, and tries again while the ring is full or another producer is faster.
     ///
-    /// Errors: [`WaitError::Timeout`] at the deadline (`None`: it waits for ever), [`WaitError::Disconnected`] if the
-    /// consumer was dropped, and [`WaitError::Refused`] as [`write`](Producer::write) refuses for good.
+    /// Errors: [`WaitError::Timeout`] at the deadline, [`WaitError::Disconnected`] if the consumer was dropped, and
+    /// [`WaitError::Refused`] for other errors of [`write`](Producer::write). Without a deadline the call waits for
+    /// ever.
     ///
     /// ```
     /// use std::time::{Duration, Instant};
@@ -89,10 +111,12 @@ impl Producer {
 }
 
 impl Consumer {
-    /// Reads the next message into a buffer, and waits for one.
+    /// Waits for a message, and reads it into a buffer. The call looks a few times, and then sleeps until a producer
+    /// wakes it.
     ///
-    /// Errors: [`WaitError::Timeout`] at the deadline (`None`: it waits for ever), [`WaitError::Disconnected`] if every
-    /// producer was dropped and all was read, and [`WaitError::Refused`] as [`read`](Consumer::read) refuses.
+    /// Errors: [`WaitError::Timeout`] at the deadline, [`WaitError::Disconnected`] if every producer was dropped and
+    /// all messages were read, and [`WaitError::Refused`] for the errors of [`read`](Consumer::read). Without a
+    /// deadline the call waits for ever.
     ///
     /// ```
     /// let (mut producer, mut consumer) = felter::one_to_one(128)?;
@@ -104,18 +128,130 @@ impl Consumer {
     /// # Ok::<(), felter::Error>(())
     /// ```
     pub fn recv<'a>(&mut self, buffer: &'a mut [u8], deadline: Option<Instant>) -> Result<Message<'a>, WaitError> {
-        let mut backoff = Backoff::until(deadline);
-        let (type_id, len) = loop {
-            // (looked at first: what was written before the last producer went is then still read)
+        let bed = self.bed();
+        let (type_id, len) = until_found(&bed, deadline, || {
+            // (this comes first: so the last read finds what was written before the last producer was dropped)
             let is_last = self.is_abandoned();
-            match self.read(buffer) {
-                Ok(Some(message)) => break (message.type_id, message.body.len()),
-                Err(error) => return Err(WaitError::Refused(error)),
-                Ok(None) if is_last => return Err(WaitError::Disconnected),
-                Ok(None) if backoff.is_over() => return Err(WaitError::Timeout),
-                Ok(None) => {}
-            }
-        };
+            tried(self.read(buffer), is_last)
+        })?;
         Ok(Message { type_id, body: &buffer[..len] })
+    }
+}
+
+impl Consumer {
+    /// Waits for a message as a task, and reads it into a buffer. A write wakes the task.
+    ///
+    /// Errors: [`WaitError::Disconnected`] if every producer was dropped and all messages were read, and
+    /// [`WaitError::Refused`] for the errors of [`read`](Consumer::read). If the future is dropped before it is ready,
+    /// it has taken no message.
+    ///
+    /// ```
+    /// # use std::{future::Future, pin::pin, sync::Arc, task::{Context, Poll, Wake}, thread};
+    /// # struct Unpark(thread::Thread);
+    /// # impl Wake for Unpark { fn wake(self: Arc<Self>) { self.0.unpark() } }
+    /// # fn block_on<F: Future>(task: F) -> F::Output {
+    /// #     let (mut task, waker) = (pin!(task), Arc::new(Unpark(thread::current())).into());
+    /// #     loop {
+    /// #         if let Poll::Ready(found) = task.as_mut().poll(&mut Context::from_waker(&waker)) { return found }
+    /// #         thread::park();
+    /// #     }
+    /// # }
+    /// let (mut producer, mut consumer) = felter::one_to_one(128)?;
+    /// let sender = thread::spawn(move || producer.write(1, b"woken"));
+    /// let mut room = [0; 16];
+    /// let task = consumer.recv_async(&mut room);
+    /// assert_eq!(block_on(task).map(|message| message.body), Ok(&b"woken"[..]));
+    /// sender.join().expect("it does not panic")?;
+    /// # Ok::<(), felter::Error>(())
+    /// ```
+    pub async fn recv_async<'a>(&mut self, buffer: &'a mut [u8]) -> Result<Message<'a>, WaitError> {
+        let bed = self.bed();
+        let (type_id, len) = until_woken(&bed, || {
+            let is_last = self.is_abandoned();
+            tried(self.read(buffer), is_last)
+        })
+        .await?;
+        Ok(Message { type_id, body: &buffer[..len] })
+    }
+}
+
+impl Receiver {
+    /// Waits for a message as a task, and copies it into a buffer. A transmission wakes the task. The rest is as for
+    /// [`recv`](Receiver::recv) without a deadline.
+    pub async fn recv_async<'a>(&mut self, buffer: &'a mut [u8]) -> Result<Message<'a>, WaitError> {
+        let bed = self.bed();
+        let (type_id, len) = until_woken(&bed, || {
+            let is_last = self.is_abandoned();
+            tried(self.receive(buffer), is_last)
+        })
+        .await?;
+        Ok(Message { type_id, body: &buffer[..len] })
+    }
+
+    /// Waits for a message, and copies it into a buffer of at least an eighth of the capacity.
+    ///
+    /// Errors: [`WaitError::Timeout`] at the deadline, [`WaitError::Disconnected`] if the transmitter or the conductor
+    /// was dropped and all messages were received, and [`WaitError::Refused`] for the errors of
+    /// [`receive`](Receiver::receive), also for a lap. Without a deadline the call waits for ever.
+    ///
+    /// ```
+    /// let mut transmitter = felter::Transmitter::new(256)?;
+    /// let mut receiver = transmitter.subscribe()?;
+    /// transmitter.transmit(1, b"last")?;
+    /// drop(transmitter);
+    /// let mut room = [0; 32];
+    /// assert_eq!(receiver.recv(&mut room, None).map(|message| message.body), Ok(&b"last"[..]));
+    /// assert_eq!(receiver.recv(&mut room, None), Err(felter::WaitError::Disconnected));
+    /// # Ok::<(), felter::Error>(())
+    /// ```
+    pub fn recv<'a>(&mut self, buffer: &'a mut [u8], deadline: Option<Instant>) -> Result<Message<'a>, WaitError> {
+        let bed = self.bed();
+        let (type_id, len) = until_found(&bed, deadline, || {
+            let is_last = self.is_abandoned();
+            tried(self.receive(buffer), is_last)
+        })?;
+        Ok(Message { type_id, body: &buffer[..len] })
+    }
+}
+
+/// The result of a try: the type id and the length of a message, an error, or `None` if no message is there yet.
+fn tried(found: Result<Option<Message<'_>>, Error>, is_last: bool) -> Option<Result<(i32, usize), WaitError>> {
+    match found {
+        Ok(Some(message)) => Some(Ok((message.type_id, message.body.len()))),
+        Err(error) => Some(Err(WaitError::Refused(error))),
+        Ok(None) if is_last => Some(Err(WaitError::Disconnected)),
+        Ok(None) => None,
+    }
+}
+
+/// Looks each time that the task is polled, until something is found.
+async fn until_woken<T>(bed: &Bed, mut look: impl FnMut() -> Option<Result<T, WaitError>>) -> Result<T, WaitError> {
+    future::poll_fn(|task| match look().or_else(|| bed.note(task.waker(), &mut look)) {
+        Some(found) => Poll::Ready(found),
+        None => Poll::Pending,
+    })
+    .await
+}
+
+/// Looks until something is found: a few times with short pauses, and then each time that the thread was woken.
+fn until_found<T>(
+    bed: &Bed,
+    deadline: Option<Instant>,
+    mut look: impl FnMut() -> Option<Result<T, WaitError>>,
+) -> Result<T, WaitError> {
+    let mut backoff = Backoff::until(deadline);
+    loop {
+        if let Some(found) = look() {
+            return found;
+        }
+        if backoff.is_awake() {
+            if backoff.is_over() {
+                return Err(WaitError::Timeout);
+            }
+        } else if let Some(found) = bed.sleep(deadline, &mut look) {
+            return found;
+        } else if deadline.is_some_and(|it| it <= Instant::now()) {
+            return look().unwrap_or(Err(WaitError::Timeout));
+        }
     }
 }

@@ -3,7 +3,7 @@ use felter::{Conductor, Counters, Error, Sizes, Transmitter};
 
 #[test]
 fn ends_say_their_sizes() {
-    let (mut producer, mut consumer) = felter::one_to_one(512).unwrap();
+    let (producer, consumer) = felter::one_to_one(512).unwrap();
     let mut transmitter = Transmitter::new(4096).unwrap();
     let (mut receiver, mut raw) = (transmitter.subscribe().unwrap(), transmitter.subscribe_raw().unwrap());
     let of_ring = Ok(Sizes { capacity: 512, max_message: 64 });

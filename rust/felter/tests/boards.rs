@@ -76,7 +76,10 @@ fn refusals_have_their_numbers_and_change_nothing() {
     let lapped = receiver.receive(&mut room).unwrap_err();
     // It looked for the record at 552, and goes on with the one at 808: those of 40 bytes before it, and padding.
     assert_eq!(lapped, Error::Lapped { count: 1, missed_bytes: 256 });
-    assert_eq!((lapped.number(), lapped.to_string().as_str()), (13, "13 Lapped 1 missed_bytes 256"));
+    assert_eq!(
+        (lapped.number(), lapped.to_string().as_str()),
+        (13, "the transmitter overtook the receiver: 1 times by now, 256 bytes missed")
+    );
     assert_eq!(receiver.lap().map(|lap| lap.map(|it| it.place)), Ok(Some(552)));
     assert_eq!(receiver.place(), Ok(808));
     assert_eq!(receiver.receive(&mut room), Ok(Some(Message { type_id: 16, body: &[6; 26] })));

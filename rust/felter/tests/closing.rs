@@ -37,7 +37,7 @@ fn a_ring_is_closed_and_read_on_and_says_what_was_left() {
 #[test]
 fn padding_and_aborted_claims_are_not_left() {
     let (mut producer, mut consumer) = many_to_one(128).unwrap();
-    // Each takes 24 bytes, and the sixth lies behind padding.
+    // Each takes 24 bytes, and the sixth comes after padding.
     for type_id in 1..=5 {
         producer.write(type_id, BODY).unwrap();
     }
@@ -56,13 +56,16 @@ fn a_close_is_refused_until_claims_are_settled_and_producers_joined() {
     let mut other = producer.split().unwrap();
     let first = producer.claim(1, 16).unwrap().keep();
     let refused = consumer.close(producer).unwrap_err();
-    assert_eq!((refused.reason, refused.to_string().as_str()), (Error::ClaimsOpen, "10 ClaimsOpen"));
+    assert_eq!((refused.reason, refused.to_string().as_str()), (Error::ClaimsOpen, "a claim of the producer is open"));
     producer = refused.back;
     first.put(&mut producer, 0, BODY).unwrap();
     first.commit(&mut producer).unwrap();
     let second = other.claim(2, 0).unwrap().keep();
     let refused = consumer.close(producer).unwrap_err();
-    assert_eq!((refused.reason, refused.to_string().as_str()), (Error::ProducersOut, "11 ProducersOut"));
+    assert_eq!(
+        (refused.reason, refused.to_string().as_str()),
+        (Error::ProducersOut, "a producer or a client is still in a handle")
+    );
     producer = refused.back;
     producer.join(other).unwrap();
     let refused = consumer.close(producer).unwrap_err();
@@ -74,13 +77,37 @@ fn a_close_is_refused_until_claims_are_settled_and_producers_joined() {
     consumer.close(producer).unwrap();
     expect_one(&mut consumer, 1);
     assert_eq!(consumer.finish().unwrap(), 1);
-    // One that is dropped is missed for good.
+}
+
+/// Producers that were dropped are not missed: what they committed stays, and what they claimed is aborted.
+#[test]
+fn a_ring_is_closed_without_producers_that_were_dropped() {
     let (mut producer, mut consumer) = many_to_one(256).unwrap();
-    drop(producer.split().unwrap());
+    let (mut other, third) = (producer.split().unwrap(), producer.split().unwrap());
+    other.write(1, BODY).unwrap();
+    let _ = other.claim(2, 16).unwrap().keep();
+    producer.write(3, BODY).unwrap();
+    other.write(4, BODY).unwrap();
+    drop(other);
     let refused = consumer.close(producer).unwrap_err();
     assert_eq!(refused.reason, Error::ProducersOut);
-    drop(refused.back);
-    assert_eq!(consumer.finish().unwrap_err().reason, Error::ProducersOut);
+    drop(third);
+    consumer.close(refused.back).unwrap();
+    expect_one(&mut consumer, 1);
+    expect_one(&mut consumer, 3);
+    assert_eq!(consumer.finish().unwrap(), 1);
+    // The last one too.
+    let (mut producer, consumer) = many_to_one(256).unwrap();
+    producer.write(1, BODY).unwrap();
+    let _ = producer.claim(2, 16).unwrap().keep();
+    producer.write(3, BODY).unwrap();
+    let refused = consumer.finish().unwrap_err();
+    assert_eq!(refused.reason, Error::ProducersOut);
+    drop(producer);
+    assert_eq!(refused.back.finish().unwrap(), 2);
+    let (producer, consumer) = one_to_one(128).unwrap();
+    drop(producer);
+    assert_eq!(consumer.finish().unwrap(), 0);
 }
 
 #[test]
@@ -149,8 +176,10 @@ fn a_board_is_closed_when_its_receivers_are_back() {
     transmitter.join_raw(raw).unwrap();
     assert_eq!(transmitter.close().unwrap(), 512 + 16 + 40 + 8);
     let mut transmitter = Transmitter::new(256).unwrap();
-    drop(transmitter.subscribe_raw().unwrap());
-    assert_eq!(transmitter.close().unwrap_err().reason, Error::ReceiversOut);
+    transmitter.transmit(1, &[7; 26]).unwrap();
+    // Receivers that were dropped are not missed.
+    drop((transmitter.subscribe().unwrap(), transmitter.subscribe_raw().unwrap()));
+    assert_eq!(transmitter.close().unwrap(), 40);
 }
 
 #[test]

@@ -59,7 +59,7 @@ fn run_client(client: &mut Client, owner: u64) -> u32 {
     counter
 }
 
-/// Works until it is told to stop and no command is left.
+/// Works until it is asked to stop and no command is left.
 fn conduct(stop: &AtomicBool, conductor: &mut Conductor) {
     for beat in 1.. {
         let is_last = stop.load(SeqCst);
@@ -73,7 +73,7 @@ fn conduct(stop: &AtomicBool, conductor: &mut Conductor) {
     }
 }
 
-/// Reads all values until it is told to stop; none ever falls.
+/// Reads all values until it is asked to stop; none ever falls.
 fn watch(stop: &AtomicBool, reader: &mut Reader) {
     let mut latest = [0; CLIENTS as usize];
     while !stop.load(SeqCst) {
@@ -187,7 +187,7 @@ fn refusals_have_their_numbers_and_change_nothing() {
     assert_eq!(client.free(0), Ok(7));
     assert_eq!(conductor.work(0, 9), Ok(Work { messages: 0, stopped: WorkStop::Block }));
     for _ in 0..12 {
-        // (one call up to the end of the buffer, and one behind it)
+        // (one call up to the end of the buffer, and one after it)
         conductor.work(0, 9).unwrap();
         conductor.work(0, 9).unwrap();
         client.free(0).unwrap();
@@ -198,10 +198,10 @@ fn refusals_have_their_numbers_and_change_nothing() {
     assert_eq!(client.poll(19), Ok(Polled::Answered(Reply::Refused { reason })));
     assert_eq!((client.heartbeat(), conductor.set_heartbeat(u64::MAX)), (Ok(0), Ok(())));
     assert_eq!(client.heartbeat(), Ok(u64::MAX));
-    assert_eq!(Error::ProducersOut.to_string(), "11 ProducersOut");
-    assert_eq!(Error::ReceiversOut.to_string(), "14 ReceiversOut");
-    assert_eq!(Error::OtherReply.to_string(), "109 OtherReply");
-    assert_eq!(Error::InUse.to_string(), "110 InUse");
+    assert_eq!(Error::ProducersOut.to_string(), "a producer or a client is still in a handle");
+    assert_eq!(Error::ReceiversOut.to_string(), "a receiver is still in a handle");
+    assert_eq!(Error::OtherReply.to_string(), "the message is the reply to another command, or no reply");
+    assert_eq!(Error::InUse.to_string(), "another handle holds what was to be closed");
 }
 
 #[test]
@@ -214,7 +214,10 @@ fn a_finish_is_refused_until_all_came_back() {
     conductor = refused.back;
     conductor.join(client).unwrap();
     let refused = conductor.finish().unwrap_err();
-    assert_eq!((refused.reason, refused.to_string().as_str()), (Error::ReceiversOut, "14 ReceiversOut"));
+    assert_eq!(
+        (refused.reason, refused.to_string().as_str()),
+        (Error::ReceiversOut, "a receiver is still in a handle")
+    );
     conductor = refused.back;
     // It goes on as before.
     let mut client = conductor.client().unwrap();
@@ -231,8 +234,11 @@ fn a_finish_is_refused_until_all_came_back() {
     drop(reader);
     assert_eq!(refused.back.finish().unwrap(), Finished { received: 1, left: 1 });
     let mut conductor = Conductor::new(256, 256, 1, 0).unwrap();
-    drop(conductor.client().unwrap());
-    assert_eq!(conductor.finish().unwrap_err().reason, Error::ProducersOut);
+    // Clients and receivers that were dropped are not missed.
+    let mut client = conductor.client().unwrap();
+    client.close_owner(5).unwrap();
+    drop((client, conductor.subscribe().unwrap()));
+    assert_eq!(conductor.finish().unwrap(), Finished { received: 0, left: 1 });
 }
 
 #[test]

@@ -12,7 +12,8 @@ fn refused_handles_convert_into_boxed_errors() {
         Ok(())
     }
     let refused = join_two_rings().unwrap_err();
-    assert_eq!(refused.to_string(), "108 OtherRing");
+    let text = "the two handles are of two rings, boards, conductors or sets of counters";
+    assert_eq!(refused.to_string(), text);
     assert_eq!(refused.source().and_then(|it| it.downcast_ref()), Some(&Error::OtherRing));
 }
 
@@ -36,4 +37,16 @@ fn numbers_are_those_of_c() {
     producer.write(1, b"twelve bytes").expect("there is room");
     assert_eq!(consumer.read(&mut [0; 4]).unwrap_err(), Error::ShortBuffer { wanted: 12 });
     assert_eq!(producer.split().unwrap_err().number(), 101);
+}
+
+#[test]
+fn errors_say_what_is_wrong_and_name_their_cause() {
+    assert_eq!(Error::InsufficientCapacity.to_string(), "the ring is full");
+    assert_eq!(Error::Unknown(99).to_string(), "unknown code 99");
+    let waited = felter::WaitError::Refused(Error::BadType);
+    let cause = std::error::Error::source(&waited).and_then(|it| it.downcast_ref());
+    assert_eq!((cause, waited.to_string().as_str()), (Some(&Error::BadType), "the type id is below 1"));
+    assert!(std::error::Error::source(&felter::WaitError::Timeout).is_none());
+    let sent = felter::RequestError::NotSent(Error::TooLong);
+    assert!(std::error::Error::source(&sent).is_some() && sent.to_string().starts_with("the command was not sent: "));
 }

@@ -115,12 +115,15 @@ fn refusals_have_their_numbers_and_change_nothing() {
     let (mut producer, mut consumer) = felter::many_to_one_at(128, 1280).expect("a start");
     assert_eq!(producer.write(0, b""), Err(Error::BadType));
     assert_eq!(producer.write(1, &[0; 17]), Err(Error::TooLong));
-    assert_eq!(Error::TooLong.to_string(), "5 TooLong");
+    assert_eq!(Error::TooLong.to_string(), "the message has more than an eighth of the capacity, or the command 520");
     assert_eq!(producer.claim(1, 4).unwrap().put(3, b"ab"), Err(Error::PutRange));
     producer.write(6, b"sixteen bytes...").expect("there is room");
     let short = consumer.read(&mut [0; 15]).unwrap_err();
     assert_eq!(short, Error::ShortBuffer { wanted: 16 });
-    assert_eq!((short.number(), short.to_string().as_str()), (106, "106 ShortBuffer wanted 16"));
+    assert_eq!(
+        (short.number(), short.to_string().as_str()),
+        (106, "the message is longer than the buffer, and stays: 16 bytes are needed")
+    );
     let mut room = [0; 16];
     let read = consumer.read(&mut room).unwrap();
     assert_eq!(read, Some(Message { type_id: 6, body: b"sixteen bytes..." }));

@@ -1,4 +1,4 @@
-//! The queues, behind one trait.
+//! The queues, with one trait for all.
 
 use crossbeam_channel::{bounded, Receiver, Sender};
 use crossbeam_queue::ArrayQueue;

@@ -1,4 +1,4 @@
-//! The workloads: each is done so many times, and returns what that took.
+//! The workloads: each is done a given number of times, and returns what that took.
 
 use crate::protocol::{Request, Sample};
 use crate::queue::Queue;

@@ -5,8 +5,8 @@ ghost use Rattle.ring_handles.specs.Kinds.{a_client};
 ghost use Rattle.ring_c.specs.Told.{Yields};
 
 use crate::work_on::work_on;
-use ring_conductor::Request;
 use ring_handles::Handle;
+use ring_service::Request;
 use std::alloc::Global;
 
 /// Sends a command that allocates a counter, and says its correlation id.

@@ -5,8 +5,10 @@ use crate::work_on::end_with;
 use ring_handles::Handle;
 use std::alloc::Global;
 
-/// Ends a conductor whose clients and receivers were all taken back, empties its handle, and says how many commands it
-/// received and how many were left in the ring.
+/// Ends a conductor, empties its handle, and says how many commands it received and how many were left in the ring.
+/// Clients and receivers that were freed are not missed. If another handle has what the conductor shares, it returns 11
+/// if shares of the ring are missing, then 14 if shares of the broadcast buffer are, and otherwise 110; the handle is
+/// unchanged then.
 #[unsafe(no_mangle)]
 pub extern "C" fn felter_conductor_finish(
     alloc: Global,

@@ -11,10 +11,10 @@ use crate::work_on::{end_with, join_into};
 use ring_handles::Handle;
 use std::alloc::Global;
 
-/// Ends writing to a ring: takes the producer of a consumer's ring in, if it has all shares and no open claim, and
-/// empties its handle. What is in the ring can be read as before. Returns 108 if the consumer has its ring's producer
-/// already, or if this is one of another ring, as kind and number say; then 10 if claims are open, then 11 if shares
-/// are with other producers. Both handles are unchanged then.
+/// Ends writing to a ring: takes the last producer of a consumer's ring in, if it has no open claim, and empties its
+/// handle. What is in the ring can be read as before. Producers that were freed are not missed. Returns 108 if the
+/// consumer has its ring's producer already, or if this is one of another ring, as kind and number say; then 10 if
+/// claims are open, then 11 if another producer is in a handle. Both handles are unchanged then.
 #[unsafe(no_mangle)]
 pub extern "C" fn felter_close(alloc: Global, consumer: &mut Handle, producer: &mut Handle) -> i32
     requires { WhereBoth a_consumer a_producer IsOfThisRing consumer.old.held producer.old.held }
@@ -24,9 +24,9 @@ pub extern "C" fn felter_close(alloc: Global, consumer: &mut Handle, producer: &
     join_into!(consumer, producer, alloc, Consumer(side), Producer(joining) => side.close(joining))
 }
 
-/// Takes a ring apart whose producer its consumer has taken in, empties the consumer's handle, and says how many
-/// messages were left unread. Returns 11 if no producer was taken in, or 110 if another handle has the ring; the handle
-/// is unchanged then.
+/// Takes a ring apart, empties the consumer's handle, and says how many committed messages were left unread. Producers
+/// that were freed are not missed. Returns 11 if no producer was taken in and one is in a handle, or 110 if one was
+/// taken in and another handle has the ring; the handle is unchanged then.
 #[unsafe(no_mangle)]
 pub extern "C" fn felter_finish(alloc: Global, consumer: &mut Handle, left: &mut u64) -> i32
     ensures { EndsAs a_consumer Finishes IsUnfinished left.old left.new consumer.old.held consumer.new.held result }
@@ -64,9 +64,9 @@ pub extern "C" fn felter_board_join_raw(
     join_into!(transmitter, receiver, alloc, Transmitter(side), RawReceiver(joining) => side.join_raw(joining))
 }
 
-/// Takes a broadcast buffer apart whose receivers were all taken back, empties the transmitter's handle, and says where
-/// the last transmission ended. Returns 14 if shares are with receivers, then 110 if another handle has the broadcast
-/// buffer; the handle is unchanged then.
+/// Takes a broadcast buffer apart, empties the transmitter's handle, and says where the last transmission ended.
+/// Receivers that were freed are not missed. If another handle has the broadcast buffer, it returns 14 if shares are
+/// missing, and 110 if none is; the handle is unchanged then.
 #[unsafe(no_mangle)]
 pub extern "C" fn felter_board_close(alloc: Global, transmitter: &mut Handle, tail: &mut u64) -> i32
     ensures { EndsAs a_transmitter BoardEndsAt IsBoardKept tail.old tail.new transmitter.old.held transmitter.new.held

@@ -18,22 +18,23 @@ pub extern "C" fn felter_split(alloc: Global, producer: &mut Handle, other: &mut
     make_into!(producer, alloc, Producer(side) => side.split(alloc), other, Producer)
 }
 
-/// Aborts the open claims of what is freed.
-fn close(held: &mut Held)
-    ensures { ClosesHeld held.old held.new }
+/// What is dropped of what a handle owned: the same, but every open claim of a producer is aborted.
+fn settled(mut held: Box<Held>) -> Box<Held>
+    ensures { ClosesHeld held.value result.value }
 {
-    if let Held::Producer(side) = held {
+    if let Held::Producer(side) = &mut *held {
         side.abort_open();
     }
+    held
 }
 
-/// Frees what a handle owns, and empties it. Open claims are aborted.
+/// Frees what a handle owns, and empties it. Before a producer is freed, its open claims are aborted, so that the
+/// consumer passes them: `settled` does that. No clause can say it of a handle that is empty afterwards, so it is tested.
 #[unsafe(no_mangle)]
 pub extern "C" fn felter_free(alloc: Global, handle: &mut Handle)
     ensures { handle.new.held ≡ None }
 {
-    if let Some(mut held) = handle.take(alloc) {
-        close(&mut held);
-        handle.fill(held, None);
+    if let Some(held) = handle.take(alloc) {
+        handle.fill(settled(held), None);
     }
 }

@@ -4,7 +4,7 @@ ghost use Rattle.ring_handles.specs.Calling.{number_in, poll_out, send_code, Cli
 
 use crate::client::ClientSide;
 use crate::code::{DONE, LAPPED, NO_MESSAGE, OTHER_REPLY, TOO_LONG};
-use ring_conductor::{Polled, Reply, Request, SendFault};
+use ring_service::{Polled, Reply, Request, SendFault};
 
 /// The number of why a command was not sent.
 fn send_number(fault: SendFault) -> i32

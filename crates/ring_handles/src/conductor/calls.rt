@@ -7,7 +7,7 @@ use crate::code::{BAD_MOMENT, DONE, NO_SHARES};
 use crate::conductor::ConductorSide;
 use crate::counting::LAST_MOMENT;
 use crate::lending::Shared;
-use ring_conductor::{Client, WorkStop};
+use ring_service::{Client, WorkStop};
 use std::alloc::Global;
 
 /// The number of why a conductor stopped.

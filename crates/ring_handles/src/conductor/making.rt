@@ -7,11 +7,11 @@ use crate::conductor::ConductorSide;
 use crate::identity::Identity;
 use crate::lending::Shared;
 use ring_board::Board;
-use ring_conductor::Conductor;
 use ring_counters::CountersManager;
 use ring_layout::counter_descriptor::MAX_COUNTERS;
 use ring_layout::{ALL_SHARES, is_board_capacity, is_capacity};
 use ring_rings::PlainManyToOneRing;
+use ring_service::Conductor;
 use std::alloc::Global;
 use std::sync::Arc;
 

@@ -107,13 +107,16 @@ fn use_ring(ring: &mut SoloRing, numbers: &mut Numbers) {
     if numbers.next() % 3 == 0 {
         let _ = ring.read(2, &mut Pass);
     }
-    if let Ok(mut claim) = ring.claim(9, len) {
-        let _ = ring.put(&mut claim, 0, &body[..len]);
-        match numbers.next() % 8 {
-            0 | 1 => ring.abort(claim),
-            2 => {}
-            _ => ring.commit(claim),
+    match ring.claim(9, len) {
+        Ok(mut claim) => {
+            let _ = ring.put(&mut claim, 0, &body[..len]);
+            match numbers.next() % 8 {
+                0 | 1 => ring.abort(claim),
+                2 => claim.leak(),
+                _ => ring.commit(claim),
+            }
         }
+        Err(_) => {}
     }
 }
 

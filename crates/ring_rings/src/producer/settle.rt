@@ -110,6 +110,7 @@ impl<K, B: Bodies> Ring<K, B> {
             state,
         );
         producer.open_claims -= 1;
+        claim.spend();
     }
 
     /// Settles an open claim: the consumer is shown its message.

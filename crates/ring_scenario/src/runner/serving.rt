@@ -1,5 +1,5 @@
 //! The calls of the conductor's side: what they print, and how commands go into the ring.
-ghost use Rattle.std.specs.Prelude.{◌≡◌, IfErr, IfOk, string_bytes, ◌↔◌, length, IfNone, IfSome, IsSome, OnOk};
+ghost use Rattle.std.specs.Prelude.{◌≡◌, ◌≢◌, IfErr, IfOk, string_bytes, ◌↔◌, length, IfNone, IfSome, IsSome, OnOk};
 ghost use Rattle.ring_protocol.specs.Command.{content_of_request};
 ghost use Rattle.ring_rings.specs.Seats.{capacity_of, view_of, IsProducerOf, OpensNone};
 ghost use Rattle.ring_standalone.specs.Claims.{RefusesAfter, WritesAfter};
@@ -12,10 +12,10 @@ use crate::printer::hex_word;
 use crate::refusal::Refusal;
 use crate::runner::Runner;
 use crate::service::CommandService;
-use ring_conductor::{Request, Work, WorkStop, encode_request};
 use ring_counters::CounterInfo;
-use ring_lines::{LineFault, Moment, ServiceCall};
+use ring_lines::{LineError, LineFault, Moment, ServiceCall};
 use ring_rings::{ClaimFault, ManyToOneRing, Producer};
+use ring_service::{Request, Work, WorkStop, encode_request};
 use std::alloc::{AllocError, Global};
 use std::sync::Wait;
 
@@ -32,7 +32,7 @@ impl Runner {
     pub(super) fn serve<R: Wait>(&mut self, rt: &R, call: ServiceCall) -> Result<String, LineFault>
         ensures line { IfOk result (λ text. Serves call self.old.service self.new.service (string_bytes text)) }
         ensures rest { OnOk result (KeepsButService self.old self.new) }
-        ensures bad { IfErr result (λ fault. fault ≡ LineFault.Bad → CannotServe call self.old.service) }
+        ensures bad { IfErr result (λ fault. fault ≢ LineFault.OutOfMemory → CannotServe call self.old.service) }
     {
         self.serves = true;
         let text = match call {
@@ -46,7 +46,9 @@ impl Runner {
             ServiceCall::Watch => self.watch()?,
             ServiceCall::Peek { number, id } => self.peek(number, id)?,
             ServiceCall::Unwatch { number } => {
-                self.service.unwatch(number).ok_or(LineFault::Bad)?;
+                self.service
+                    .unwatch(number)
+                    .ok_or(LineFault::Bad(LineError::NotHeld))?;
                 self.ok()?
             }
         };
@@ -66,10 +68,10 @@ impl Runner {
         ensures line { IfOk result (λ text. RequestsLine (content_of_request request.entry) self.old.service
             self.new.service (string_bytes text)) }
         ensures rest { KeepsOthers self.old self.new }
-        ensures bad { IfErr result (λ fault. fault ≡ LineFault.Bad → ¬ FitsRoom (content_of_request request.entry)) }
+        ensures bad { IfErr result (λ fault. fault ≢ LineFault.OutOfMemory → ¬ FitsRoom (content_of_request request.entry)) }
     {
         let Some(sent) = self.service.request(rt, request) else {
-            return Err(LineFault::Bad);
+            return Err(LineFault::Bad(LineError::CommandTooLong));
         };
         Ok(self.identified("sent", sent)?)
     }
@@ -96,11 +98,11 @@ impl Runner {
         ensures line { IfOk result (λ text.
             HearsLine number self.old.service self.new.service (string_bytes text)) }
         ensures rest { KeepsOthers self.old self.new }
-        ensures bad { IfErr result (λ fault. fault ≡ LineFault.Bad
+        ensures bad { IfErr result (λ fault. fault ≢ LineFault.OutOfMemory
             → IsFree (held_in self.old.service.listeners) number) }
     {
         let Some(received) = self.service.hear(self.alloc, number) else {
-            return Err(LineFault::Bad);
+            return Err(LineFault::Bad(LineError::NotHeld));
         };
         let received = received?;
         Ok(self.received(received)?)
@@ -133,11 +135,11 @@ impl Runner {
         ensures line { IfOk result (λ text.
             PeeksLine number id self.old.service self.new.service (string_bytes text)) }
         ensures rest { KeepsOthers self.old self.new }
-        ensures bad { IfErr result (λ fault. fault ≡ LineFault.Bad
+        ensures bad { IfErr result (λ fault. fault ≢ LineFault.OutOfMemory
             → IsFree (held_in self.old.service.watchers) number) }
     {
         let Some(loaded) = self.service.peek(number, id) else {
-            return Err(LineFault::Bad);
+            return Err(LineFault::Bad(LineError::NotHeld));
         };
         Ok(self.loaded(loaded)?)
     }

@@ -3,15 +3,15 @@ ghost use Rattle.std.specs.Prelude.{◌≡◌, ◌+◌, ◌<◌, ◌↔◌, IfNo
 ghost use Rattle.ring_layout.specs.Refusals.{all_shares};
 ghost use Rattle.ring_counters.specs.Manager.{writes_of};
 ghost use Rattle.ring_counters.specs.Seats.{values_count};
-ghost use Rattle.ring_conductor.specs.Conducting.{manager_in, value_shares_of, KeepsAllCounters};
+ghost use Rattle.ring_service.specs.Conducting.{manager_in, value_shares_of, KeepsAllCounters};
 ghost use Rattle.ring_counters.specs.declared.values.seats.ValueReader.{ValueReader};
 ghost use Rattle.ring_standalone.specs.Held.{IsFree, IsHeld, held_count, held_in};
 ghost use Rattle.ring_scenario.specs.Keeping.{KeepsButWatchers, KeepsRing};
 ghost use Rattle.ring_scenario.specs.Watchers.{AreWatchedBy, AreWatchers, Peeks, Unwatches, Watches};
 
 use super::CommandService;
-use ring_conductor::Conductor;
 use ring_counters::{BadId, CounterValues, NoShares, ValueReader};
+use ring_service::Conductor;
 use ring_standalone::Numbered;
 use std::alloc::AllocError;
 

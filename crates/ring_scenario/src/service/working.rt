@@ -3,13 +3,13 @@ ghost use Rattle.std.specs.Prelude.{◌≡◌, IfOk};
 ghost use Rattle.ring_counters.specs.Infos.{AreInfos};
 ghost use Rattle.ring_counters.specs.Manager.{registry_of};
 ghost use Rattle.ring_counters.specs.Registry.{answer, counter_at, id_refusal_of, live_of};
-ghost use Rattle.ring_conductor.specs.Conducting.{Works, manager_in, ledger_of, ring_view};
+ghost use Rattle.ring_service.specs.Conducting.{Works, manager_in, ledger_of, ring_view};
 ghost use Rattle.ring_scenario.specs.Keeping.{KeepsButConductor};
 
 use super::CommandService;
-use ring_conductor::Work;
 use ring_counters::{CounterInfo, IdFault, OutOfMemory};
 use ring_lines::Moment;
+use ring_service::Work;
 use std::alloc::Global;
 
 impl CommandService {

@@ -125,6 +125,7 @@ impl SoloRing {
         ensures others { (t : ClaimAt) → IsOpen self.old t → t.place ≢ claim.place → IsOpen self.new t }
     {
         settle_at(&mut self.words, self.capacity, &claim, state);
+        claim.spend();
     }
 
     /// Settles an open claim of this ring: the reader is shown its message.

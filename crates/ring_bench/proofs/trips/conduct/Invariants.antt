@@ -1,5 +1,5 @@
 use Rattle.ring_rings.specs.Seats.{IsConsumerOf}
-use Rattle.ring_conductor.specs.Conducting.{IsConductorOf}
+use Rattle.ring_service.specs.Conducting.{IsConductorOf}
 use Rattle.ring_bench.proofs.trips.conduct.Given as goal
 
 abbrev pub invariant-loop : goal.invariant-loop

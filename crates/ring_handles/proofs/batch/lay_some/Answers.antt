@@ -10,7 +10,8 @@ returns-clause-reads g c = reads_on _ _ _ _ _ _ _ c.controlled_read.ensures.cont
 
 pub returns-clause-some : goal.returns-clause-some
 returns-clause-some g c =
-    some_taken _ _ _ _ _ _ c.requires.fresh.0 c.controlled_read.ensures.ends.within c.controlled_read.ensures.controls
+    let read = c.controlled_read.ensures in
+    some_taken _ _ _ _ _ _ c.requires.fresh.0 read.ends read.controls
 
 pub returns-clause-none : goal.returns-clause-none
 returns-clause-none g c =

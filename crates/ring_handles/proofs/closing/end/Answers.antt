@@ -1,7 +1,7 @@
 use Rattle.std.proofs.Common.{◌∙◌}
 use Rattle.ring_table.proofs.LawLemmas.{none_open}
-use Rattle.ring_rings.specs.Seats.{claims_of, start_of}
-use Rattle.ring_conductor.proofs.FinishLemmas.{drained}
+use Rattle.ring_rings.specs.Seats.{claims_of}
+use Rattle.ring_service.proofs.FinishLemmas.{drained}
 use Rattle.ring_handles.proofs.EndingLemmas.{none_is_open, rest_counts}
 use Rattle.ring_handles.proofs.closing.end.Goals as goal
 
@@ -16,7 +16,6 @@ returns g c =
     record {
       left =
           record {
-            start = start_of c.args.ring;
             ordered = out.ordered;
             rest = whole.unread;
             left_is = c.from.ensures ∙ rest_counts _ _ _ _ whole.all all;

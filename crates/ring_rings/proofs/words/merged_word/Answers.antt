@@ -9,7 +9,6 @@ use Rattle.ring_rings.proofs.words.merged_word.Goals as goal
 pub returns-clause-word : goal.returns-clause-word
 unfolding body_word
 returns-clause-word c nth d k has is_open same fits =
-    let some = c.requires.some in
     let told = c.load_own_word.ensures.told nth d (8 * k) has is_open (omega arith) (omega arith) same in
     let small = small_at d.message.body told.1 in (
       c.put_bytes_word.ensures

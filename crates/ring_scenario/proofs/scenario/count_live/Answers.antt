@@ -1,6 +1,6 @@
 use Rattle.std.proofs.Common.{ap, inl, length, arith}
 use Rattle.ring_counters.specs.Manager.{registry_of}
-use Rattle.ring_conductor.proofs.SizeLemmas.{few_live}
+use Rattle.ring_service.proofs.SizeLemmas.{few_live}
 use Rattle.ring_scenario.proofs.scenario.count_live.Goals as goal
 
 pub count-requires-clause-fits : goal.count-requires-clause-fits

@@ -1,6 +1,6 @@
 use Rattle.std.proofs.Common.{arith}
 use Rattle.ring_counters.specs.Manager.{registry_of}
-use Rattle.ring_conductor.proofs.SizeLemmas.{few_live}
+use Rattle.ring_service.proofs.SizeLemmas.{few_live}
 use Rattle.ring_storm.proofs.report.count_live.Goals as goal
 
 pub overflow_add-live : goal.overflow_add-live

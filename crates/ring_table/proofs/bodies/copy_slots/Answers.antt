@@ -12,7 +12,6 @@ put k w scratch = overwritten (8 * k) (to_le_bytes w64 w) scratch
 
 long_put : (k w : ℕ) (scratch : List ℕ) → 8 * k + 8 ≤ length scratch → length (put k w scratch) ≡ length scratch
 long_put k w scratch room =
-    let eight : length (to_le_bytes w64 w) ≡ 8 = refl in
     length-overwritten (8 * k) (to_le_bytes w64 w) scratch (omega arith)
 
 -- the words that were read so far in a turn, as if each was stored
@@ -53,10 +52,7 @@ module _ (first k n : ℕ) (scratch : List ℕ) (before h0 : List (ℕ × ℕ)) 
 pub look_slot-w-requires-clause-front : goal.look_slot-w-requires-clause-front
 look_slot-w-requires-clause-front c =
     let k : ℕ = 4 * c.loop-turn.turn in
-    let less = c.loop-turn-test.true in
     let inv = c.loop-turn.invariant in
-    let room = c.requires.room in
-    let long : length c.loop-turn.scratch ≡ length c.args.scratch.now = inv.2 in
     let held : List (ℕ × ℕ) = c.args.seat.now.me.1 in
     let n : ℕ = c.args.count in
     copy_front c.args.first k n c.loop-turn.scratch held c.loop-turn.seat.me.1 (omega arith) inv.0
@@ -64,10 +60,7 @@ look_slot-w-requires-clause-front c =
 pub look_slot-x-requires-clause-front : goal.look_slot-x-requires-clause-front
 look_slot-x-requires-clause-front c =
     let k : ℕ = 4 * c.loop-turn.turn in
-    let less = c.loop-turn-test.true in
     let inv = c.loop-turn.invariant in
-    let room = c.requires.room in
-    let long : length c.loop-turn.scratch ≡ length c.args.scratch.now = inv.2 in
     let held : List (ℕ × ℕ) = c.args.seat.now.me.1 in
     let n : ℕ = c.args.count in
     copy_front c.args.first (k + 1) n _ held c.look_slot-w.new.seat.me.1 (omega arith)
@@ -77,10 +70,7 @@ look_slot-x-requires-clause-front c =
 pub look_slot-y-requires-clause-front : goal.look_slot-y-requires-clause-front
 look_slot-y-requires-clause-front c =
     let k : ℕ = 4 * c.loop-turn.turn in
-    let less = c.loop-turn-test.true in
     let inv = c.loop-turn.invariant in
-    let room = c.requires.room in
-    let long : length c.loop-turn.scratch ≡ length c.args.scratch.now = inv.2 in
     let held : List (ℕ × ℕ) = c.args.seat.now.me.1 in
     let n : ℕ = c.args.count in
     copy_front c.args.first (k + 1 + 1) n _ held c.look_slot-x.new.seat.me.1 (omega arith)
@@ -91,10 +81,7 @@ look_slot-y-requires-clause-front c =
 pub look_slot-z-requires-clause-front : goal.look_slot-z-requires-clause-front
 look_slot-z-requires-clause-front c =
     let k : ℕ = 4 * c.loop-turn.turn in
-    let less = c.loop-turn-test.true in
     let inv = c.loop-turn.invariant in
-    let room = c.requires.room in
-    let long : length c.loop-turn.scratch ≡ length c.args.scratch.now = inv.2 in
     let held : List (ℕ × ℕ) = c.args.seat.now.me.1 in
     let n : ℕ = c.args.count in
     copy_front c.args.first (k + 1 + 1 + 1) n _ held c.look_slot-y.new.seat.me.1 (omega arith)
@@ -106,10 +93,7 @@ look_slot-z-requires-clause-front c =
 pub loop-turn-preserved : goal.loop-turn-preserved
 loop-turn-preserved c =
     let k : ℕ = 4 * c.loop-turn.turn in
-    let less = c.loop-turn-test.true in
     let inv = c.loop-turn.invariant in
-    let room = c.requires.room in
-    let long : length c.loop-turn.scratch ≡ length c.args.scratch.now = inv.2 in
     let held : List (ℕ × ℕ) = c.args.seat.now.me.1 in
     let n : ℕ = c.args.count in
     let all = four c.args.first k n c.loop-turn.scratch held c.loop-turn.seat.me.1 (omega arith) (omega arith) inv.0
@@ -144,9 +128,6 @@ look_slot-word-requires-clause-front c =
 pub loop-k-preserved : goal.loop-k-preserved
 loop-k-preserved c =
     let inv = c.loop-k.invariant in
-    let less = c.loop-k-test.true in
-    let room = c.requires.room in
-    let long : length c.loop-k.scratch ≡ length c.args.scratch.now = inv.2 in
     let s = c.look_slot-word.ensures.seat in (
       subst (λ (l : List ℕ). Copying c.args.first (c.loop-k.k + 1) c.args.count l c.args.seat.now.me.1 c.look_slot-word.new.seat.me.1) (sym c.put_word-in-loop-k.ensures)
           (copy_more c.args.first c.loop-k.k c.args.count c.look_slot-word.result c.loop-k.scratch c.args.seat.now.me.1 c.loop-k.seat.me.1
@@ -157,12 +138,8 @@ loop-k-preserved c =
 
 pub returns-clause-copies : goal.returns-clause-copies
 returns-clause-copies c =
-    let at_end = c.loop-k-test.false in
-    let auto = c.loop-k.auto.k-end in
     (copy_end c.args.first c.loop-k.k c.args.count c.loop-k.scratch c.args.seat.now.me.1 c.loop-k.seat.me.1 (omega arith) c.loop-k.invariant.0).1
 
 pub returns-clause-same : goal.returns-clause-same
 returns-clause-same c =
-    let at_end = c.loop-k-test.false in
-    let auto = c.loop-k.auto.k-end in
     (copy_end c.args.first c.loop-k.k c.args.count c.loop-k.scratch c.args.seat.now.me.1 c.loop-k.seat.me.1 (omega arith) c.loop-k.invariant.0).0

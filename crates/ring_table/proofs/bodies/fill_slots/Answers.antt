@@ -7,7 +7,6 @@ use Rattle.ring_table.proofs.bodies.fill_slots.Goals as goal
 pub put_slot-requires-clause-filling : goal.put_slot-requires-clause-filling
 put_slot-requires-clause-filling c =
     let body : List ℕ = c.args.body.now in
-    let count = c.div_ceil-count.ensures in
     let same : c.div_ceil-count.result ≡ words_of (length body) = omega arith in
     (body, subst (λ n. Filling c.args.first c.loop-k.k n body c.loop-k.seat.me.1) (sym same) c.loop-k.invariant.0)
 
@@ -15,7 +14,6 @@ pub loop-k-preserved : goal.loop-k-preserved
 loop-k-preserved c =
     let body : List ℕ = c.args.body.now in
     let k : ℕ = c.loop-k.k in
-    let count = c.div_ceil-count.ensures in
     let same : c.div_ceil-count.result ≡ words_of (length body) = omega arith in
     let s = c.put_slot.ensures.seat in
     let inv = c.loop-k.invariant in (
@@ -29,10 +27,7 @@ loop-k-preserved c =
 pub put_slot-requires-then-whole-body-clause-filling : goal.put_slot-requires-then-whole-body-clause-filling
 put_slot-requires-then-whole-body-clause-filling c =
     let body : List ℕ = c.args.body.now in
-    let count = c.div_ceil-count.ensures in
     let same : c.div_ceil-count.result ≡ words_of (length body) = omega arith in
-    let at_end = c.loop-k-test.false in
-    let auto = c.loop-k.auto.k-end in
     let last : c.loop-k.k ≡ length body / 8 = omega arith in (
       body,
       subst (λ (z : ℕ × ℕ). Filling c.args.first z.0 z.1 body c.loop-k.seat.me.1) (λ i. (last i, sym same i))
@@ -43,12 +38,8 @@ pub returns-then-whole-body-clause-has : goal.returns-then-whole-body-clause-has
 returns-then-whole-body-clause-has c =
     let body : List ℕ = c.args.body.now in
     let k : ℕ = length body / 8 in
-    let count = c.div_ceil-count.ensures in
     let same : c.div_ceil-count.result ≡ words_of (length body) = omega arith in
-    let at_end = c.loop-k-test.false in
-    let auto = c.loop-k.auto.k-end in
     let last : c.loop-k.k ≡ length body / 8 = omega arith in
-    let some = c.if-whole-body.true in
     fill_end c.args.first (k + 1) c.div_ceil-count.result body c.put_slot-then-whole-body.new.seat.me.1
     (omega arith) same
     (c.put_slot-then-whole-body.ensures.filling body

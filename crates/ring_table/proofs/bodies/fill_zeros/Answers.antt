@@ -7,7 +7,6 @@ use Rattle.ring_table.proofs.bodies.fill_zeros.Goals as goal
 pub put_slot-requires-clause-filling : goal.put_slot-requires-clause-filling
 put_slot-requires-clause-filling c =
     let body : List ℕ = replicate c.args.len 0 in
-    let count = c.div_ceil-count.ensures in
     let same : c.div_ceil-count.result ≡ words_of c.args.len = omega arith in
     (body, subst (λ n. Filling c.args.first c.loop-k.k n body c.loop-k.seat.me.1) (sym same) c.loop-k.invariant.0)
 
@@ -15,7 +14,6 @@ pub loop-k-preserved : goal.loop-k-preserved
 loop-k-preserved c =
     let body : List ℕ = replicate c.args.len 0 in
     let k : ℕ = c.loop-k.k in
-    let count = c.div_ceil-count.ensures in
     let same : c.div_ceil-count.result ≡ words_of c.args.len = omega arith in
     let s = c.put_slot.ensures.seat in
     let inv = c.loop-k.invariant in (

@@ -32,8 +32,6 @@ fill_slots-requires-clause-has c =
     let t = (c.reserve_body.ensures.reserves h.others h.claim h.claims_are h.holds.stage).1 in
     let here : index c.args.producer.now.me.0.capacity h.claim.place ≡ index c.args.capacity c.args.place =
     λ i. index (c.requires.seat.view_is i) (h.at_place i) in
-    let len = c.requires.len in
-    let same_span = h.holds.same_span in
     let many : words_of (length h.claim.message.body) ≡ words_of (length c.args.body.now) = omega arith in
     record {
       values = t.values;
@@ -72,8 +70,6 @@ returns-clause-view c =
     let body : List ℕ = c.args.body.now in
     let v : View = c.args.producer.now.me.0 in
     let len : length body ≡ c.args.wanted.len = c.requires.len in
-    let big = c.requires.seat.lawful.most in
-    let short = c.requires.message.short in
     let zeros = length-replicate {A = ℕ} c.args.wanted.len 0 in
     let small : 8 + length body < 2 ^ 31 = omega arith in
     let bytes : All (λ b. b < 256) body =

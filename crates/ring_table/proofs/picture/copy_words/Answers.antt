@@ -4,10 +4,7 @@ use Rattle.ring_table.proofs.picture.copy_words.Goals as goal
 
 pub loop-i-preserved : goal.loop-i-preserved
 loop-i-preserved c =
-    let ok : c.loop-i.words.len ≡ length c.loop-i.words.items = c.loop-i.words.ok.0 in
-    let lt = c.loop-i-test.true in
     let len = c.len-i-end.ensures in
-    let same = c.loop-i.invariant.len in
     record {
       len = c.loop-i.invariant.len;
       copied = below_more _ _

@@ -12,7 +12,6 @@ use Rattle.ring_table.proofs.picture.show_bodies.Goals as goal
 pub loop-at-init : goal.loop-at-init
 loop-at-init c =
     let made : List ℕ = c.args.words.now.items in
-    let ok : c.args.words.now.len ≡ length made = c.args.words.now.ok.0 in
     let wide = c.requires.words.0 in
     let same : made ≡ slots_items c.args.closed.now.words = c.requires.words.1 in
     let tail : slice_index made (tail_index c.args.capacity) ≡ c.index-tail.result.now =
@@ -35,8 +34,6 @@ pub show_record-at-requires-clause-walk : goal.show_record-at-requires-clause-wa
 show_record-at-requires-clause-walk c =
     let t = c.requires.parts in
     let w = c.loop-at.invariant.walks t in
-    let ends = w.0 in
-    let less = c.loop-at-test.true in
     (t, w.1, omega arith)
 
 pub loop-at-preserved : goal.loop-at-preserved
@@ -45,15 +42,12 @@ loop-at-preserved c = record {
   walks = λ t.
       let w = c.loop-at.invariant.walks t in
       let ends = w.0 in
-      let less = c.loop-at-test.true in
       (ends, c.show_record-at.ensures.walks t w.1 (omega arith));
 }
 
 pub returns : goal.returns
 returns c = λ t.
     let w = c.loop-at.invariant.walks t in
-    let ends = w.0 in
-    let over = c.loop-at-test.false in
     let below = stands_below c.args.capacity c.loop-at.at t.start (all_of t.hist) t.memory.placed w.1.stands in
     let is : c.loop-at.at ≡ staged_end t.start (all_of t.hist) = omega arith in
     subst (λ (s : ℕ). Walked c.args.capacity t s c.loop-at.words.items) is w.1

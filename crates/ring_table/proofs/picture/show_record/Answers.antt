@@ -14,75 +14,40 @@ use Rattle.ring_table.proofs.WalkLemmas.{Goes, goes}
 use Rattle.ring_table.proofs.picture.show_record.Goals as goal
 use Rattle.ring_table.proofs.picture.show_record.Goals.{then-shown-header, else-shown-header}
 
--- what the code read at the position `at`: its word w, that in the format, and the bytes of what is there
-record Read (C at i w u n : ℕ) (made : List ℕ) : Type 0 where
-  i_is : i ≡ index C at
-  wide : length made ≡ ring_words C
-  word : w ≡ get_or made i w
-  shown : u ≡ shown_header elsewhere w
-  bytes : n ≡ (u % 2 ^ 32 + 7) / 8 * 8
-
 step : {C at i w u n : ℕ} {words slots made : List ℕ} (t : Parts C words slots) → Walked C t at made
-    → at < staged_end t.start (all_of t.hist) → Read C at i w u n made → Goes C t at made w u n
-step {C} {at} {i} {w} {u} {n} {words} {slots} {made} t walked lt r =
-    let least = t.lawful.capacity.least in
-    let wide = r.wide in
-    let low = mod_below at C (omega arith) in
-    let i_is = r.i_is in
-    let c8 = capacity_aligned C t.lawful.capacity in
-    let inside : i < length made = omega arith in
+    → at < staged_end t.start (all_of t.hist) → i ≡ index C at → length made ≡ ring_words C → w ≡ get_or made i w
+    → u ≡ shown_header elsewhere w → n ≡ (u % 2 ^ 32 + 7) / 8 * 8 → Goes C t at made w u n
+step {C} {at} {i} {w} {u} {n} {words} {slots} {made} t walked lt i_is wide word shown bytes =
+    let inside : i < length made = omega (arith, capacity_aligned C t.lawful.capacity) in
     goes C words slots t at made walked lt w u n
-    (ap (slice_index made) (sym i_is) ∙ read_at made i w (at_index made i w inside r.word)) r.shown r.bytes
+    (ap (slice_index made) (sym i_is) ∙ read_at made i w (at_index made i w inside word)) shown bytes
 
 pub overflow_sub-bytes : goal.overflow_sub-bytes
 overflow_sub-bytes c =
     let k = c.requires.walk in
-    let g = step k.0 k.1 k.2 (record {
-      i_is = c.word_index-index.ensures;
-      wide = sym c.args.words.now.ok.0 ∙ c.requires.words;
-      word = c.index-header.ensures;
-      shown = c.formatted-shown.ensures;
-      bytes = c.align8-bytes.ensures;
-    }) in
-    let some = g.some in
+    let g = step k.0 k.1 k.2 c.word_index-index.ensures (sym c.args.words.now.ok.0 ∙ c.requires.words)
+    c.index-header.ensures c.formatted-shown.ensures c.align8-bytes.ensures in
     omega arith
 
 pub copy_range-requires-clause-slots : goal.copy_range-requires-clause-slots
 copy_range-requires-clause-slots c =
     let k = c.requires.walk in
-    let g = step k.0 k.1 k.2 (record {
-      i_is = c.word_index-index.ensures;
-      wide = sym c.args.words.now.ok.0 ∙ c.requires.words;
-      word = c.index-header.ensures;
-      shown = c.formatted-shown.ensures;
-      bytes = c.align8-bytes.ensures;
-    }) in
-    let some = g.some in
-    let within = g.within in
-    let many : slots_len c.args.closed.now.slots ≡ c.args.capacity / 8 = c.requires.slots.1 in
+    let g = step k.0 k.1 k.2 c.word_index-index.ensures (sym c.args.words.now.ok.0 ∙ c.requires.words)
+    c.index-header.ensures c.formatted-shown.ensures c.align8-bytes.ensures in
     let c8 = capacity_aligned c.args.capacity k.0.lawful.capacity in
-    let at_is : c.word_index-index.result ≡ c.args.at % c.args.capacity / 8 = c.word_index-index.ensures in
     omega arith
 
 pub copy_range-requires-clause-words : goal.copy_range-requires-clause-words
 copy_range-requires-clause-words c =
     let inside : c.word_index-index.result + 1 + (c.align8-bytes.result / 8 - 1) ≤ slots_len c.args.closed.now.slots =
     copy_range-requires-clause-slots c in
-    let many : slots_len c.args.closed.now.slots ≡ c.args.capacity / 8 = c.requires.slots.1 in
-    let words : vec_len c.args.words.now ≡ ring_words c.args.capacity = c.requires.words in
     omega arith
 
 pub returns-clause-rises : goal.returns-clause-rises
 returns-clause-rises c =
     let k = c.requires.walk in
-    let g = step k.0 k.1 k.2 (record {
-      i_is = c.word_index-index.ensures;
-      wide = sym c.args.words.now.ok.0 ∙ c.requires.words;
-      word = c.index-header.ensures;
-      shown = c.formatted-shown.ensures;
-      bytes = c.align8-bytes.ensures;
-    }) in
-    let some = g.some in
+    let g = step k.0 k.1 k.2 c.word_index-index.ensures (sym c.args.words.now.ok.0 ∙ c.requires.words)
+    c.index-header.ensures c.formatted-shown.ensures c.align8-bytes.ensures in
     omega arith
 
 pub returns-clause-walks : goal.returns-clause-walks
@@ -90,13 +55,8 @@ returns-clause-walks c = λ t walked lt.
     let made : List ℕ = c.args.words.now.items in
     let i_is = c.word_index-index.ensures in
     let n : ℕ = c.align8-bytes.result in
-    let g = step t walked lt (record {
-      i_is = i_is;
-      wide = sym c.args.words.now.ok.0 ∙ c.requires.words;
-      word = c.index-header.ensures;
-      shown = c.formatted-shown.ensures;
-      bytes = c.align8-bytes.ensures;
-    }) in
+    let g = step t walked lt i_is (sym c.args.words.now.ok.0 ∙ c.requires.words) c.index-header.ensures
+    c.formatted-shown.ensures c.align8-bytes.ensures in
     elim c.if-shown-header.branch [
       | then-shown-header w ↦
           subst (λ (l : List ℕ). Walked c.args.capacity t (c.args.at + n) l) (λ j. (sym w.words-is j).items)

@@ -18,8 +18,6 @@ loop-j-init c = record {
 pub look_slot-requires-clause-front : goal.look_slot-requires-clause-front
 look_slot-requires-clause-front c =
     let t = c.requires.takes in
-    let less = c.loop-j-test.true in
-    let room = c.requires.room in
     let f = put_front c.args.first (words_of c.args.len) t.0 (overwritten c.args.offset c.args.bytes.now t.0) c.loop-j.j
     c.loop-j.seat.me.1 (omega arith) (c.loop-j.invariant.putting t.0 t.1) in
     (body_word t.0 (8 * c.loop-j.j), f.0, f.1)
@@ -28,12 +26,9 @@ pub loop-j-preserved : goal.loop-j-preserved
 loop-j-preserved c =
     let inv = c.loop-j.invariant in
     let s = c.look_slot.ensures.seat in
-    let less = c.loop-j-test.true in
-    let room = c.requires.room in
     record {
       seat = record { table = s.table ∙ inv.seat.table; id = s.id ∙ inv.seat.id; view = s.view ∙ inv.seat.view };
       putting = λ body t.
-          let long = t.long in
           put_same c.args.first (words_of c.args.len) body (overwritten c.args.offset c.args.bytes.now body) c.loop-j.j
           c.loop-j.seat.me.1 (omega arith) (inv.putting body t) c.look_slot.new.seat.me.1
           (word_kept c.args.offset c.args.bytes.now body (omega arith) c.loop-j.j (inl (omega arith)))
@@ -43,9 +38,6 @@ loop-j-preserved c =
 pub merge_slot-requires-clause-front : goal.merge_slot-requires-clause-front
 merge_slot-requires-clause-front c =
     let t = c.requires.takes in
-    let less = c.loop-k-test.true in
-    let room = c.requires.room in
-    let high = c.div_ceil-high.ensures in
     let f = put_front c.args.first (words_of c.args.len) t.0 (overwritten c.args.offset c.args.bytes.now t.0) c.loop-k.k
     c.loop-k.seat.me.1 (omega arith) (c.loop-k.invariant.putting t.0 t.1) in
     (body_word t.0 (8 * c.loop-k.k), f.0, f.1)
@@ -54,12 +46,6 @@ pub loop-k-preserved : goal.loop-k-preserved
 loop-k-preserved c =
     let inv = c.loop-k.invariant in
     let s = c.merge_slot.ensures.seat in
-    let less = c.loop-k-test.true in
-    let room = c.requires.room in
-    let high = c.div_ceil-high.ensures in
-    let low = c.loop-k.auto.k in
-    let big = c.max-from.ensures in
-    let small = c.min-to.ensures in
     let k : ℕ = c.loop-k.k in
     let from : ℕ = c.max-from.result in
     let to : ℕ = c.min-to.result in
@@ -68,7 +54,6 @@ loop-k-preserved c =
     record {
       seat = record { table = s.table ∙ inv.seat.table; id = s.id ∙ inv.seat.id; view = s.view ∙ inv.seat.view };
       putting = λ body t.
-          let long = t.long in
           put_more c.args.first (words_of c.args.len) body (overwritten offset bytes body) k c.loop-k.seat.me.1
           (omega arith) (inv.putting body t)
           (from_le_bytes w64 (overwritten (from - 8 * k) (slice_range bytes (from - offset) (to - offset))
@@ -82,8 +67,6 @@ loop-k-preserved c =
 pub look_slot-requires-in-loop-i-clause-front : goal.look_slot-requires-in-loop-i-clause-front
 look_slot-requires-in-loop-i-clause-front c =
     let t = c.requires.takes in
-    let less = c.loop-i-test.true in
-    let count = c.div_ceil-i-end.ensures in
     let f = put_front c.args.first (words_of c.args.len) t.0 (overwritten c.args.offset c.args.bytes.now t.0) c.loop-i.i
     c.loop-i.seat.me.1 (omega arith) (c.loop-i.invariant.putting t.0 t.1) in
     (body_word t.0 (8 * c.loop-i.i), f.0, f.1)
@@ -92,15 +75,9 @@ pub loop-i-preserved : goal.loop-i-preserved
 loop-i-preserved c =
     let inv = c.loop-i.invariant in
     let s = c.look_slot-in-loop-i.ensures.seat in
-    let less = c.loop-i-test.true in
-    let room = c.requires.room in
-    let count = c.div_ceil-i-end.ensures in
-    let high = c.div_ceil-high.ensures in
-    let low = c.loop-i.auto.i in
     record {
       seat = record { table = s.table ∙ inv.seat.table; id = s.id ∙ inv.seat.id; view = s.view ∙ inv.seat.view };
       putting = λ body t.
-          let long = t.long in
           put_same c.args.first (words_of c.args.len) body (overwritten c.args.offset c.args.bytes.now body) c.loop-i.i
           c.loop-i.seat.me.1 (omega arith) (inv.putting body t) c.look_slot-in-loop-i.new.seat.me.1
           (word_kept c.args.offset c.args.bytes.now body (omega arith) c.loop-i.i (inr (omega arith)))
@@ -109,12 +86,6 @@ loop-i-preserved c =
 
 pub returns-clause-has : goal.returns-clause-has
 returns-clause-has c body t =
-    let room = c.requires.room in
-    let count = c.div_ceil-i-end.ensures in
-    let high = c.div_ceil-high.ensures in
-    let last = c.loop-i-test.false in
-    let end = c.loop-i.auto.i-end in
-    let low = c.loop-i.auto.i in
     let long = t.long in
     let new : List ℕ = overwritten c.args.offset c.args.bytes.now body in
     let same : length new ≡ length body = length-overwritten c.args.offset c.args.bytes.now body (omega arith) in

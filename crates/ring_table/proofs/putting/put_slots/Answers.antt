@@ -40,8 +40,6 @@ pub give_body-requires-clause-body : goal.give_body-requires-clause-body
 give_body-requires-clause-body c =
     let s = c.requires.seat in
     let h = c.requires.claim in
-    let room = c.requires.room in
-    let len = h.holds.len_is in
     let old : List ℕ = h.claim.message.body in
     let bytes : List ℕ = c.args.bytes.now in
     let takes = taken (goal.at.give_body-requires-clause-body c).After-word_index-first in
@@ -70,8 +68,6 @@ pub returns-clause-view : goal.returns-clause-view
 returns-clause-view c k d has at =
     let s = c.requires.seat in
     let h = c.requires.claim in
-    let room = c.requires.room in
-    let len = h.holds.len_is in
     let old : List ℕ = h.claim.message.body in
     let bytes : List ℕ = c.args.bytes.now in
     let new : List ℕ = overwritten c.args.offset bytes old in

@@ -1,5 +1,6 @@
 use Rattle.std.proofs.Common.{◌∙◌, [], ◌∷◌, ◌++◌, ap, subst, sym}
 use Rattle.ring_rings.specs.declared.ring.Consumer.{Consumer}
+use Rattle.ring_rings.specs.declared.ring.Producer.{Producer}
 use Rattle.ring_rings.specs.Reading.{messages_of}
 use Rattle.ring_rings.specs.Ring.{received, sent, IsWhole}
 use Rattle.ring_rings.specs.Seats.{taken_of}
@@ -10,13 +11,16 @@ use Rattle.ring_board.specs.Board.{copied, subscribed_at, transmitted}
 use Rattle.ring_board.specs.Runs.{AreRuns}
 use Rattle.ring_counters.specs.declared.manager.CountersManager.{CountersManager}
 use Rattle.ring_counters.specs.Manager.{registry_of, writes_of}
-use Rattle.ring_conductor.specs.Account.{Account, account_of, messages_in, reply_message}
-use Rattle.ring_conductor.specs.Asking.{receiver_of}
-use Rattle.ring_conductor.specs.Conducting.{ledger_of, received_of, transmitter_of}
-use Rattle.ring_conductor.specs.Fold.{at_moment}
-use Rattle.ring_conductor.proofs.AccountLemmas.{account_as}
+use Rattle.ring_service.specs.Account.{Account, account_of, messages_in, reply_message}
+use Rattle.ring_service.specs.Asking.{receiver_of}
+use Rattle.ring_service.specs.Conducting.{ledger_of, received_of, transmitter_of}
+use Rattle.ring_service.specs.Finishing.{replies_of}
+use Rattle.ring_service.specs.Fold.{at_moment}
+use Rattle.ring_service.specs.declared.conductor.Conductor.{Conductor}
+use Rattle.ring_service.proofs.AccountLemmas.{account_as}
+use Rattle.ring_uses.specs.Laps.{messages_of as copied_messages}
 use Rattle.ring_uses.specs.Reply.{replies_to, request_with}
-use Rattle.ring_uses.proofs.ReplyLemmas.{copied_is_transmitted, one_reply}
+use Rattle.ring_uses.proofs.ReplyLemmas.{copied_is_transmitted, one_copy, one_reply}
 use Rattle.ring_uses.proofs.reply.ask.Goals as goal
 
 pub returns-in-Ok : goal.returns-in-Ok
@@ -64,12 +68,24 @@ returns-in-Ok c =
     polled.0 runs in
     let one = one_reply (request_with id) ms whole.unread records (reply_message reply)
     (ap (λ l. l ++ whole.unread) (sym taken) ∙ whole.all ∙ sends) replies there in
+    -- what the endpoints say that the answer names
+    let out = c.in-Ok.ensures.hands_on in
+    let by_producer = out.producer in
+    let by_conductor = out.conductor in
+    let received_in = ap (λ (x : Conductor). messages_of (received_of x)) by_conductor in
+    let replies_in = ap (λ (x : Conductor). messages_in (replies_of x)) by_conductor
+    ∙ ap (λ (v : BoardView). messages_in v.sent) c.join_receiver.ensures.joined.view in
+    let copies = one_copy reply (receiver_of c.send.new.self) new no_copies polled.0 in
+    let by_receiver = c.of-named.ensures ∙ c.into_parts-producer.ensures.receiver in
     record {
-      received = messages_of (received_of end);
-      transmitted = messages_in records;
-      whole = subst (λ l. IsWhole l (messages_of (received_of end)) c.in-Ok.finished.rest) sends whole;
-      all = taken ∙ one.0;
-      replies = replies ∙ ap replies_to (sym taken);
-      polled = one.1;
+      sends = ap sent by_producer ∙ sends;
+      receives = received_in ∙ (taken ∙ one.0);
+      whole = subst (λ (x : Producer). IsWhole (sent x) (messages_of (received_of c.in-Ok.finished.conductor.value))
+          c.in-Ok.finished.rest) (sym by_producer)
+          (subst (λ (x : Conductor). IsWhole (sent p) (messages_of (received_of x)) c.in-Ok.finished.rest)
+          (sym by_conductor) whole);
+      replies = replies_in ∙ (replies ∙ ap replies_to (sym (received_in ∙ taken)));
+      transmits = replies_in ∙ one.1;
+      copies = ap (λ (r : CopyReceiver). copied_messages (copied r)) by_receiver ∙ copies;
       correlated = polled.1;
     }

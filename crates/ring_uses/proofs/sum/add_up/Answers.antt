@@ -1,5 +1,4 @@
 use Rattle.ring_uses.proofs.SumLemmas.{summed}
-use Rattle.ring_rings.specs.Ring.{received, sent}
 use Rattle.ring_uses.proofs.sum.add_up.Goals as goal
 
 pub returns : goal.returns
@@ -8,4 +7,4 @@ returns g c =
     let r = c.join-producer.ensures.second in
     let producer = c.join-producer.result.0 in
     let consumer = c.join-producer.result.1.0 in
-    summed c.args.last p.1.0 _ (sent producer) (received consumer) p.1.1 p.1.2 r.1 c.in_ok-rest.ensures r.2
+    summed c.args.last p.1.0 _ producer consumer c.in_ok-closed.ensures p.1.1 p.1.2 r.1 r.2

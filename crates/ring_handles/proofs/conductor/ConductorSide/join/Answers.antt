@@ -1,6 +1,6 @@
 use Rattle.std.proofs.Common.{◌∙◌, ap, arith}
 use Rattle.ring_rings.specs.Seats.{open_claims_of}
-use Rattle.ring_conductor.proofs.GatheringLemmas.{gathered}
+use Rattle.ring_service.proofs.GatheringLemmas.{gathered}
 use Rattle.ring_handles.proofs.conductor.ConductorSide.join.Goals as goal
 
 pub invariant_of-self-2-clause-settled : goal.invariant_of-self-2-clause-settled

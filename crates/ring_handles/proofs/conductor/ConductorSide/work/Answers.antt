@@ -1,5 +1,5 @@
 use Rattle.std.proofs.Common.{◌∙◌, sym}
-use Rattle.ring_conductor.proofs.AccountLemmas.{work_shares}
+use Rattle.ring_service.proofs.AccountLemmas.{work_shares}
 use Rattle.ring_handles.proofs.conductor.ConductorSide.work.Goals as goal
 
 pub invariant_of-self-clause-counted : goal.invariant_of-self-clause-counted

@@ -70,7 +70,7 @@ returns-clause-claim g c =
                   h.claim.at_place;
               holds = h.claim.holds;
             })
-            (λ d is. let n = is.len_is in record {
+            (λ d is. record {
               stage = is.stage;
               type_is = is.type_is;
               len_is =

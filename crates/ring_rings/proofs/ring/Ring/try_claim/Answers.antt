@@ -27,45 +27,24 @@ invariant_of-producer-2 g c =
       home = c.store_headers.ensures.seat.out ∙ c.in_ok-admission.ensures.seat.out ∙ p.home;
     }
 
-pub returns-clause-claimed : goal.returns-clause-claimed
-returns-clause-claimed g c =
-    let moved = c.in_ok-admission.ensures.told in
-    let made = moved_opened moved.0 c.args.producer.now.known.rising c.store_headers.new.seat.me.0
-    (c.store_headers.ensures.opened _ _ (moved_newest moved.0)) in
-    let view = made.view in
-    let room = made.room in
-    search rules
-
-pub returns-clause-opened : goal.returns-clause-opened
-returns-clause-opened g c =
-    let moved = c.in_ok-admission.ensures.told.0 in
-    rw c.new.ensures (made_new (moved_opened moved c.args.producer.now.known.rising c.store_headers.new.seat.me.0
-    (c.store_headers.ensures.opened _ _ (moved_newest moved))))
-
-pub returns-clause-message : goal.returns-clause-message
-returns-clause-message g c =
-    let moved = c.in_ok-admission.ensures.told.0 in
-    let h = made_message (moved_opened moved c.args.producer.now.known.rising c.store_headers.new.seat.me.0
-    (c.store_headers.ensures.opened _ _ (moved_newest moved))) in
-    let place = c.new.ensures in
-    record {
-      nth = h.nth;
-      claim = h.claim;
-      there = h.there;
-      at_place = h.at_place ∙ ap (λ (t : ClaimAt). t.place) (sym place);
-      holds = (let is = h.holds in search rules);
-    }
-
-pub returns-clause-keeps : goal.returns-clause-keeps
-returns-clause-keeps g c =
-    let moved = c.in_ok-admission.ensures.told.0 in
-    let made = moved_opened moved c.args.producer.now.known.rising c.store_headers.new.seat.me.0
-    (c.store_headers.ensures.opened _ _ (moved_newest moved)) in
-    record { claims = keeps_claims _ (made_claims made); shares = ap (λ (u : View). u.producer.shares) made.view }
-
-pub returns-clause-sent : goal.returns-clause-sent
-returns-clause-sent g c =
+pub returns : goal.returns
+returns g c =
     let made = moved_opened c.in_ok-admission.ensures.told.0 c.args.producer.now.known.rising
     c.store_headers.new.seat.me.0
     (c.store_headers.ensures.opened _ _ (moved_newest c.in_ok-admission.ensures.told.0)) in
-    claim_sends_none _ _ _ _ _ _ (made_claims made)
+    let h = made_message made in
+    record {
+      producer = search rules;
+      sent = claim_sends_none _ _ _ _ _ _ (made_claims made);
+      message = record {
+        nth = h.nth;
+        claim = h.claim;
+        there = h.there;
+        at_place = h.at_place ∙ ap (λ (t : ClaimAt). t.place) (sym c.new.ensures);
+        holds = (search rules);
+      };
+      claimed = (let view = made.view in search rules);
+      refused = search rules;
+      opened = rw c.new.ensures (made_new made);
+      keeps = record { claims = keeps_claims _ (made_claims made); shares = ap (λ (u : View). u.producer.shares) made.view };
+    }

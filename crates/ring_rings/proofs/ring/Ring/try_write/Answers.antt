@@ -46,37 +46,22 @@ invariant_of-producer-2 g c =
           ∙ c.args.producer.now.home;
     }
 
-pub returns-clause-written : goal.returns-clause-written
-returns-clause-written g c =
-    let moved = c.in_ok-admission.ensures.told.0 in
-    let view = written_view (moved_made moved c.args.producer.now.known.rising) c.args.body.now refl
-    c.store_record.new.seat.me.0 (moved_written moved c.store_padding.new.seat.me.0
-    (c.store_padding.ensures.padded _ _ _ (moved_newest moved)) c.args.body.now refl c.store_record.new.seat.me.0
-    c.store_record.ensures.stored) in
-    search rules
-
-pub returns-clause-keeps : goal.returns-clause-keeps
-returns-clause-keeps g c =
+pub returns : goal.returns
+returns g c =
     let moved = c.in_ok-admission.ensures.told.0 in
     let made = moved_made moved c.args.producer.now.known.rising in
     let stored = moved_written moved c.store_padding.new.seat.me.0
     (c.store_padding.ensures.padded _ _ _ (moved_newest moved)) c.args.body.now refl c.store_record.new.seat.me.0
     c.store_record.ensures.stored in
+    let claims = written_claims made c.args.body.now refl c.store_record.new.seat.me.0 stored in
     let left = written_leaves made c.args.body.now refl c.store_record.new.seat.me.0 stored in
     record {
-      holdings = record {
-        claims = keeps_claims _ (written_claims made c.args.body.now refl c.store_record.new.seat.me.0 stored);
-        shares = left.shares;
+      producer = search rules;
+      sent = (let sends = write_sends _ _ _ _ _ _ claims in search rules);
+      written = (let view = written_view made c.args.body.now refl c.store_record.new.seat.me.0 stored in search rules);
+      refused = search rules;
+      keeps = record {
+        holdings = record { claims = keeps_claims _ claims; shares = left.shares };
+        open_claims = left.open_claims;
       };
-      open_claims = left.open_claims;
     }
-
-pub returns-clause-sent : goal.returns-clause-sent
-returns-clause-sent g c =
-    let moved = c.in_ok-admission.ensures.told.0 in
-    let made = moved_made moved c.args.producer.now.known.rising in
-    let stored = moved_written moved c.store_padding.new.seat.me.0
-    (c.store_padding.ensures.padded _ _ _ (moved_newest moved)) c.args.body.now refl c.store_record.new.seat.me.0
-    c.store_record.ensures.stored in
-    let sends = write_sends _ _ _ _ _ _ (written_claims made c.args.body.now refl c.store_record.new.seat.me.0 stored)
-    in search rules

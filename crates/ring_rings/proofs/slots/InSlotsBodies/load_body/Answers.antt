@@ -7,8 +7,7 @@ use Rattle.ring_rings.proofs.slots.InSlotsBodies.load_body.Goals as goal
 pub read_slots-requires-clause-last : goal.read_slots-requires-clause-last
 read_slots-requires-clause-last c =
     let l = c.requires.last in
-    let at = l.at in
-    let on = c.requires.body.on in (
+    let at = l.at in (
       record {
         front = l.got.0;
         message = l.message;
@@ -34,9 +33,6 @@ returns-clause-rest c =
 
 pub returns-clause-copies : goal.returns-clause-copies
 returns-clause-copies c = λ m last at len.
-    let few = c.requires.body.few in
-    let room = c.requires.room in
-    let wide = c.read_slots.auto.scratch in
     copies_all c.args.capacity m ((length m.message.body + 7) / 8) c.args.seat.now.me.0 c.read_slots.new.consumer.me.0
     c.read_slots.new.scratch refl (omega arith)
     (record {

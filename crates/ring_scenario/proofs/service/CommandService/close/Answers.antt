@@ -4,7 +4,7 @@ use Rattle.ring_rings.specs.declared.ring.Consumer.{Consumer}
 use Rattle.ring_rings.specs.Seats.{capacity_of, claims_of, start_of, taken_of}
 use Rattle.ring_counters.specs.declared.manager.CountersManager.{CountersManager}
 use Rattle.ring_counters.specs.Manager.{registry_of, shares_of}
-use Rattle.ring_conductor.specs.Conducting.{received_of}
+use Rattle.ring_service.specs.Conducting.{received_of}
 use Rattle.ring_scenario.proofs.EndLemmas.{renamed, takes_all_but}
 use Rattle.ring_scenario.proofs.service.CommandService.close.Goals as goal
 

@@ -1,5 +1,5 @@
 use Rattle.std.proofs.Common.{◌∙◌, ◌+◌, ◌<◌, ℕ, length, arith}
-use Rattle.ring_conductor.specs.Conducting.{transmitter_of}
+use Rattle.ring_service.specs.Conducting.{transmitter_of}
 use Rattle.ring_standalone.specs.Receivers.{LeavesAt, by_number}
 use Rattle.ring_standalone.specs.Held.{held_in}
 use Rattle.ring_standalone.proofs.HeldLemmas.{all_back, given_up}

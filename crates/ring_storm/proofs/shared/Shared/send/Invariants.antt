@@ -1,5 +1,5 @@
 use Rattle.std.proofs.Common.{◌≡◌, ℕ, ◌%◌, ◌^◌, [], ◌∷◌, ◌++◌}
-use Rattle.ring_conductor.specs.Asking.{producer_of, receiver_of}
+use Rattle.ring_service.specs.Asking.{producer_of, receiver_of}
 use Rattle.ring_storm.specs.Storming.{IsClientSeat}
 use Rattle.ring_storm.specs.Turns.{claims_by, draws_by}
 use Rattle.ring_storm.proofs.shared.Shared.send.Given as goal

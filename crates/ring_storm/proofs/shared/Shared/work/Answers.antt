@@ -1,5 +1,5 @@
 use Rattle.std.proofs.Common.{◌∙◌}
-use Rattle.ring_conductor.proofs.AccountLemmas.{work_shares, works_heard}
+use Rattle.ring_service.proofs.AccountLemmas.{work_shares, works_heard}
 use Rattle.ring_storm.proofs.StormLemmas.{work_counters}
 use Rattle.ring_storm.proofs.shared.Shared.work.Goals as goal
 

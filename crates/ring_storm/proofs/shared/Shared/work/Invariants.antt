@@ -1,6 +1,6 @@
 use Rattle.std.proofs.Common.{◌≡◌}
 use Rattle.ring_rings.specs.Seats.{IsConsumerOf}
-use Rattle.ring_conductor.specs.Conducting.{IsConductorOf}
+use Rattle.ring_service.specs.Conducting.{IsConductorOf}
 use Rattle.ring_storm.specs.Storming.{HasCounters, KeepsReceivers, taken_by}
 use Rattle.ring_storm.proofs.shared.Shared.work.Given as goal
 

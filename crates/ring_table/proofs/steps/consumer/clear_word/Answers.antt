@@ -8,7 +8,6 @@ use Rattle.ring_table.proofs.steps.consumer.clear_word.Goals as goal
 pub store-requires : goal.store-requires
 store-requires g c =
     let at = c.requires.cleared in
-    let passed = c.requires.passed in
     record_step g.M.Mode.bodies c.requires.seat _ c.args.cleared _ c.requires.target at (λ _. 0)
     (λ _ me _ me'. (me'.1 ≡ me.1) × ClearsWord me.0 me'.0)
     (λ _ _ t _ _ _. (t.0, leaves_same g.M.Mode.bodies t.1 refl refl refl refl))

@@ -17,7 +17,7 @@ load-requires g c =
     × Logs k (shown_header g.M.Mode.bodies n) me.0 me'.0)
     (λ _ _ t _ _ _. (t.0, leaves_at g.M.Mode.bodies t.1.stays))
     (loads_next g.M.Mode.bodies c.args.capacity c.args.ring.now.key.start _ _ c.args.consumer.now.me s.view_is c.requires.consumes
-    (let near = c.requires.near in omega arith))
+    (omega arith))
 
 pub returns-clause-told : goal.returns-clause-told
 returns-clause-told g c =

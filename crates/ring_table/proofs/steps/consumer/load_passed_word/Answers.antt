@@ -10,7 +10,6 @@ use Rattle.ring_table.proofs.steps.consumer.load_passed_word.Goals as goal
 pub load-requires : goal.load-requires
 load-requires g c =
     let at = c.requires.cleared in
-    let passed = c.requires.passed in
     record_step g.M.Mode.bodies c.requires.seat _ c.args.cleared _ c.requires.target at (λ n. n)
     (λ _ me n me'. (me'.1 ≡ me.1) × LoadsPassed me.0 n me'.0)
     (λ n _ t _ _ _. (

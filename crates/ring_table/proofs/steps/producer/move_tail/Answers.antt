@@ -25,7 +25,6 @@ compare_exchange_with-requires g c =
     let zeros : length (blank c.args.wanted.type_id c.args.wanted.len).body ≡ c.args.wanted.len =
     length-replicate c.args.wanted.len 0 in
     let short : c.args.wanted.len ≤ c.args.capacity / 8 = omega (arith, c.requires.room.message.short) in
-    let most = c.requires.seat.lawful.most in
     trailer_step g.M.Mode.bodies c.requires.seat _ 16 (omega arith) c.trailer_word-tail.ensures (λ n. either (eqb n old) new n)
     (λ k me n me'. (me'.1 ≡ me.1) × ((said : Wanted) → FitsSigned w32 said.type_id → 8 + said.len < 2 ^ 31
     → some c.open_header-said.result ≡ some (open_header said.type_id said.len)
@@ -45,7 +44,6 @@ pub returns-clause-told : goal.returns-clause-told
 returns-clause-told g c =
     let zeros : length (blank c.args.wanted.type_id c.args.wanted.len).body ≡ c.args.wanted.len = length-replicate c.args.wanted.len 0 in
     let short : c.args.wanted.len ≤ c.args.capacity / 8 = omega (arith, c.requires.room.message.short) in
-    let most = c.requires.seat.lawful.most in
     let told = c.compare_exchange_with.ensures.2.1 c.args.wanted c.requires.room.message.type_fits (omega arith)
     (ap some (header_is c.args.wanted.type_id c.args.wanted.len _ c.requires.room.message.type_fits c.open_header-said.ensures)) in
     subst (λ (k : ℕ). MovesTail k c.args.old c.args.new c.args.wanted c.args.producer.now.me.0

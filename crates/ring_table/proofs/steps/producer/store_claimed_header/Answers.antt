@@ -15,8 +15,6 @@ pub store-requires : goal.store-requires
 store-requires c =
     let s = c.requires.seat in
     let h = c.requires.claim in
-    let big = s.lawful.most in
-    let short = c.requires.message.short in
     let zeros = length-replicate {A = ℕ} c.args.wanted.len 0 in
     let small : 8 + c.args.wanted.len < 2 ^ 31 = omega arith in
     let value : ℕ = c.open_header-header.result in
@@ -39,8 +37,6 @@ pub returns-clause-view : goal.returns-clause-view
 returns-clause-view c =
     let s = c.requires.seat in
     let h = c.requires.claim in
-    let big = s.lawful.most in
-    let short = c.requires.message.short in
     let zeros = length-replicate {A = ℕ} c.args.wanted.len 0 in
     let small : 8 + c.args.wanted.len < 2 ^ 31 = omega arith in
     after_change Padded (λ c. c.place)

@@ -47,8 +47,6 @@ returns-clause-seat c =
     let b = c.requires.body in
     let long : length b.0 ≡ c.args.wanted.len = b.1 in
     let t = b.2 in
-    let big = s.lawful.most in
-    let short = c.requires.message.short in
     let zeros = length-replicate {A = ℕ} c.args.wanted.len 0 in
     let small : 8 + length b.0 < 2 ^ 31 = omega arith in
     holder e.0 e.1 (ap (λ (v : View). v.capacity) ((returns-clause-commits c).1 _ _ c.args.wanted.type_id b.0 t.out_is

@@ -10,7 +10,6 @@ use Rattle.ring_table.proofs.steps.slots.load_passed_header.Goals as goal
 pub load-requires : goal.load-requires
 load-requires c =
     let at = c.requires.cleared in
-    let passed = c.requires.passed in
     record_step elsewhere c.requires.seat _ c.args.cleared _ c.requires.target at (λ n. n)
     (λ _ me n me'. (me'.1 ≡ me.1) × LoadsRecord me.0 n me'.0)
     (λ n _ t _ _ _. (

@@ -27,8 +27,6 @@ store-requires c =
 pub returns-clause-slots : goal.returns-clause-slots
 returns-clause-slots c =
     let s = c.requires.seat in
-    let big = s.lawful.most in
-    let short = c.requires.message.short in
     let zeros = length-replicate {A = ℕ} c.args.wanted.len 0 in
     let small : 8 + c.args.wanted.len < 2 ^ 31 = omega arith in
     subst (λ i. HasSlots (i + 1) (words_of c.args.wanted.len) c.store.new.seat.me.1) c.word_index.ensures
@@ -40,8 +38,6 @@ pub returns-clause-view : goal.returns-clause-view
 returns-clause-view c =
     let s = c.requires.seat in
     let h = c.requires.claim in
-    let big = s.lawful.most in
-    let short = c.requires.message.short in
     let zeros = length-replicate {A = ℕ} c.args.wanted.len 0 in
     let small : 8 + c.args.wanted.len < 2 ^ 31 = omega arith in
     (c.store.ensures.2.0 c.args.wanted.type_id c.args.wanted.len c.requires.message.type_fits small

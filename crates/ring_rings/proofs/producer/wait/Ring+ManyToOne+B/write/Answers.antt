@@ -1,6 +1,5 @@
-use Rattle.std.proofs.Common.{length, of_z, rules, subst, to_z, true, w32, ◌∙◌, ap, ◌++◌, ◌∷◌, []}
+use Rattle.std.proofs.Common.{length, of_z, rules, subst, to_z, true, w32, ◌∙◌}
 use Rattle.ring_rings.specs.Claiming.{RefusesTry}
-use Rattle.ring_rings.specs.Ring.{message}
 use Rattle.ring_rings.specs.Seats.{capacity_of, view_of}
 use Rattle.ring_rings.proofs.SentLemmas.{tries_send_none}
 use Rattle.ring_rings.proofs.WaitLemmas.{tried_more, tried_none}
@@ -22,8 +21,6 @@ loop-preserved g c =
 pub returns-in-Ok-clause-sent : goal.returns-in-Ok-clause-sent
 returns-in-Ok-clause-sent g c =
     let tries = tries_send_none _ _ _ c.loop.invariant.tries _ _ c.loop.invariant.contended in
-    let sends = c.in-Ok.ensures.sent.0
-    ∙ ap (λ l. l ++ message (to_z w32 (of_z w32 c.args.type_id)) c.args.body.now ∷ []) tries in
     search rules
 
 pub returns-in-Err-Refused-clause-sent : goal.returns-in-Err-Refused-clause-sent

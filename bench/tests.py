@@ -1,0 +1,296 @@
+#!/usr/bin/env python3
+"""Tests what decides over figures, with readings and a clock that are made up: bench/tests.py
+
+- a measurement counts only if each processor was at full speed before and after it. Otherwise it is repeated, a bounded
+  number of times and for a bounded time
+- a row does not count if a better best time shows later that its processors were slow
+- a second processor of a core, as the system or the times say, comes after one of each core in the order of use
+- fewer than three sets, a set that was not gated and a set that ran slower are no figures
+- a row that one set lacks is no figure
+"""
+import contextlib
+import io
+import json
+import os
+import sys
+import tempfile
+import types
+import unittest
+
+sys.dont_write_bytecode = True
+sys.path.insert(0, os.path.dirname(os.path.abspath(__file__)))
+import cores
+import gate
+import measure
+import page
+import points
+import results
+
+FAST, SLOW = 0.32, 0.67
+
+
+class Machine:
+    """Processors that run as a list of readings says, and a clock that only readings, calls and pauses move on."""
+
+    def __init__(self, *readings):
+        self.readings, self.now, self.calls, self.asked = list(readings), 0.0, 0, []
+
+    def look(self, processors):
+        self.asked.append(tuple(processors))
+        self.now += 0.001
+        reading = self.readings.pop(0) if len(self.readings) > 1 else self.readings[0]
+        return list(reading) if isinstance(reading, tuple) else [reading] * len(processors)
+
+    def clock(self):
+        return self.now
+
+    def pause(self, seconds):
+        self.now += seconds
+
+    def call(self):
+        self.calls, self.now = self.calls + 1, self.now + 0.03
+        return f"value {self.calls}"
+
+    def gate(self, patience=1000.0, best=FAST, **options):
+        found = gate.Gate(self.look, self.clock, self.pause, **options)
+        found.best = {1: best, 2: best} if best else {}
+        found.start(patience)
+        return found
+
+
+class Counting(unittest.TestCase):
+    """Which measurements count."""
+
+    def test_at_full_speed_the_first_one_counts(self):
+        machine = Machine(FAST, FAST * 1.09)
+        guard = machine.gate()
+        self.assertEqual(guard.measure((3, 2), machine.call), ("value 1", FAST * 1.09))
+        self.assertEqual((machine.asked, guard.repeated), ([(3, 2), (3, 2)], 0))
+
+    def test_at_a_slow_processor_nothing_is_measured(self):
+        machine = Machine(SLOW, SLOW, FAST, FAST)
+        guard = machine.gate()
+        self.assertEqual(guard.measure((3,), machine.call), ("value 1", FAST))
+        self.assertEqual((machine.calls, guard.repeated), (1, 2))
+        self.assertAlmostEqual(machine.now, 4 * 0.001 + 2 * gate.REST + 0.03)
+
+    def test_a_value_before_a_slow_processor_is_dropped(self):
+        machine = Machine(FAST, SLOW, FAST, FAST)
+        guard = machine.gate()
+        self.assertEqual(guard.measure((3,), machine.call), ("value 2", FAST))
+        self.assertEqual(guard.repeated, 1)
+
+    def test_one_slow_processor_of_two_is_enough(self):
+        machine = Machine((FAST, FAST), (FAST, SLOW), (SLOW, FAST), (FAST, FAST))
+        self.assertEqual(machine.gate().measure((3, 2), machine.call), ("value 2", FAST))
+
+    def test_the_margin_is_part_of_full_speed_and_no_more(self):
+        self.assertTrue(Machine(FAST).gate(margin=0.1).is_full(FAST * 1.1, 1))
+        self.assertFalse(Machine(FAST).gate(margin=0.1).is_full(FAST * 1.11, 1))
+
+    def test_each_number_of_processors_has_its_best_time(self):
+        machine = Machine(FAST, FAST, (0.4, 0.4), (0.4, 0.41), FAST, 0.4, FAST, FAST)
+        guard = machine.gate(best=None)
+        self.assertEqual(guard.measure((3,), machine.call), ("value 1", FAST))
+        self.assertEqual(guard.measure((3, 2), machine.call), ("value 2", 0.41))
+        self.assertEqual(guard.measure((3,), machine.call), ("value 4", FAST))
+        self.assertEqual(guard.best, {1: FAST, 2: 0.4})
+
+    def test_tries_are_bounded(self):
+        machine = Machine(SLOW)
+        guard = machine.gate(tries=7)
+        self.assertIsNone(guard.measure((3,), machine.call))
+        self.assertEqual((len(machine.asked), machine.calls, guard.repeated), (7, 0, 7))
+
+    def test_time_is_bounded(self):
+        machine = Machine(SLOW)
+        guard = machine.gate(patience=0.1, tries=1000)
+        self.assertIsNone(guard.measure((3,), machine.call))
+        self.assertLess(machine.now, 0.1 + 2 * gate.REST)
+        self.assertIsNone(guard.measure((3,), machine.call))
+        self.assertLess(machine.now, 0.1 + 4 * gate.REST)
+
+    def test_without_patience_a_fast_one_still_counts(self):
+        machine = Machine(SLOW, FAST)
+        guard = machine.gate(patience=0)
+        self.assertIsNone(guard.measure((3,), machine.call))
+        self.assertEqual(guard.measure((3,), machine.call), ("value 1", FAST))
+
+    def test_a_better_best_time_found_afterwards_makes_it_slow(self):
+        machine = Machine(SLOW, SLOW, (SLOW, FAST), FAST, FAST)
+        guard = machine.gate(best=None)
+        self.assertEqual(guard.measure((3, 2), machine.call), ("value 1", SLOW))
+        self.assertEqual(guard.measure((3, 2), machine.call), ("value 2", FAST))
+        rows = [dict(workload="pair", contender=who, size=8, threads=1, metric="ns", processors=2, adds=adds)
+                for who, adds in (("a", [FAST, FAST]), ("b", [FAST, SLOW]))]
+        kept, refused = measure.full_speed(guard, rows)
+        self.assertEqual((kept, refused), (rows[:1], [["pair", "b", 8, 1, "slow"]]))
+
+    def test_more_processors_are_not_so_much_slower(self):
+        machine = Machine(FAST, FAST, (SLOW, SLOW))
+        guard = machine.gate(best=None, tries=3)
+        self.assertEqual(guard.measure((3,), machine.call), ("value 1", FAST))
+        self.assertIsNone(guard.measure((3, 2), machine.call))
+
+    def test_a_fault_of_the_worker_is_passed_on(self):
+        def fail():
+            raise EOFError
+        self.assertRaises(EOFError, Machine(FAST).gate().measure, (3,), fail)
+
+    def test_an_open_gate_lets_all_count(self):
+        machine = Machine(SLOW)
+        guard = gate.Gate(None, machine.clock, machine.pause)
+        self.assertEqual(guard.measure((3,), machine.call), ("value 1", None))
+        self.assertTrue(guard.is_quiet(4))
+
+
+class Rounds(unittest.TestCase):
+    """Which rounds of a point count."""
+
+    POINT = points.Point("pair", 8, 65536, 1, 30)
+
+    def measured(self, others, patience=1000.0, slow=()):
+        """Measures three rounds. Other programs use these processors in each of them, and the last number for ever."""
+        machine = Machine(FAST)
+        guard, others, began = machine.gate(patience), list(others), []
+
+        def measure_round(of, entries, failed, *_):
+            if of.guard.look is None:
+                return None
+            found = measure.Round()
+            found.others = others.pop(0) if len(others) > 1 else others[0]
+            found.values, found.adds = {("a", "ns"): 1.0}, {"a": FAST}
+            failed.update({who: "slow" for who in slow})
+            began.append(machine.now)
+            machine.now += 0.5
+            return found
+
+        worker = types.SimpleNamespace(name="w", takes_part=lambda _: ["a", "b"])
+        options = types.SimpleNamespace(contenders="", quick=False, reps=3)
+        old, measure.measure_round = measure.measure_round, measure_round
+        measure.time = types.SimpleNamespace(monotonic=machine.clock, sleep=machine.pause)
+        try:
+            rounds, failed = measure.measure_point(measure.Setting(guard, [3, 2], []), [worker], self.POINT, options)
+        finally:
+            measure.measure_round, measure.time = old, __import__("time")
+        return len(rounds), failed, len(began)
+
+    def test_quiet_rounds_count(self):
+        self.assertEqual(self.measured([0.0, 0.1, 0.2]), (3, {}, 3))
+
+    def test_a_round_beside_other_programs_is_repeated(self):
+        self.assertEqual(self.measured([0.0, 1.0, 0.3, 0.0, 0.0]), (3, {}, 5))
+
+    def test_a_machine_that_stays_busy_gives_no_round(self):
+        self.assertEqual(self.measured([2.0], patience=2.0), (0, {"a": "others", "b": "others"}, 4))
+
+    def test_a_contender_that_is_slow_keeps_its_reason(self):
+        self.assertEqual(self.measured([2.0], patience=0, slow=["b"])[1], {"a": "others", "b": "slow"})
+
+
+class Cores(unittest.TestCase):
+    """Which processors are used."""
+
+    def test_the_system_says_which_share_a_core(self):
+        with tempfile.TemporaryDirectory() as room:
+            for processor, text in ((0, "0,2"), (1, "1,3-4"), (2, "0,2"), (3, "1,3-4")):
+                os.makedirs(f"{room}/cpu{processor}/topology")
+                with open(f"{room}/cpu{processor}/topology/thread_siblings_list", "w", encoding="ascii") as file:
+                    file.write(text + "\n")
+            self.assertEqual(cores.said_to_share([0, 1, 2, 3], room), {(0, 2), (1, 3)})
+            self.assertIsNone(cores.said_to_share([0, 7], room))
+
+    def test_times_say_it_too(self):
+        class Speed:
+            def adds(self, them):
+                return [SLOW if set(them) == {1, 2} else FAST for _ in them]
+        times = cores.slowings(Speed(), [0, 1, 2])
+        self.assertEqual([pair for pair, it in times.items() if it >= cores.SHARED], [(1, 2)])
+
+    def test_one_of_each_core_comes_first(self):
+        self.assertEqual(cores.in_order(cores.cores([0, 1, 2, 3], {(0, 2), (1, 3)})), [3, 2, 1, 0])
+        self.assertEqual(cores.in_order(cores.cores([0, 1, 2, 3], {(2, 3)})), [3, 1, 0, 2])
+        self.assertEqual(cores.in_order(cores.cores([0, 1, 2, 3], set())), [3, 2, 1, 0])
+        self.assertEqual(cores.in_order(cores.cores([0, 1], {(0, 1)})), [1, 0])
+
+    def test_threads_of_a_point(self):
+        threads = [points.threads_of(points.Point(*it)) for it in (
+            ("batches", 8, 65536, 1, 15), ("pair", 8, 65536, 1, 30), ("producers", 8, 65536, 4, 30),
+            ("broadcast", 64, 65536, 2, 30), ("trips", 20, 65536, 1, 40))]
+        self.assertEqual(threads, [1, 2, 5, 3, 2])
+
+
+class Figures(unittest.TestCase):
+    """Which sets are figures."""
+
+    def setUp(self):
+        self.room = tempfile.TemporaryDirectory()
+        self.addCleanup(self.room.cleanup)
+
+    def path(self, *sets):
+        """A file of sets, of each of which the best time, whether it is gated, and the rows are given."""
+        path, read = f"{self.room.name}/sets.json", []
+        for best, gated, rows in sets:
+            about = dict(cpu="c", cores=4, kernel="k", reps=2, fifo=True, gated=gated, margin=0.1, processors=[3, 2],
+                         shared_cores=[], best={"1": best, "2": best}, repeated=1)
+            about.update({f"{who}_{what}": 0 for who in ("others", "steal") for what in ("median", "worst")})
+            read.append({"about": about, "results": [
+                dict(workload="pair", contender=who, size=8, threads=1, metric="ns", values=values)
+                for who, values in rows.items()]})
+        with open(path, "w", encoding="utf-8") as file:
+            json.dump({"sets": read}, file)
+        return path
+
+    def refusal(self, *sets):
+        with self.assertRaises(results.Refused) as why:
+            results.run_of_sets([self.path(*sets)], "these")
+        return str(why.exception)
+
+    ROWS = {"plain-o2o": [20.0, 30.0], "o2o-ar": [10.0, 10.0]}
+
+    def test_three_gated_sets_are_a_figure_with_its_spread(self):
+        sets = [(FAST, True, dict(self.ROWS, **{"plain-o2o": values})) for values in ([20, 20], [30, 30], [26, 26])]
+        run, lost = results.run_of_sets([self.path(*sets)], "these")
+        key = ("pair", "plain-o2o", 8, 1, "ns")
+        self.assertEqual((run.ns(*key), run.spread(*key), lost), (26.0, (20.0, 30.0), []))
+        self.assertEqual(page.times(run.against("o2o-ar", *key)), "2.60 (2.00–3.00)")
+        self.assertEqual(page.nanos(run, *key), "26 (20–30)")
+
+    def test_two_sets_are_none(self):
+        self.assertEqual(self.refusal(*[(FAST, True, self.ROWS)] * 2), "there are 2 sets, and a figure needs 3")
+
+    def test_a_set_that_was_not_gated_is_none(self):
+        self.assertEqual(self.refusal(*[(FAST, True, self.ROWS)] * 2, (FAST, False, self.ROWS)), "set 3 is not gated")
+
+    def test_a_set_that_ran_slower_is_none(self):
+        said = self.refusal((FAST, True, self.ROWS), (SLOW, True, self.ROWS), (FAST * 1.05, True, self.ROWS))
+        self.assertIn("set 2 ran slower: an add took 0.670 ns at best on 1 processors, and 0.320 in another set", said)
+        self.assertNotIn("set 3", said)
+
+    def test_a_row_that_a_set_lacks_is_left_out(self):
+        sets = [(FAST, True, self.ROWS)] * 2 + [(FAST, True, {"o2o-ar": [10.0, 10.0]})]
+        run, lost = results.run_of_sets([self.path(*sets)], "these")
+        self.assertEqual(lost, [("pair", "plain-o2o", 8, 1, "ns")])
+        self.assertIsNone(run.ns(*lost[0]))
+
+    def test_the_page_says_whether_two_threads_had_two_cores(self):
+        it = dict(gated=True, margin=0.1, best=[FAST] * 3, repeated=[1, 2, 3], processors=[3, 2])
+        self.assertIn("3 and 2, on cores of their own.", page.gated(dict(it, shared_cores=[])))
+        self.assertIn("3 and 2, on cores of their own.", page.gated(dict(it, shared_cores=[[0, 2], [1, 3]])))
+        self.assertIn("3 and 2, which share a core.", page.gated(dict(it, shared_cores=[[2, 3]])))
+        self.assertIn("were not gated", page.gated({}))
+
+    def test_columns_without_a_figure_are_left_out(self):
+        lines = list(page.used_columns(["", "a", "b"], [["x", page.NONE, "1"], ["y", page.NONE, page.NONE]]))
+        self.assertEqual(lines, ["|  | b |", "|---|---|", "| x | 1 |", "| y | – |"])
+
+    def test_stored_sets_make_the_page(self):
+        said = io.StringIO()
+        with contextlib.redirect_stdout(said):
+            sys.argv = ["page.py", "--check"]
+            status = page.main()
+        self.assertEqual((status, said.getvalue()), (0, ""))
+
+
+if __name__ == "__main__":
+    unittest.main()

@@ -1,0 +1,112 @@
+/* ring_record: records a run of a ring or a queue, of any kind, for the program ring-check.
+ *
+ * Each thread has a log of its own, which begins as RING_RECORD_EMPTY, and notes in it what each of its calls returned.
+ * Once all threads have ended, ring_record_write writes the logs into a file, one after another. A message is named by
+ * its producer, by a number that the producer gave to the call, and by a checksum of its bytes, such as
+ * ring_record_sum. A call that is tried again may keep its number: each refusal is noted with it, and then the call
+ * that was accepted.
+ *
+ * docs/CHECKING.md shows a whole program. Nothing here needs another header of felter. */
+#ifndef RING_RECORD_H
+#define RING_RECORD_H
+
+#include <inttypes.h>
+#include <stddef.h>
+#include <stdint.h>
+#include <stdio.h>
+#include <stdlib.h>
+
+/* What a line of a log says: the call was accepted, or refused; the consumer was shown a message, or found nothing
+ * after all producers had returned. */
+enum ring_record_kind { RING_RECORD_SENT, RING_RECORD_REFUSED, RING_RECORD_GOT, RING_RECORD_NOTHING };
+
+typedef struct ring_record_line {
+    uint64_t number, body;
+    uint16_t producer;
+    uint8_t kind;
+} ring_record_line;
+
+/* The log of a thread. `is_short` is 1 if memory ran out, and lines are missing. */
+typedef struct ring_record_log {
+    ring_record_line *lines;
+    size_t count, room;
+    int is_short;
+} ring_record_log;
+
+#define RING_RECORD_EMPTY {NULL, 0, 0, 0}
+
+static inline void ring_record_note(ring_record_log *log, enum ring_record_kind kind, uint16_t producer,
+                                    uint64_t number, uint64_t body) {
+    if (log->count == log->room) {
+        size_t room = log->room == 0 ? 1024 : 2 * log->room;
+        ring_record_line *lines =
+            room > SIZE_MAX / sizeof *lines ? NULL : (ring_record_line *)realloc(log->lines, room * sizeof *lines);
+        if (lines == NULL) {
+            log->is_short = 1;
+            return;
+        }
+        log->lines = lines;
+        log->room = room;
+    }
+    log->lines[log->count].number = number;
+    log->lines[log->count].body = body;
+    log->lines[log->count].producer = producer;
+    log->lines[log->count].kind = (uint8_t)kind;
+    log->count++;
+}
+
+/* Notes that a call of a producer was accepted. */
+static inline void ring_record_sent(ring_record_log *log, uint16_t producer, uint64_t number, uint64_t body) {
+    ring_record_note(log, RING_RECORD_SENT, producer, number, body);
+}
+
+/* Notes that a call of a producer was refused, or that its claim was aborted. */
+static inline void ring_record_refused(ring_record_log *log, uint16_t producer, uint64_t number, uint64_t body) {
+    ring_record_note(log, RING_RECORD_REFUSED, producer, number, body);
+}
+
+/* Notes that the consumer was shown a message. */
+static inline void ring_record_got(ring_record_log *log, uint16_t producer, uint64_t number, uint64_t body) {
+    ring_record_note(log, RING_RECORD_GOT, producer, number, body);
+}
+
+/* Notes that the consumer found nothing, although all producers had returned before it looked. */
+static inline void ring_record_nothing(ring_record_log *log) {
+    ring_record_note(log, RING_RECORD_NOTHING, 0, 0, 0);
+}
+
+/* A checksum of these bytes: FNV-1a of 64 bits. */
+static inline uint64_t ring_record_sum(const void *bytes, size_t length) {
+    const unsigned char *at = (const unsigned char *)bytes;
+    uint64_t sum = UINT64_C(14695981039346656037);
+    for (size_t i = 0; i < length; i++) sum = (sum ^ at[i]) * UINT64_C(1099511628211);
+    return sum;
+}
+
+/* Writes the logs as a run of a queue. Returns 0, or -1 if a write failed or a log is short. */
+static inline int ring_record_write(FILE *file, const ring_record_log *logs, size_t count) {
+    static const char *const words[] = {"sent", "refused", "got", "empty"};
+    if (fputs("queue\n", file) < 0) return -1;
+    for (size_t i = 0; i < count; i++) {
+        if (logs[i].is_short) return -1;
+        for (size_t j = 0; j < logs[i].count; j++) {
+            const ring_record_line *it = &logs[i].lines[j];
+            int written = it->kind == RING_RECORD_NOTHING
+                              ? fprintf(file, "empty\n")
+                              : fprintf(file, "%s %u %" PRIu64 " %" PRIu64 "\n", words[it->kind],
+                                        (unsigned)it->producer, it->number, it->body);
+            if (written < 0) return -1;
+        }
+    }
+    return fflush(file) == 0 ? 0 : -1;
+}
+
+/* Gives the memory of a log back, and empties it. */
+static inline void ring_record_free(ring_record_log *log) {
+    free(log->lines);
+    log->lines = NULL;
+    log->count = log->room = 0;
+    log->is_short = 0;
+}
+
+#endif

@@ -1,0 +1,39 @@
+//! What each kind of step says. These types are for the proofs alone: no value of them is made.
+ghost use Rattle.std.specs.Prelude.{◌≡◌, ◌+◌, ◌-◌, ◌++◌, []};
+ghost use Rattle.ring_adders.specs.Views.{adder_view};
+ghost use Rattle.ring_adders.specs.Steps.{Adds, Loads};
+
+use crate::view::AdderView;
+use atomic_table::{Join, Play, Split};
+
+/// An adder adds.
+pub struct AddAmount;
+
+impl Play<(), AdderView> for AddAmount {
+    ghost then = { λ s m n w. Adds s.first m.0 n w.0 × (w.1 ≡ m.1) };
+}
+
+/// An adder loads the sum.
+pub struct LoadSum;
+
+impl Play<(), AdderView> for LoadSum {
+    ghost then = { λ s m n w. Loads m.0 n w.0 × (w.1 ≡ m.1) };
+}
+
+/// A new adder gets one share of another's.
+pub struct CutAdder;
+
+impl Split<AdderView> for CutAdder {
+    ghost left = { λ v. adder_view (v.shares - 1) v.added v.seen };
+
+    ghost right = { λ v. adder_view 1 [] v.seen };
+}
+
+/// An adder takes another one in.
+pub struct JoinAdder;
+
+impl Join<AdderView> for JoinAdder {
+    ghost both = { λ v w. adder_view (v.shares + w.shares) (v.added ++ w.added) v.seen };
+
+    ghost spent = { adder_view 0 [] [] };
+}

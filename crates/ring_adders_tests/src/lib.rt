@@ -1,0 +1,5 @@
+//! Tests of shared counters.
+#![tactic(auto)]
+
+#[cfg(test)]
+mod adding;

@@ -1,0 +1,106 @@
+//! Judges a recorded run of a ring or a queue: reads the file with it, and says whether some history explains the run,
+//! or which line none explains.
+#![tactic(auto)]
+
+mod fault;
+mod help;
+mod options;
+mod report;
+mod why;
+
+use fault::CheckFault;
+use options::{Format, Options};
+use report::Report;
+use ring_judge::{Verdict, judge_queue, parse_queue};
+use std::env::Env;
+use std::io::{ErrorKind, Input, Read};
+use std::process::ExitCode;
+use std::rt::Files;
+use std::{env, fs};
+
+/// The status if nothing was judged.
+const FAULT: u8 = 2;
+
+fn main(rt: HostRuntime) -> ExitCode {
+    let words = match words_of(&rt) {
+        Ok(words) => words,
+        Err(fault) => return failed(&rt, fault),
+    };
+    match run(&rt, words.as_slice()) {
+        Ok(code) => code,
+        Err(fault) => failed(&rt, fault),
+    }
+}
+
+/// Prints why nothing was judged.
+fn failed(rt: &impl Eprint, fault: CheckFault<'_>) -> ExitCode {
+    let _ = eprintln!(rt; "ring-check: {fault}");
+    ExitCode::from(FAULT)
+}
+
+/// The words of the command line.
+fn words_of<R: AllocGlobal + Env>(rt: &R) -> Result<Vec<String>, CheckFault<'static>> {
+    match env::args(rt) {
+        Ok(arguments) => Ok(arguments.collect(rt.alloc())?),
+        Err(error) if error.kind() == ErrorKind::InvalidData => Err(CheckFault::NotUtf8),
+        Err(_out_of_memory) => Err(CheckFault::OutOfMemory),
+    }
+}
+
+/// Parses the arguments, and judges the file.
+fn run<'a, R: AllocGlobal + Files + Input + Print + Eprint>(
+    rt: &R,
+    words: &'a [String],
+) -> Result<ExitCode, CheckFault<'a>> {
+    match options::parse(rt.alloc(), words) {
+        Ok(options) => judge_file(rt, options),
+        Err(error) => match error.print(rt) {
+            Ok(()) => Ok(ExitCode::from(error.exit_code() as u8)),
+            Err(_) => Err(CheckFault::OutputUnwritten),
+        },
+    }
+}
+
+/// Judges the run in a file, and prints the verdict. The status is 0 for a yes and 1 for a no.
+fn judge_file<'a, R: AllocGlobal + Files + Input + Print>(
+    rt: &R,
+    options: Options<'a>,
+) -> Result<ExitCode, CheckFault<'a>> {
+    let alloc = rt.alloc();
+    let text = bytes_of(rt, options.file)?;
+    let lines = match parse_queue(alloc, text.as_slice()) {
+        Ok(lines) => lines,
+        Err(bad) => return Err(CheckFault::of_line(options.file, bad)),
+    };
+    let verdict = judge_queue(alloc, lines.as_slice())?;
+    let report = Report::of(alloc, text.as_slice(), lines.as_slice(), verdict)?;
+    let printed = match options.format {
+        Format::Table => report.to_table(alloc)?,
+        Format::Json => report.to_json(alloc, options.file)?,
+    };
+    if rt.print(printed.as_str()).is_err() {
+        return Err(CheckFault::OutputUnwritten);
+    }
+    Ok(match verdict {
+        Verdict::Yes => ExitCode::SUCCESS,
+        Verdict::No(_) => ExitCode::FAILURE,
+    })
+}
+
+/// The bytes of a file; `-` is standard input.
+fn bytes_of<'a, R: AllocGlobal + Files + Input>(
+    rt: &R,
+    file: &'a str,
+) -> Result<Vec<u8>, CheckFault<'a>> {
+    if file == "-" {
+        let mut bytes = Vec::new(rt.alloc());
+        return match rt.reader().read_to_end(&mut bytes) {
+            Ok(_) => Ok(bytes),
+            Err(error) => Err(CheckFault::of_file(file, error.kind())),
+        };
+    }
+    match fs::read(rt, file) {
+        Ok(bytes) => Ok(bytes),
+        Err(error) => Err(CheckFault::of_file(file, error.kind())),
+    }
+}

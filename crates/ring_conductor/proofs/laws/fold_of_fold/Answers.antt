@@ -1,5 +1,0 @@
-use Rattle.ring_conductor.proofs.AccountLemmas.{fold_of-append}
-use Rattle.ring_conductor.proofs.laws.fold_of_fold.Goals as goal
-
-pub returns : goal.returns
-returns c = fold_of-append

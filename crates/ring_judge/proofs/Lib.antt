@@ -1,0 +1,4 @@
+pub mod PartLemmas
+pub mod FollowLemmas
+pub mod SentLemmas
+pub mod WaitingLemmas

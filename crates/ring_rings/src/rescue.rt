@@ -1,0 +1,97 @@
+//! How a ring is taken apart of which producers are lost.
+ghost use Rattle.std.specs.Prelude.{◌≡◌, vec_len, true, []};
+ghost use Rattle.ring_table.specs.Rescued.{Rescues};
+ghost use Rattle.ring_table.specs.Views.{with_consumer_of};
+ghost use Rattle.ring_rings.specs.Rescuing.{IsRescued};
+ghost use Rattle.ring_rings.specs.Seats.{capacity_of, consumer_view, start_of, view_of};
+ghost use Rattle.ring_rings.specs.Seats.{IsConsumerOf, IsProducerOf};
+
+use crate::bodies::Bodies;
+use crate::ring::{Consumer, Producer, Ring};
+use ring_table::{RingSeat, RingTable, Unsettled, join_consumer};
+use ring_words::SoloRing;
+
+/// What was saved of a ring: the messages that were committed and not read, as a ring of one owner, and what lost
+/// producers had claimed and not settled.
+#[derive(Drop)]
+pub struct Rescued {
+    pub rest: SoloRing,
+    pub unsettled: Unsettled,
+}
+
+/// The words of a ring in its format, in `room`, from a seat that consumes.
+fn save_words<B: Bodies>(
+    table: RingTable<B>,
+    seat: RingSeat,
+    capacity: u32,
+    room: Vec<u64>,
+) -> (Vec<u64>, Unsettled)
+    requires table { (seat.table_id ≡ table.shared.table_id)
+        × (table.shared.table_id.slots ≡ B.slots_for table.shared.key.capacity) }
+    requires capacity { table.shared.key.capacity ≡ capacity }
+    requires room { vec_len room ≡ table.shared.table_id.words }
+    requires consumes { (seat.me.0.consumes ≡ true) × (seat.me.0.consumer.cleared ≡ seat.me.0.consumer.head) }
+    requires home { seat.me.0.out ≡ [] }
+    ensures { Rescues capacity table.shared.key.start seat.me.0 result.0.items result.1.claims result.1.silent }
+{
+    B::rescue(table.close_with(seat), capacity, room)
+}
+
+impl<K, B: Bodies> Ring<K, B> {
+    /// Takes the ring apart with its consumer alone, whatever became of its producers. What was committed and not read
+    /// stays, in its order and at its places, and what was claimed and not settled is aborted.
+    pub fn rescue(self, consumer: Consumer) -> Rescued
+        requires consumer { IsConsumerOf self consumer }
+        ensures rescued { IsRescued (capacity_of self) (start_of self) (consumer_view consumer) result }
+    {
+        let Consumer {
+            seat,
+            head: _,
+            scratch,
+        } = consumer;
+        let Ring {
+            table,
+            room,
+            capacity,
+            kind: _,
+        } = self;
+        let (words, unsettled) = save_words(table, seat, capacity, room);
+        Rescued {
+            rest: SoloRing::from_words(capacity, words, scratch),
+            unsettled,
+        }
+    }
+
+    /// Takes the ring apart with its consumer and a producer that is left, whose claims the contract distinguishes from
+    /// those of others. Its own open claims are aborted too: once the ring is apart, nothing can settle them.
+    pub fn rescue_with(self, producer: Producer, consumer: Consumer) -> Rescued
+        requires producer { IsProducerOf self producer }
+        requires consumer { IsConsumerOf self consumer }
+        ensures rescued { IsRescued (capacity_of self) (start_of self)
+            (with_consumer_of (view_of producer) (consumer_view consumer)) result }
+    {
+        let Producer {
+            mut seat,
+            shares: _,
+            open_claims: _,
+            own_tail: _,
+        } = producer;
+        let Consumer {
+            seat: reader,
+            head: _,
+            scratch,
+        } = consumer;
+        let Ring {
+            table,
+            room,
+            capacity,
+            kind: _,
+        } = self;
+        join_consumer(&table.shared, &mut seat, reader);
+        let (words, unsettled) = save_words(table, seat, capacity, room);
+        Rescued {
+            rest: SoloRing::from_words(capacity, words, scratch),
+            unsettled,
+        }
+    }
+}

@@ -1,0 +1,14 @@
+pub mod ListLemmas
+pub mod SpotLemmas
+pub mod ByteLemmas
+pub mod RecordLemmas
+pub mod CellLemmas
+pub mod KeptLemmas
+pub mod ClaimLemmas
+pub mod ChangeLemmas
+pub mod GiveLemmas
+pub mod ReadLemmas
+pub mod HeadLemmas
+pub mod SeatLemmas
+pub mod Calls
+pub mod LawLemmas

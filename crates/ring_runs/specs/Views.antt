@@ -1,0 +1,74 @@
+-- What each seat knows at first, and how steps, splits and joins change it.
+use Rattle.std.specs.Prelude.{ℕ, ◌+◌, List, [], ◌∷◌, ◌++◌, true, false, length, slice_set}
+use Rattle.ring_runs.specs.Records.{Entry}
+use Rattle.ring_runs.specs.Cells.{Claim, Stage}
+pub use Rattle.ring_runs.specs.declared.view.Reader.{Reader}
+pub use Rattle.ring_runs.specs.declared.view.View.{View}
+
+abbrev pub first_reader : Reader
+first_reader = record { head = 0; from = 0; scan = 0; log = []; runs = [] }
+
+-- the first seat is the only producer, and the consumer
+abbrev pub first_view : ℕ → View
+first_view n = record {
+  capacity = n;
+  produces = true;
+  alone = true;
+  tail = 0;
+  claims = [];
+  head_seen = 0;
+  heads = [];
+  consumes = true;
+  reader = first_reader;
+}
+
+-- ---- seats
+
+-- the consumer's part goes to a seat of its own
+abbrev pub without_reader : View → View
+without_reader v = record v { consumes = false }
+
+abbrev pub reader_alone : View → View
+reader_alone v = record v { produces = false; alone = false; claims = []; heads = [] }
+
+-- one more of many producers
+abbrev pub producer_alone : View → View
+producer_alone v = record v { consumes = false; claims = []; heads = [] }
+
+-- the tail is in the table from then on
+abbrev pub sharing : View → View
+sharing v = record v { alone = false }
+
+-- ---- producers
+
+abbrev pub new_claim : Stage → ℕ → List Entry → List ℕ → Claim
+new_claim t place es ws = record { place = place; words = ws; entries = es; stage = t }
+
+abbrev pub with_claims : List Claim → ℕ → View → View
+with_claims cs tail v = record v { claims = cs; tail = tail }
+
+-- the k-th claim is this one
+abbrev pub changed : ℕ → Claim → View → View
+changed k c v = with_claims (slice_set v.claims k c) v.tail v
+
+abbrev pub with_head_seen : ℕ → View → View
+with_head_seen head v = record v { head_seen = head; heads = v.heads ++ head ∷ [] }
+
+-- ---- the consumer
+
+abbrev pub with_reader : Reader → View → View
+with_reader r v = record v { reader = r }
+
+-- a run of these records was found at the scan, and has these words
+abbrev pub looked : List Entry → List ℕ → Reader → Reader
+looked es ws r = record r {
+  scan = r.scan + length ws;
+  log = r.log ++ ws;
+  runs = r.runs ++ (record { place = r.scan; entries = es }) ∷ [];
+}
+
+abbrev pub passed : ℕ → Reader → Reader
+passed head r = record r { head = head; from = r.scan }
+
+abbrev pub retaken : Reader → Reader
+retaken r = record r { from = r.head }

@@ -1,0 +1,24 @@
+//! Bodies of a ring in slots, published by runs: a word is the end of the run that begins there, and the slots have its
+//! records. Positions and capacities count words of 8 bytes.
+//!
+//! - `view`: what each seat knows. `rule`: what holds between any two steps.
+//! - `plays`: what each kind of step says. `steps`: a function for each kind.
+//! - `table`: the table and its seats.
+#![tactic(auto)]
+
+mod laws;
+mod plays;
+mod rule;
+mod steps;
+mod table;
+mod view;
+
+pub use laws::what_is_taken_was_published;
+pub use rule::RunsRule;
+pub use steps::consumer::{look, retake, return_all, store_head};
+pub use steps::producer::{
+    claim_alone, claim_shared, give_back, load_head, load_tail, publish, share_tail, take,
+};
+pub use steps::{RunsSeat, SharedRuns};
+pub use table::{RunsTable, open, split_producer, split_reader};
+pub use view::{Claim, Entry, Reader, Run, Stage, View};

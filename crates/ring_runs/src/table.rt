@@ -1,0 +1,75 @@
+//! A table of runs from its making on, and its seats.
+ghost use Rattle.std.specs.Prelude.{◌≡◌, ◌<◌, IfOk, [], replicate, true, false};
+ghost use Rattle.ring_runs.specs.Seats.{IsCapacity, IsSameSeat, IsSeatOf};
+ghost use Rattle.ring_runs.specs.Views.{first_view, producer_alone, reader_alone, without_reader};
+
+use crate::rule::RunsRule;
+use crate::steps::{RunsSeat, SharedRuns};
+use crate::view::View;
+use atomic_table::{Refused, Split, Table};
+use ring_layout::ring_buffer_descriptor::TRAILER_WORDS;
+use std::alloc::{AllocError, Global};
+
+/// The table of one ring.
+pub type RunsTable = Table<u64, View, u64, RunsRule, Global>;
+
+fn zeros(alloc: Global, count: usize) -> Result<Vec<u64>, AllocError>
+    ensures { IfOk result (λ v. v.items ≡ replicate count 0) }
+{
+    vec![in alloc; 0u64; count]
+}
+
+/// A table for a buffer of this many words, and its first seat, which is the only producer and the consumer. The only
+/// error is that there was no memory.
+pub fn open(alloc: Global, capacity: u32) -> Result<(RunsTable, RunsSeat), AllocError>
+    requires { IsCapacity capacity }
+    ensures seat { IfOk result (λ t. IsSeatOf t.0.shared.table_id t.0.shared.key capacity t.1) }
+    ensures view { IfOk result (λ t. t.1.me ≡ (first_view capacity, [])) }
+{
+    let words = zeros(alloc, capacity as usize + TRAILER_WORDS)?;
+    let slots = zeros(alloc, capacity as usize)?;
+    match Table::new(alloc, words.as_slice(), slots, &(capacity as u64)) {
+        Ok(made) => Ok(made),
+        Err(Refused { slots: _ }) => Err(AllocError),
+    }
+}
+
+pub struct TheReader;
+
+impl Split<View> for TheReader {
+    ghost left = { without_reader };
+
+    ghost right = { reader_alone };
+}
+
+/// Gives the consumer's part to a new seat.
+pub fn split_reader(ring: &SharedRuns, seat: &mut RunsSeat) -> RunsSeat
+    requires table { seat.old.table_id ≡ ring.now.table_id }
+    requires words { 0 < ring.now.table_id.words }
+    requires consumes { seat.old.me.0.consumes ≡ true }
+    ensures seat { IsSameSeat seat.old seat.new }
+    ensures left { seat.new.me ≡ (without_reader seat.old.me.0, seat.old.me.1) }
+    ensures right { (result.table_id ≡ seat.old.table_id) × (result.me ≡ (reader_alone seat.old.me.0, [])) }
+{
+    ring.split_seat::<TheReader>(seat)
+}
+
+pub struct OneProducer;
+
+impl Split<View> for OneProducer {
+    ghost left = { λ v. v };
+
+    ghost right = { producer_alone };
+}
+
+/// Makes one more of many producers, with no claims.
+pub fn split_producer(ring: &SharedRuns, seat: &mut RunsSeat) -> RunsSeat
+    requires table { seat.old.table_id ≡ ring.now.table_id }
+    requires words { 0 < ring.now.table_id.words }
+    requires many { seat.old.me.0.alone ≡ false }
+    ensures seat { IsSameSeat seat.old seat.new }
+    ensures left { seat.new.me ≡ seat.old.me }
+    ensures right { (result.table_id ≡ seat.old.table_id) × (result.me ≡ (producer_alone seat.old.me.0, [])) }
+{
+    ring.split_seat::<OneProducer>(seat)
+}

@@ -1,0 +1,125 @@
+-- What a client asks, and what it receives.
+use Rattle.std.specs.Prelude.{◌≡◌, ◌≢◌, ℕ, ◌≤◌, ℤ, List, length, Bool}
+use Rattle.ring_layout.specs.Lists.{total}
+use Rattle.ring_table.specs.declared.view.Service.{Service}
+use Rattle.ring_table.specs.declared.view.View.{View}
+use Rattle.ring_table.specs.ServiceSteps.{DrawsId}
+use Rattle.ring_table.specs.Services.{times}
+use Rattle.ring_rings.specs.declared.fault.TryFault.{TryFault}
+use Rattle.ring_rings.specs.declared.ring.Producer.{Producer}
+use Rattle.ring_rings.specs.Claiming.{Refusing, Writing}
+use Rattle.ring_rings.specs.declared.ring.Ring.{Ring}
+use Rattle.ring_rings.specs.declared.bodies.Bodies.{Ghosts}
+use Rattle.ring_rings.specs.Seats.{view_of, IsProducerOf, MayClaim}
+use Rattle.ring_board.specs.declared.board.Board.{Board}
+use Rattle.ring_board.specs.declared.board.CopyReceiver.{CopyReceiver}
+use Rattle.ring_board.specs.Receiving.{GotCopy, GotLapped, GotNothing}
+use Rattle.ring_board.specs.Seats.{receiver_seat, IsReceiverOf}
+use Rattle.ring_board.specs.Views.{Sat}
+use Rattle.ring_protocol.specs.declared.reply.Reply.{Reply}
+use Rattle.ring_service.specs.declared.client.Client.{Client}
+use Rattle.ring_service.specs.declared.client.Polled.{Polled}
+use Rattle.ring_service.specs.declared.client.Polled.TheVariants.{Answered, Another, NoReply, Nothing, Lapped}
+use Rattle.ring_service.specs.declared.client.SendFault.{SendFault}
+use Rattle.ring_service.specs.declared.client.SendFault.TheVariants.{TooLong, Refused}
+use Rattle.ring_protocol.specs.Command.{LentRequest as Request, HasTextLengths, asked, content_of_request, spelling_of, type_id_of}
+use Rattle.ring_protocol.specs.Reply as reply
+
+abbrev pub producer_of : Client → Producer
+producer_of c = c.producer
+
+abbrev pub receiver_of : Client → CopyReceiver
+receiver_of c = c.receiver
+
+-- what a producer drew and read, the numbers that it drew, and the services of those that were joined into it
+abbrev pub service_of : Producer → Service
+service_of p = (view_of p).producer.service
+
+abbrev pub draws_of : Producer → List ℕ
+draws_of p = (service_of p).draws
+
+abbrev pub services_of : Producer → List Service
+services_of p = (view_of p).producer.joined
+
+-- the number of times that these services drew a number
+abbrev pub drawn_in : ℕ → List Service → ℕ
+drawn_in x services = total (λ (s : Service). times x s.draws) services
+
+-- what a client's producer knows of the ring
+abbrev pub client_view : Client → View
+client_view c = view_of c.producer
+
+-- what its receiver knows of the broadcast buffer
+abbrev pub client_seat : Client → Sat
+client_seat c = receiver_seat c.receiver
+
+-- its producer may claim in this ring, whose kind is for many producers or for one, and its receiver is this broadcast
+-- buffer's
+abbrev pub IsSeatedAt : {K B : Type 0} {G : Ghosts B} → Bool → Ring K B G → Board → Client → Type 0
+IsSeatedAt many ring board c =
+    IsProducerOf ring (producer_of c) × MayClaim many (producer_of c) × IsReceiverOf board (receiver_of c)
+
+-- the command takes at most 520 bytes, whatever its correlation id
+pub record IsSendable (r : Request) : Type 0 where
+  pub texts : HasTextLengths (content_of_request r)
+  pub room : length (spelling_of (asked r 0)) ≤ 520
+
+-- Sending ----------------------------------------------------------------------
+
+-- W is what a write does to a producer's view, and R what a refused try does, by the ring's kind
+
+-- the command with this correlation id is one committed claim more
+abbrev pub SendsAs : Writing → ℕ → ℕ → Request → View → View → Type 0
+SendsAs W C correlation request v w =
+    let command = asked request correlation in W C (type_id_of command) (spelling_of command) v w
+
+-- nothing was written: the command is too long, or the ring refused it
+abbrev pub RefusesAs : Refusing → ℕ → ℕ → Request → View → SendFault → View → Type 0
+RefusesAs R C correlation request v TooLong w = (IsSendable request → ⊥) × (w ≡ v)
+RefusesAs R C correlation request v (Refused id reason) w =
+    let command = asked request correlation in IsSendable request × (id ≡ correlation)
+    × R C (type_id_of command) (length (spelling_of command)) v reason w
+
+-- an id was drawn, and the command with that correlation id is one committed claim more
+pub record Sends (W : Writing) (C : ℕ) (request : Request) (v : View) (correlation : ℕ) (w : View) : Type 0 where
+  pub between : View
+  pub draws : DrawsId v correlation between
+  pub sent : SendsAs W C correlation request between w
+
+-- an id was drawn, and the ring refused the command with that correlation id
+pub record RefusesDrawn (R : Refusing) (C : ℕ) (request : Request) (v : View) (correlation : ℕ) (reason : TryFault)
+    (w : View) : Type 0 where
+  pub between : View
+  pub draws : DrawsId v correlation between
+  pub refused : RefusesAs R C correlation request between (Refused correlation reason) w
+
+-- no id was drawn for a command that is too long
+abbrev pub RefusesSend : Refusing → ℕ → Request → View → SendFault → View → Type 0
+RefusesSend R C request v TooLong w = (IsSendable request → ⊥) × (w ≡ v)
+RefusesSend R C request v (Refused correlation reason) w = RefusesDrawn R C request v correlation reason w
+
+-- Hearing ----------------------------------------------------------------------
+
+-- one copy more came, which spells this reply
+pub record Hears (r : Reply) (old new : Sat) : Type 0 where
+  pub place : ℕ
+  pub type_id : ℤ
+  pub body : List ℕ
+  pub copied : GotCopy place type_id body old new
+  pub spells : reply.Spells type_id body r
+
+-- one copy more came, which spells no reply
+pub record HearsNoReply (old new : Sat) : Type 0 where
+  pub place : ℕ
+  pub type_id : ℤ
+  pub body : List ℕ
+  pub copied : GotCopy place type_id body old new
+  pub spells : (r : Reply) → reply.Spells type_id body r → ⊥
+
+-- what a poll for the reply to the command with this correlation id returns
+abbrev pub IsHeard : ℕ → Sat → Sat → Polled → Type 0
+IsHeard correlation old new (Answered r) = Hears r old new × (reply.correlation_id_of r ≡ correlation)
+IsHeard correlation old new (Another r) = Hears r old new × (reply.correlation_id_of r ≢ correlation)
+IsHeard correlation old new NoReply = HearsNoReply old new
+IsHeard correlation old new Nothing = GotNothing old new
+IsHeard correlation old new (Lapped l) = GotLapped l old new

@@ -1,0 +1,300 @@
+//! What a search makes of the tables that a program itself keeps, and of buffers that changed while they were read.
+use crate::fault::ShowFault;
+use crate::found::{Found, Kind, Part};
+use crate::memory::Region;
+use crate::search::{Search, WINDOW};
+use crate::tables::{Registry, Table, place_of};
+use crate::trailer::{Fits, Trailer, fits_at, has_clear_board, has_clear_ring, positions};
+use ring_report::{Section, formatted_words, words_of};
+use std::alloc::{AllocError, Global};
+use std::io::Input;
+use std::rt::{Clock, Files};
+use std::thread::sleep;
+use std::time::Duration;
+
+/// The most bytes between two positions.
+const MOST: u64 = 1 << 24;
+
+/// How often a buffer that changes is read again.
+const ROUNDS: u32 = 5;
+
+/// How many buffers that change are read again at most.
+const BUSY: usize = 16;
+
+/// The file of a memory, and its pieces in the order of their addresses.
+#[derive(Clone, Copy)]
+pub struct Pieces<'a> {
+    pub file: &'a str,
+    pub regions: &'a [Region],
+}
+
+impl<'a> Pieces<'a> {
+    /// The words at an address, if they can be read.
+    fn words<R: AllocGlobal + Files + Input>(
+        self,
+        rt: &R,
+        address: u64,
+        length: u64,
+    ) -> Option<Vec<u64>> {
+        let at = place_of(self.regions, address, length)?;
+        let section = Section {
+            file: self.file,
+            at,
+            length: Some(length),
+        };
+        words_of(rt, section, WINDOW).ok()
+    }
+}
+
+/// Tests whether these words are the trailer of a ring or a broadcast buffer of this capacity. Its positions may have
+/// changed between them.
+fn is_trailer(kind: Kind, capacity: u64, words: &[u64]) -> bool {
+    let (first, second) = positions(kind, words);
+    let is_clear = if kind == Kind::Ring {
+        has_clear_ring(words)
+    } else {
+        has_clear_board(words) && second > 0
+    };
+    is_clear && first % 8 == 0 && second % 8 == 0 && first.abs_diff(second) <= capacity.min(MOST)
+}
+
+/// The ring or the broadcast buffer that a table names, if it is there.
+fn known_at<R: AllocGlobal + Files + Input>(
+    rt: &R,
+    pieces: Pieces<'_>,
+    kind: Kind,
+    table: Table,
+) -> Option<Found> {
+    let capacity = table.capacity;
+    let at = place_of(
+        pieces.regions,
+        table.words,
+        capacity.saturating_add(kind.trailer()),
+    )?;
+    let bodies_at = if kind == Kind::Ring {
+        Some(place_of(pieces.regions, table.bodies, capacity)?)
+    } else {
+        None
+    };
+    let words = pieces.words(rt, table.words.saturating_add(capacity), kind.trailer())?;
+    if !is_trailer(kind, capacity, words.as_slice()) {
+        return None;
+    }
+    Some(Found {
+        kind,
+        address: table.words,
+        at,
+        capacity,
+        others: 0,
+        bodies_at,
+        values: None,
+        is_known: true,
+    })
+}
+
+/// Adds the rings or the broadcast buffers that tables name, in the order of their addresses. Of tables that name the
+/// same memory the first counts.
+fn add_known<R: AllocGlobal + Files + Input>(
+    rt: &R,
+    pieces: Pieces<'_>,
+    known: &mut Vec<Found>,
+    kind: Kind,
+    tables: &[Table],
+) -> Result<(), AllocError> {
+    let mut end = 0;
+    for table in tables {
+        if table.words < end {
+            continue;
+        }
+        if let Some(found) = known_at(rt, pieces, kind, *table) {
+            end = found.address.saturating_add(found.length());
+            known.push(found)?;
+        }
+    }
+    Ok(())
+}
+
+/// The addresses after the buffers, in order.
+fn ends(alloc: Global, found: &[Found]) -> Result<Vec<u64>, AllocError> {
+    let mut ends = Vec::new(alloc);
+    for it in found {
+        ends.push(it.end())?;
+    }
+    ends.sort_unstable();
+    Ok(ends)
+}
+
+/// Tests whether an address is among some that are in order.
+fn has(ends: &[u64], address: u64) -> bool {
+    let after = ends.partition_point(|end| *end < address);
+    ends.get(after).copied() == Some(address)
+}
+
+/// The counters that a program keeps, if these are of them.
+fn counters_of(pieces: Pieces<'_>, registries: &[Registry], address: u64) -> Option<Found> {
+    let after = registries.partition_point(|it| it.metadata <= address);
+    let registry = registries.get(after.checked_sub(1)?)?;
+    if !registry.has(address) {
+        return None;
+    }
+    let (metadata, length) = (registry.metadata, registry.values_length());
+    let at = place_of(pieces.regions, metadata, registry.metadata_length())?;
+    let values_at = place_of(pieces.regions, registry.values, length)?;
+    Some(Found {
+        kind: Kind::Counters,
+        address: metadata,
+        at,
+        capacity: registry.metadata_length(),
+        others: 0,
+        bodies_at: None,
+        values: Some(Part {
+            at: values_at,
+            length,
+        }),
+        is_known: true,
+    })
+}
+
+/// Adds counters: all that the program keeps if a registry has them, otherwise those that were found.
+fn add_counters(
+    known: &mut Vec<Found>,
+    pieces: Pieces<'_>,
+    registries: &[Registry],
+    counters: &[Found],
+) -> Result<(), AllocError> {
+    let mut end = 0;
+    for it in counters {
+        if it.address < end {
+            continue;
+        }
+        let found = counters_of(pieces, registries, it.address).unwrap_or(*it);
+        end = found.end();
+        known.push(found)?;
+    }
+    Ok(())
+}
+
+/// The buffers that end with the trailer after this many bytes of these words.
+fn fits_in(alloc: Global, kind: Kind, words: &[u64], before: u64) -> Option<Fits> {
+    let index = (before / 8) as usize;
+    if kind != Kind::Ring {
+        return Some(fits_at(kind, words, index));
+    }
+    let formatted = formatted_words(alloc, words).ok()?;
+    Some(fits_at(kind, formatted.as_slice(), index))
+}
+
+/// The buffers that end with a trailer, by the memory as it is now.
+fn fits_now<R: AllocGlobal + Files + Input>(
+    rt: &R,
+    pieces: Pieces<'_>,
+    trailer: Trailer,
+) -> Option<Fits> {
+    let length = trailer.kind.trailer();
+    for exponent in 0..18u32 {
+        // (from the largest capacity on: the first one that memory has room for)
+        let before = MOST >> exponent;
+        let Some(address) = trailer.address.checked_sub(before) else {
+            continue;
+        };
+        if let Some(words) = pieces.words(rt, address, before.saturating_add(length)) {
+            return fits_in(rt.alloc(), trailer.kind, words.as_slice(), before);
+        }
+    }
+    None
+}
+
+/// Tests whether the positions of a trailer are others now.
+fn has_changed<R: AllocGlobal + Files + Input>(
+    rt: &R,
+    pieces: Pieces<'_>,
+    trailer: Trailer,
+) -> bool {
+    match pieces.words(rt, trailer.address, trailer.kind.trailer()) {
+        Some(words) => positions(trailer.kind, words.as_slice()) != trailer.positions,
+        None => false,
+    }
+}
+
+/// The buffer that ends with a trailer, looked for again and again.
+fn look_again<R: AllocGlobal + Clock + Files + Input>(
+    rt: &R,
+    pieces: Pieces<'_>,
+    trailer: Trailer,
+) -> Option<Found> {
+    for _ in 0..ROUNDS {
+        let fits = fits_now(rt, pieces, trailer)?;
+        if let Some(found) = trailer.found(fits) {
+            return Some(found);
+        }
+        sleep(rt, Duration::from_millis(2));
+    }
+    None
+}
+
+impl Search {
+    /// Adds what the tables of the program name, and then what was found and is not among that.
+    fn add_whole<R: AllocGlobal + Files + Input>(
+        &mut self,
+        rt: &R,
+        pieces: Pieces<'_>,
+        known: &mut Vec<Found>,
+    ) -> Result<(), AllocError> {
+        self.rings.sort_unstable_by_key(|table| table.words);
+        self.boards.sort_unstable_by_key(|table| table.words);
+        self.registries.sort_unstable_by_key(|it| it.metadata);
+        add_known(rt, pieces, known, Kind::Ring, self.rings.as_slice())?;
+        add_known(rt, pieces, known, Kind::Board, self.boards.as_slice())?;
+        let ends = ends(rt.alloc(), known.as_slice())?;
+        for it in self.found.iter() {
+            if !has(ends.as_slice(), it.end()) {
+                known.push(*it)?;
+            }
+        }
+        let (registries, counters) = (self.registries.as_slice(), self.counters.as_slice());
+        add_counters(known, pieces, registries, counters)
+    }
+
+    /// Adds the buffers of a running program that changed while they were read. Returns the trailers of those that
+    /// change all the time, so that their capacity is not known.
+    fn add_changed<R: AllocGlobal + Clock + Files + Input>(
+        &self,
+        rt: &R,
+        pieces: Pieces<'_>,
+        known: &mut Vec<Found>,
+    ) -> Result<Vec<Trailer>, AllocError> {
+        let ends = ends(rt.alloc(), known.as_slice())?;
+        let mut busy = Vec::new(rt.alloc());
+        for trailer in self.trailers.iter() {
+            if busy.len() < BUSY
+                && !has(ends.as_slice(), trailer.address)
+                && has_changed(rt, pieces, *trailer)
+            {
+                match look_again(rt, pieces, *trailer) {
+                    Some(found) => known.push(found)?,
+                    None => busy.push(*trailer)?,
+                }
+            }
+        }
+        Ok(busy)
+    }
+
+    /// Adds all that was found, in the order of addresses, and returns the trailers of buffers that change all the
+    /// time. If the memory is that of a running program, what changed while it was read is looked at again.
+    pub fn settle<R: AllocGlobal + Clock + Files + Input>(
+        &mut self,
+        rt: &R,
+        pieces: Pieces<'_>,
+        known: &mut Vec<Found>,
+        is_live: bool,
+    ) -> Result<Vec<Trailer>, ShowFault<'static>> {
+        self.add_whole(rt, pieces, known)?;
+        let busy = if is_live {
+            self.add_changed(rt, pieces, known)?
+        } else {
+            Vec::new(rt.alloc())
+        };
+        known.sort_unstable_by_key(|it| it.address);
+        Ok(busy)
+    }
+}

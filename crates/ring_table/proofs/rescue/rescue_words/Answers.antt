@@ -1,0 +1,36 @@
+use Rattle.std.proofs.Common.{◌≡◌, ℕ, ◌/◌, ◌≤◌, List, length, slice_index, sym, ◌∙◌, subst}
+use Rattle.ring_table.specs.Rule.{Kept}
+use Rattle.ring_table.specs.Staged.{in_words}
+use Rattle.ring_table.proofs.RescueLemmas.{left, rescues, shows_left}
+use Rattle.ring_table.proofs.rescue.rescue_words.Goals as goal
+
+pub settle_words-unsettled-requires-clause-claims : goal.settle_words-unsettled-requires-clause-claims
+settle_words-unsettled-requires-clause-claims c =
+    let key = c.requires.left.0 in
+    let v = c.requires.left.1 in
+    let saved = c.requires.left.2 in
+    let final = saved.final in
+    let e : final.0.words ≡ c.copy_words.new.words.items = final.2 ∙ sym c.copy_words.ensures in
+    let kept : Kept in_words c.args.capacity key.start c.copy_words.new.words.items final.0.views =
+    subst (λ (z : ℕ × List ℕ). Kept in_words z.0 key.start z.1 final.0.views)
+    (λ i. (c.requires.left.4 i, e i)) final.1.0.0 in (
+      left in_words c.args.capacity key.start c.copy_words.new.words.items final.0.views kept saved.id v final.1.1
+          saved.consumes saved.rests,
+      shows_left in_words c.args.capacity key.start c.copy_words.new.words.items final.0.views kept saved.id v
+          final.1.1 saved.consumes saved.rests,
+    )
+
+pub returns : goal.returns
+returns c = λ key v saved same.
+    let final = saved.final in
+    let e : final.0.words ≡ c.copy_words.new.words.items = final.2 ∙ sym c.copy_words.ensures in
+    let kept : Kept in_words c.args.capacity key.start c.copy_words.new.words.items final.0.views =
+    subst (λ (z : ℕ × List ℕ). Kept in_words z.0 key.start z.1 final.0.views) (λ i. (same i, e i)) final.1.0.0 in
+    rescues in_words c.args.capacity key.start c.copy_words.new.words.items final.0.views kept saved.id v final.1.1
+    saved.consumes saved.rests c.settle_words-unsettled.new.words.items c.settle_words-unsettled.result.claims
+    c.settle_words-unsettled.result.silent
+    (sym c.settle_words-unsettled.new.words.ok.0 ∙ c.settle_words-unsettled.ensures.long
+    ∙ c.copy_words.new.words.ok.0)
+    c.settle_words-unsettled.ensures.trailer
+    (c.settle_words-unsettled.ensures.settles _ (shows_left in_words c.args.capacity key.start
+    c.copy_words.new.words.items final.0.views kept saved.id v final.1.1 saved.consumes saved.rests))

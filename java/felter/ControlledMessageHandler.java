@@ -1,0 +1,26 @@
+package felter;
+
+import java.nio.ByteBuffer;
+
+/** The handler of a controlled read, which calls it with each message. The handler returns what the read does with the
+ * message. */
+@FunctionalInterface
+public interface ControlledMessageHandler {
+    /** What a controlled read does after a message was shown. */
+    enum Action {
+        /** Stops. The message stays in the ring. */
+        ABORT,
+        /** Takes the message, and stops. */
+        BREAK,
+        /** Takes the message, and goes on. */
+        COMMIT,
+        /**
+         * Takes the message, and goes on. This does the same as COMMIT: the producers get the room of each message at
+         * once.
+         */
+        CONTINUE
+    }
+
+    /** Handles a message, which is at an index of the buffer. The buffer is used again after the call. */
+    Action onMessage(int msgTypeId, ByteBuffer buffer, int index, int length);
+}

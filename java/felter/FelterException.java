@@ -1,0 +1,18 @@
+package felter;
+
+/** A call was refused. {@link #code} says why, by the numbers of felter.h. */
+public final class FelterException extends IllegalStateException {
+    private static final long serialVersionUID = 1L;
+
+    private final int code;
+
+    FelterException(final int code, final String text) {
+        super(code + " " + text);
+        this.code = code;
+    }
+
+    /** Returns the code, by the numbers of felter.h. */
+    public int code() {
+        return code;
+    }
+}

@@ -1,0 +1,17 @@
+package felter;
+
+/** A ring that one thread at a time writes and another one reads. */
+public final class OneToOneRingBuffer extends RingBuffer {
+    private final Producer producer;
+
+    /** Makes a ring of {@code capacity} bytes, a power of two from 128 to 2^24. */
+    public OneToOneRingBuffer(final int capacity) {
+        super(true, capacity);
+        producer = new Producer(handles(), 0, maxMsgLength());
+    }
+
+    @Override
+    Producer producer() {
+        return producer;
+    }
+}

@@ -1,0 +1,87 @@
+package felter;
+
+import java.nio.ByteBuffer;
+
+/** What a thread writes with: a handle, and a buffer for its claim. */
+final class Producer {
+    private final Owner.Handles handles;
+    private final int index;
+    private final ByteBuffer out = Owner.buffer(16);
+    private final long outAddress = Native.address(out);
+    private final int most;
+    private ByteBuffer room;
+    private long roomAddress;
+    private long claim;
+    private int length = -1;
+
+    Producer(final Owner.Handles handles, final int index, final int most) {
+        this.handles = handles;
+        this.index = index;
+        this.most = most;
+    }
+
+    long handle() {
+        return handles.at(index);
+    }
+
+    ByteBuffer room() {
+        if (room == null) {
+            room = Owner.buffer(most);
+            roomAddress = Native.address(room);
+        }
+        return room;
+    }
+
+    int claim(final int msgTypeId, final int bytes) {
+        if (length >= 0) {
+            throw new IllegalStateException("the thread has a claim that is open");
+        }
+        if (bytes < 0) {
+            throw new IllegalArgumentException("a length of " + bytes);
+        }
+        if (!RingBuffer.isWritten(Native.claim(handle(), msgTypeId, bytes, outAddress))) {
+            return RingBuffer.INSUFFICIENT_CAPACITY;
+        }
+        claim = out.getLong(0);
+        length = bytes;
+        final ByteBuffer its = room();
+        for (int i = 0; i < bytes; i++) {
+            its.put(i, (byte) 0);
+        }
+        return 0;
+    }
+
+    private void settle(final int at) {
+        if (length < 0 || at != 0) {
+            throw new IllegalStateException("the thread has no claim at index " + at);
+        }
+        length = -1;
+    }
+
+    void commit(final int at) {
+        final int bytes = length;
+        settle(at);
+        Native.must(Native.putAndCommit(handle(), claim, roomAddress, bytes));
+    }
+
+    void abort(final int at) {
+        settle(at);
+        Native.must(Native.abort(handle(), claim));
+    }
+
+    long nextId() {
+        Native.must(Native.nextId(handle(), outAddress));
+        return out.getLong(0);
+    }
+
+    long heartbeat() {
+        Native.must(Native.heartbeat(handle(), outAddress));
+        return out.getLong(0);
+    }
+
+    /** Returns the head if {@code which} is 0, and the tail if it is 1. */
+    long position(final int which) {
+        Native.must(Native.positions(handle(), outAddress));
+        return out.getLong(8 * which);
+    }
+}

@@ -1,0 +1,91 @@
+//! Consumers as iterators.
+use crate::ring::Consumer;
+
+/// A message that owns its bytes.
+#[derive(Clone, Debug, PartialEq, Eq)]
+pub struct OwnedMessage {
+    /// Its type id, at least 1.
+    pub type_id: i32,
+    /// Its bytes.
+    pub body: Vec<u8>,
+}
+
+/// An iterator over the messages that are there, which takes each message from the ring. See [`Consumer::try_iter`].
+#[derive(Debug)]
+pub struct TryIter<'a> {
+    consumer: &'a mut Consumer,
+    room: Vec<u8>,
+}
+
+/// An iterator that waits for messages until every producer is gone. See [`Consumer::iter`].
+#[derive(Debug)]
+pub struct Iter<'a> {
+    consumer: &'a mut Consumer,
+    room: Vec<u8>,
+}
+
+impl Consumer {
+    /// Returns an iterator over the messages that are there. The iterator returns `None` if no message is there, and
+    /// may be asked again later.
+    ///
+    /// ```
+    /// let (mut producer, mut consumer) = felter::many_to_one(1024)?;
+    /// producer.write(1, b"one")?;
+    /// producer.write(2, b"two")?;
+    /// let types: Vec<i32> = consumer.try_iter().map(|message| message.type_id).collect();
+    /// assert_eq!(types, [1, 2]);
+    /// assert_eq!(consumer.try_iter().next(), None);
+    /// # Ok::<(), felter::Error>(())
+    /// ```
+    pub fn try_iter(&mut self) -> TryIter<'_> {
+        let room = self.longest();
+        TryIter { consumer: self, room }
+    }
+
+    /// Returns an iterator that waits for each message as [`recv`](Consumer::recv) does. The iterator ends when every
+    /// producer is gone and all messages were read. `for message in &mut consumer` does the same.
+    ///
+    /// ```
+    /// let (mut producer, mut consumer) = felter::many_to_one(1024)?;
+    /// let sender = std::thread::spawn(move || (1..4).try_for_each(|i| producer.write(i, b"body")));
+    /// assert_eq!(consumer.iter().map(|message| message.type_id).sum::<i32>(), 6);
+    /// sender.join().expect("it does not panic")?;
+    /// # Ok::<(), felter::Error>(())
+    /// ```
+    pub fn iter(&mut self) -> Iter<'_> {
+        let room = self.longest();
+        Iter { consumer: self, room }
+    }
+
+    /// A buffer for the longest message, so that no read is refused.
+    fn longest(&self) -> Vec<u8> {
+        vec![0; self.sizes().map_or(0, |it| it.max_message as usize)]
+    }
+}
+
+impl Iterator for TryIter<'_> {
+    type Item = OwnedMessage;
+
+    fn next(&mut self) -> Option<OwnedMessage> {
+        let message = self.consumer.read(&mut self.room).ok()??;
+        Some(OwnedMessage { type_id: message.type_id, body: message.body.to_vec() })
+    }
+}
+
+impl Iterator for Iter<'_> {
+    type Item = OwnedMessage;
+
+    fn next(&mut self) -> Option<OwnedMessage> {
+        let message = self.consumer.recv(&mut self.room, None).ok()?;
+        Some(OwnedMessage { type_id: message.type_id, body: message.body.to_vec() })
+    }
+}
+
+impl<'a> IntoIterator for &'a mut Consumer {
+    type Item = OwnedMessage;
+    type IntoIter = Iter<'a>;
+
+    fn into_iter(self) -> Iter<'a> {
+        self.iter()
+    }
+}

@@ -1,0 +1,81 @@
+"""Whether twice as much work takes at most three times as long: of the C library, ring_run and ring_show."""
+import os
+import struct
+import tempfile
+import time
+
+from .shared import Finding, NotRun, compiled, program, run_program
+
+# Times as long for twice as much, and the shortest time that is compared.
+MOST, SHORTEST = 3, 0.05
+
+
+def seconds_of(words, data, count):
+    """The least time of a program of a few runs, of the processor."""
+    least = None
+    for _ in range(count):
+        before = os.times()
+        done = run_program(words, input=data)
+        after = os.times()
+        if done.returncode not in (0, 1):
+            raise Finding(f"{words[0]} ended with status {done.returncode}: {done.stderr.decode()[-300:]}")
+        took = after.children_user + after.children_system - before.children_user - before.children_system
+        least = took if least is None else min(least, took)
+    return least
+
+
+def lines(n):
+    """A scenario of n messages, of which each is read."""
+    return b"".join(b"write 7 68656c6c6f\nread 1\n" for _ in range(n // 2)) + b"end\n"
+
+
+def records(n):
+    """The memory of a ring with n bytes: messages of no body, one after another, and then the trailer."""
+    ring = struct.pack("<ii", 8, 7) * (n // 8)
+    trailer = bytearray(768)
+    struct.pack_into("<Q", trailer, 0, n)
+    return ring + bytes(trailer)
+
+
+def compare(name, one, two):
+    if two > SHORTEST and two > MOST * one:
+        raise Finding(f"{name}: {one:.3f} s, and of twice as much {two:.3f} s")
+    return f"{name} {two / max(one, 0.001):.1f}"
+
+
+def of_library(folder):
+    path = compiled(os.path.join(folder, "costs"), ("costs.c",), "-O1")
+    done = run_program([path])
+    said = done.stdout.decode()
+    if done.returncode == 1:
+        raise Finding("\n" + said)
+    if done.returncode:
+        raise Finding(f"costs ended with status {done.returncode}: {done.stderr.decode()}")
+    return f"{len(said.splitlines())} rows of the library"
+
+
+def of_scenarios(_folder):
+    path = program("ring_run", "RING_RUN")
+    one, two = (seconds_of([path, "--ring", "1024"], lines(n), 3) for n in (100000, 200000))
+    return compare("lines of a scenario", one, two)
+
+
+def of_snapshots(folder):
+    path, times = program("ring_show", "RING_SHOW"), []
+    for n in (1 << 19, 1 << 20):
+        name = os.path.join(folder, f"snapshot-{n}")
+        with open(name, "wb") as file:
+            file.write(records(n))
+        times.append(seconds_of([path, "ring", name], b"", 3))
+    return compare("records of a snapshot", *times)
+
+
+def run(_seconds, _seed):
+    began, said = time.monotonic(), []
+    with tempfile.TemporaryDirectory() as folder:
+        for part in of_library, of_scenarios, of_snapshots:
+            try:
+                said.append(part(folder))
+            except NotRun as why:
+                said.append(f"not run: {why}")
+    return f"{', '.join(said)}, in {time.monotonic() - began:.0f} s"
