@@ -15,9 +15,8 @@ type Done = Result<(), Box<dyn std::error::Error>>;
 /// deadline.
 fn add_up() -> Done {
     let (mut producer, mut consumer) = felter::one_to_one(1_024)?;
-    let sender = thread::spawn(move || {
-        (1..=LAST).try_for_each(|number| producer.send(NUMBER, &number.to_ne_bytes(), None))
-    });
+    let sender =
+        thread::spawn(move || (1..=LAST).try_for_each(|number| producer.send(NUMBER, &number.to_ne_bytes(), None)));
     let (mut room, mut sum) = ([0; 4], 0);
     for _ in 0..LAST {
         consumer.recv(&mut room, None)?;
