@@ -23,17 +23,21 @@ ROOTS = (
 )
 HEAD = """# What must be read to trust the headline
 
-Written by `tests/cone` from `specs`; `tests/documents` compares it. [READING.md](READING.md) says how to read a
-definition, and [HEADLINE.md](HEADLINE.md) what the contracts of `finish` and `whole_run` state. `finish_without` is for a
-conductor whose producers are lost.
+`tests/cone` writes this page from `specs`, and `tests/documents` compares the two. [READING.md](READING.md) says how to
+read a definition. [HEADLINE.md](HEADLINE.md) says what the contracts of `finish` and `whole_run` state.
+`finish_without` is for a conductor whose producers are lost.
 
-A contract says what its definitions say, and nothing but a reader checks that they say what they should. The crates
-have more than %s definitions in `specs`. The contracts of `finish`, `whole_run` and `finish_without` rest on those
-below, and mean the same whatever the others say. A line lists a file and its definitions, in the order in which a
-reader meets them.
+A contract says what its definitions say. Only a reader can check that the definitions say what they should. The crates
+have more than %s definitions in `specs`. The contracts of `finish`, `whole_run` and `finish_without` rest on the
+definitions that are listed below, and on what the next paragraph names. The other definitions do not change what these
+contracts say. A line lists a file and its definitions, in the order in which a reader meets them.
 
 `R.bytes`, `R.start`, `R.is_consumer` and `R.is_producer` in these contracts are members of traits in
-`crates/ring_rings/src/source.rt`: for a ring its capacity, its start, `IsConsumerOf` and `IsProducerOf`.
+`crates/ring_rings/src/source.rt`. For a ring they are its capacity (`capacity_of`), its start (`start_of`),
+`IsConsumerOf` and `IsProducerOf`. These four are in `crates/ring_rings/specs/Seats.antt`, and are not in the lists. The
+ghost fields of `Producer` and `Consumer` (`crates/ring_rings/src/ring.rt`) are known of every value of these types, and
+must be read too. The same is true of the ghost fields of the other types that are named [at the end](#all-of-them), and
+of the definitions that ghost fields name.
 """
 
 
