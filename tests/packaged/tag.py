@@ -1,5 +1,5 @@
-"""Whether a wheel's tag is right for what is linked: tag.py WHEEL. What objdump says of each library and program in it is
-compared with the name of the wheel."""
+"""Tests whether the tag of a wheel is right for what is linked: tag.py WHEEL VERSION. What objdump says of each library
+and program in the wheel is compared with the name of the wheel. The wheel must be one of this version."""
 
 import os
 import re
@@ -8,14 +8,15 @@ import sys
 import tempfile
 import zipfile
 
-wheel = sys.argv[1]
+wheel, version = sys.argv[1:]
 tag = re.search(r"-py3-none-(.*)\.whl$", os.path.basename(wheel)).group(1)
 least = int(re.search(r"manylinux_2_(\d+)_x86_64", tag).group(1))
 wanted, linked = 17, 0
 with tempfile.TemporaryDirectory() as room:
     with zipfile.ZipFile(wheel) as archive:
         archive.extractall(room)
-        tags = re.findall(r"^Tag: py3-none-(\S+)$", archive.read("felter-0.1.0.dist-info/WHEEL").decode(), re.M)
+        told = archive.read("felter-%s.dist-info/WHEEL" % version).decode()
+        tags = re.findall(r"^Tag: py3-none-(\S+)$", told, re.M)
     assert ".".join(tags) == tag, "the name and WHEEL do not agree: %s, %s" % (tag, tags)
     for folder, _, names in os.walk(room):
         for name in names:
