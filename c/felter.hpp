@@ -152,7 +152,8 @@ public:
         return detail::answer(why, batch(into.data(), count));
     }
     // Reads up to `limit` messages into a buffer, and calls f with each. If f throws, the messages after that one are
-    // lost: they were taken from the ring, and f is not called with them. To keep them, use the batch above.
+    // lost: they were taken from the ring, and f is not called with them. To keep these messages, call the overload
+    // above, which returns a batch.
     template <class F>
     result<std::uint32_t> read_batch(std::uint32_t limit, buffer into, F f) {
         auto found = read_batch(limit, into);

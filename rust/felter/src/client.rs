@@ -12,7 +12,8 @@ use crate::raw::{self, Raw};
 /// Errors of each call that sends:
 ///
 /// - [`Error::TooLong`] if the command takes more than 520 bytes, or more than an eighth of the ring's capacity;
-/// - [`Error::PositionLimit`], [`Error::InsufficientCapacity`], [`Error::Contended`].
+/// - [`Error::PositionLimit`], [`Error::InsufficientCapacity`] or [`Error::Contended`], in the same cases as for
+///   [`Producer::write`](crate::Producer::write).
 ///
 /// After an error nothing was sent, and the next try draws another id.
 ///
