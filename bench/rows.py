@@ -82,7 +82,8 @@ USER_ROWS = (
       for size in (8, 128, 1024)),
     *((f"many-to-one, 4 producers, {size} bytes", ("producers", size, 4, "ns"), "plain-m2o", OF_MANY)
       for size in (8, 64)),
-    ("one-to-one, command and reply, p50", ("trips", COMMAND, 1, "p50"), "plain-o2o", OF_ONE),
+        *((f"one-to-one, command and reply, {said}", ("trips", COMMAND, 1, metric), "plain-o2o", OF_ONE)
+      for said, metric in (("p50", "p50"), ("p99", "p99"), ("p99.9", "p999"))),
 )
 # A broadcast to two receivers: label, contender, bytes.
 BROADCAST_ROWS = tuple((f"{name}, {size:,} bytes", who, size) for size in (64, 1024) for name, who in (

@@ -12,8 +12,9 @@
  *      copies: both would free the same object. Never read or write what is in a handle. A call with an empty or freed
  *      handle returns FELTER_NO_HANDLE.
  *   2. One call at a time uses a handle. A handle may go to another thread if its last call is ordered before the first
- *      call of that thread: by the start or the join of a thread, a lock, or a seq_cst atomic. Otherwise the two calls
- *      race. Different handles may be used at the same time, also handles of one ring.
+ *      call of that thread: by the start or the join of a thread, a lock, a seq_cst atomic, or a message of a ring that
+ *      was written after the last call and read before the first one. Otherwise the two calls race. Different handles
+ *      may be used at the same time, also handles of one ring.
  *   3. The handles of one call are different handles. The buffers, numbers and handles of a call do not overlap. A
  *      buffer that is read is readable for its length. A buffer that is written is writable for its room, which is at
  *      most 2^63 - 1 bytes. No other thread touches a buffer during the call.
@@ -23,6 +24,11 @@
  *   6. No two rings, boards, conductors or sets of counters that live have the same number. Calls that are not given a
  *      number draw one from a single count, which ensures this rule. A program must ensure the rule itself if it calls
  *      a function whose name ends in _numbered, or if it has two such counts (see below).
+ *
+ * Messages. A write copies a body into the ring, and a read copies the body out of the ring. What a thread stored
+ * before its felter_write or felter_commit is visible to the consumer after the read that returned the message. So a
+ * message may hold the address of an object. The consumer gets messages in the order of their claims. felter_write
+ * makes a claim too.
  *
  * Numbers. If a call takes two handles, both are of one ring, board, conductor or set of counters. Each of these gets a
  * number when it is made, and such a call compares the numbers. felter_close, felter_join and the other joins return
@@ -140,7 +146,9 @@ typedef struct felter_client { felter_handle handle; } felter_client;
 /* Frees what a handle owns, and empties the handle: felter_free(&producer.handle). An empty handle stays empty. The
  * open claims of a producer are aborted, so that the consumer passes them. A ring, a board and a conductor can end
  * without the handles that were freed. But the share of a producer is lost if the producer is freed without
- * felter_join. After 65,535 producers were split off and freed in this way, felter_split returns FELTER_NO_SHARES. */
+ * felter_join. After 65,535 producers were split off and freed in this way, felter_split returns FELTER_NO_SHARES.
+ * After the consumer of a ring was freed, writes succeed until the ring is full, and messages that were not read are
+ * lost. */
 void felter_free(felter_handle *handle);
 
 /* Returns the version of the library that the program runs with: 10,000 times the major number, plus 100 times the
@@ -205,14 +213,14 @@ int32_t felter_abort(felter_producer *producer, uint64_t claim);
 int32_t felter_split(felter_producer *producer, felter_producer *other);
 /* Joins another producer of the same many-to-one ring to the first one, with its shares and its open claims, and
  * empties its handle. The claims keep their numbers. Codes, in this order: FELTER_WRONG_HANDLE for a one-to-one ring,
- * FELTER_OTHER_RING, FELTER_OUT_OF_MEMORY. */
+ * FELTER_OTHER_RING, and FELTER_OUT_OF_MEMORY if there is no memory to keep the open claims. */
 int32_t felter_join(felter_producer *producer, felter_producer *other);
 
 /* Loads the head, and then the tail. */
 int32_t felter_positions(felter_producer *producer, uint64_t *head, uint64_t *tail);
 /* Draws the ring's next correlation id. */
 int32_t felter_next_id(felter_producer *producer, uint64_t *id);
-/* Loads the heartbeat that the consumer stored last. It is 0 before the first one. */
+/* Loads the heartbeat that the consumer stored last. The heartbeat is 0 before the consumer stores one. */
 int32_t felter_heartbeat(felter_producer *producer, uint64_t *value);
 /* Stores a heartbeat, which may be any number. */
 int32_t felter_set_heartbeat(felter_consumer *consumer, uint64_t value);
@@ -225,9 +233,11 @@ int32_t felter_shares(felter_producer *producer, uint32_t *shares);
 int32_t felter_read(felter_consumer *consumer, int32_t *type_id, size_t *len, void *buffer, size_t room);
 
 /* Copies the next message into a buffer as felter_read does, with the same codes, but leaves the message in the ring.
- * The next call finds it again. */
+ * The next call finds the message again. */
 int32_t felter_peek(felter_consumer *consumer, int32_t *type_id, size_t *len, void *buffer, size_t room);
-/* Takes the next message, which felter_peek showed, and copies nothing. Codes: FELTER_NO_MESSAGE.
+/* Takes the next message, which felter_peek showed. No byte of the message reaches the caller. But the call copies the
+ * body into a buffer of the consumer, so it takes time in proportion to the length of the message. Codes:
+ * FELTER_NO_MESSAGE.
  *
  * The two calls together are a controlled read: peek, look at the message, and then do what one of Agrona's actions
  * does:
@@ -255,7 +265,9 @@ typedef struct felter_record {
 /* Reads up to `limit` messages into a buffer, one after another. Each message is a felter_record followed by its bytes.
  * It begins at a multiple of 8 bytes, FELTER_SPAN bytes after the message before it. The call writes the number of
  * messages, and how many bytes they take. It stops when the buffer has no room for the next message, which stays in the
- * ring. The call can return fewer messages than are in the ring.
+ * ring. The call copies the body of this message into a buffer of the consumer before it stops, which takes time in
+ * proportion to the length of the message. The call can return fewer messages than are in the ring. When it returns,
+ * the producers have the room of the messages that it read.
  *
  * Codes: FELTER_NO_MESSAGE, also if the limit is 0, and FELTER_SHORT_BUFFER if the first message has no room.
  * felter_read then says its length. A buffer of FELTER_SPAN(capacity / 8) bytes is always long enough for one message.
@@ -273,7 +285,8 @@ enum felter_found {
 
 /* Writes what the consumer finds next, and the head. If a claim is next, the head is the place of that claim. The call
  * takes a producer and the consumer of one ring. It loads the positions, reads into a buffer of no bytes, and loads the
- * positions again. It is a function of this header, so it is not proved. */
+ * positions again. If a message is next, the call takes time in proportion to the length of the message, since the read
+ * copies the body into a buffer of the consumer. The call is a function of this header, so it is not proved. */
 static inline int32_t felter_standing(felter_producer *producer, felter_consumer *consumer, int32_t *found,
                                       uint64_t *head);
 
@@ -456,7 +469,8 @@ enum felter_stop {
  * is taken. */
 int32_t felter_conductor_work(felter_conductor *conductor, uint64_t now, uint32_t limit, uint64_t *messages,
                               int32_t *stopped);
-/* The conductor stores a heartbeat, and clients load it. It is any number, and 0 before the first one. */
+/* The conductor stores a heartbeat, which is any number, and clients load it. The heartbeat is 0 before the conductor
+ * stores one. */
 int32_t felter_conductor_set_heartbeat(felter_conductor *conductor, uint64_t value);
 int32_t felter_client_heartbeat(felter_client *client, uint64_t *value);
 

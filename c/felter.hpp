@@ -141,7 +141,8 @@ public:
     result<message> read(buffer into) { return copied(felter_read, into); }
     // Copies the next message into a buffer, and leaves it in the ring.
     result<message> peek(buffer into) { return copied(felter_peek, into); }
-    // Takes the next message from the ring, and copies nothing.
+    // Takes the next message from the ring. No byte of the message reaches the caller, but the call takes time in
+    // proportion to its length.
     code take() { return felter_take(raw()); }
     // Reads up to `limit` messages into a buffer. The batch shows them one after another, and is valid as long as the
     // buffer: for (auto message : *batch).
