@@ -400,12 +400,20 @@ int32_t felter_counter_free(felter_counters *counters, uint64_t now, uint32_t id
 int32_t felter_counter_set(felter_counters *counters, uint32_t id, int64_t value);
 /* Adds to the value, which wraps, and writes the value before the addition. */
 int32_t felter_counter_add(felter_counters *counters, uint32_t id, int64_t delta, int64_t *before);
+/* These two do the same with the number 1 and with -1. */
+int32_t felter_counter_increment(felter_counters *counters, uint32_t id, int64_t *before);
+int32_t felter_counter_decrement(felter_counters *counters, uint32_t id, int64_t *before);
+/* Sets the value, and writes the value before. */
+int32_t felter_counter_get_and_set(felter_counters *counters, uint32_t id, int64_t value, int64_t *before);
 int32_t felter_counter_value(felter_counters *counters, uint32_t id, int64_t *value);
 int32_t felter_counter_type_id(felter_counters *counters, uint32_t id, int32_t *type_id);
 int32_t felter_counter_registration(felter_counters *counters, uint32_t id, uint64_t *registration);
 int32_t felter_counter_owner(felter_counters *counters, uint32_t id, uint64_t *owner);
 /* Raises the counter's value to `value` if the counter is below it. *raised is 1 if that was so, and otherwise 0. */
 int32_t felter_counter_propose_max(felter_counters *counters, uint32_t id, int64_t value, uint32_t *raised);
+/* Sets the counter's value to `value` if it is `expected`. *was_set is 1 if that was so, and otherwise 0. */
+int32_t felter_counter_compare_and_set(felter_counters *counters, uint32_t id, int64_t expected, int64_t value,
+                                       uint32_t *was_set);
 /* The first call writes the state of an id: 0 if the id was never used, 1 if its counter is in use, -1 if its counter
  * was freed. The second call writes the moment from which the id may be allocated again: 0 if the id was never used,
  * 2^63 - 1 if its counter is in use. Both refuse only with FELTER_BAD_ID. */
@@ -422,6 +430,9 @@ int32_t felter_counter_find(felter_counters *counters, int32_t type_id, uint64_t
 /* Writes the number of ids, in use or not. To list the counters in use, ask for the type of each id: the result is
  * FELTER_NOT_ALLOCATED if the id is not in use. */
 int32_t felter_counters_count(felter_counters *counters, uint32_t *count);
+/* Writes the number of counters that can be allocated at the moment `now`. A freed id counts from the moment that
+ * felter_counter_deadline writes. */
+int32_t felter_counters_available(felter_counters *counters, uint64_t now, uint32_t *available);
 /* Frees each counter of an owner, and writes how many there were. Codes: FELTER_BAD_OWNER, FELTER_BAD_MOMENT. */
 int32_t felter_counters_close_owner(felter_counters *counters, uint64_t now, uint64_t owner, uint32_t *freed);
 

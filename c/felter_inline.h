@@ -535,6 +535,34 @@ FELTER_GUARD int32_t felter_guarded_counter_add(felter_counters *counters, uint3
     return code;
 }
 
+FELTER_GUARD int32_t felter_guarded_counter_increment(felter_counters *counters, uint32_t id, int64_t *before) {
+    if (!counters) return felter_refuse("felter_counter_increment", FELTER_NO_HANDLE);
+    if (!before) return felter_refuse("felter_counter_increment", FELTER_NULL_POINTER);
+    FELTER_ENTER1("felter_counter_increment", &counters->handle);
+    int32_t code = felter_counter_increment(counters, id, before);
+    FELTER_LEAVE1();
+    return code;
+}
+
+FELTER_GUARD int32_t felter_guarded_counter_decrement(felter_counters *counters, uint32_t id, int64_t *before) {
+    if (!counters) return felter_refuse("felter_counter_decrement", FELTER_NO_HANDLE);
+    if (!before) return felter_refuse("felter_counter_decrement", FELTER_NULL_POINTER);
+    FELTER_ENTER1("felter_counter_decrement", &counters->handle);
+    int32_t code = felter_counter_decrement(counters, id, before);
+    FELTER_LEAVE1();
+    return code;
+}
+
+FELTER_GUARD int32_t felter_guarded_counter_get_and_set(felter_counters *counters, uint32_t id, int64_t value,
+                                                        int64_t *before) {
+    if (!counters) return felter_refuse("felter_counter_get_and_set", FELTER_NO_HANDLE);
+    if (!before) return felter_refuse("felter_counter_get_and_set", FELTER_NULL_POINTER);
+    FELTER_ENTER1("felter_counter_get_and_set", &counters->handle);
+    int32_t code = felter_counter_get_and_set(counters, id, value, before);
+    FELTER_LEAVE1();
+    return code;
+}
+
 FELTER_GUARD int32_t felter_guarded_counter_value(felter_counters *counters, uint32_t id, int64_t *value) {
     if (!counters) return felter_refuse("felter_counter_value", FELTER_NO_HANDLE);
     if (!value) return felter_refuse("felter_counter_value", FELTER_NULL_POINTER);
@@ -578,6 +606,16 @@ FELTER_GUARD int32_t felter_guarded_counter_propose_max(felter_counters *counter
     if (!raised) return felter_refuse("felter_counter_propose_max", FELTER_NULL_POINTER);
     FELTER_ENTER1("felter_counter_propose_max", &counters->handle);
     int32_t code = felter_counter_propose_max(counters, id, value, raised);
+    FELTER_LEAVE1();
+    return code;
+}
+
+FELTER_GUARD int32_t felter_guarded_counter_compare_and_set(felter_counters *counters, uint32_t id, int64_t expected,
+                                                            int64_t value, uint32_t *was_set) {
+    if (!counters) return felter_refuse("felter_counter_compare_and_set", FELTER_NO_HANDLE);
+    if (!was_set) return felter_refuse("felter_counter_compare_and_set", FELTER_NULL_POINTER);
+    FELTER_ENTER1("felter_counter_compare_and_set", &counters->handle);
+    int32_t code = felter_counter_compare_and_set(counters, id, expected, value, was_set);
     FELTER_LEAVE1();
     return code;
 }
@@ -635,6 +673,15 @@ FELTER_GUARD int32_t felter_guarded_counters_count(felter_counters *counters, ui
     if (!count) return felter_refuse("felter_counters_count", FELTER_NULL_POINTER);
     FELTER_ENTER1("felter_counters_count", &counters->handle);
     int32_t code = felter_counters_count(counters, count);
+    FELTER_LEAVE1();
+    return code;
+}
+
+FELTER_GUARD int32_t felter_guarded_counters_available(felter_counters *counters, uint64_t now, uint32_t *available) {
+    if (!counters) return felter_refuse("felter_counters_available", FELTER_NO_HANDLE);
+    if (!available) return felter_refuse("felter_counters_available", FELTER_NULL_POINTER);
+    FELTER_ENTER1("felter_counters_available", &counters->handle);
+    int32_t code = felter_counters_available(counters, now, available);
     FELTER_LEAVE1();
     return code;
 }
@@ -1069,17 +1116,22 @@ FELTER_GUARD int32_t felter_standing(felter_producer *producer, felter_consumer 
 #define felter_counter_free felter_guarded_counter_free
 #define felter_counter_set felter_guarded_counter_set
 #define felter_counter_add felter_guarded_counter_add
+#define felter_counter_increment felter_guarded_counter_increment
+#define felter_counter_decrement felter_guarded_counter_decrement
+#define felter_counter_get_and_set felter_guarded_counter_get_and_set
 #define felter_counter_value felter_guarded_counter_value
 #define felter_counter_type_id felter_guarded_counter_type_id
 #define felter_counter_registration felter_guarded_counter_registration
 #define felter_counter_owner felter_guarded_counter_owner
 #define felter_counter_propose_max felter_guarded_counter_propose_max
+#define felter_counter_compare_and_set felter_guarded_counter_compare_and_set
 #define felter_counter_state felter_guarded_counter_state
 #define felter_counter_deadline felter_guarded_counter_deadline
 #define felter_counter_label felter_guarded_counter_label
 #define felter_counter_key felter_guarded_counter_key
 #define felter_counter_find felter_guarded_counter_find
 #define felter_counters_count felter_guarded_counters_count
+#define felter_counters_available felter_guarded_counters_available
 #define felter_counters_close_owner felter_guarded_counters_close_owner
 #define felter_counters_reader felter_guarded_counters_reader
 #define felter_reader_value felter_guarded_reader_value

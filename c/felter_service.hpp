@@ -46,6 +46,16 @@ public:
     result<std::int64_t> add(std::uint32_t id, std::int64_t delta) {
         return detail::out<std::int64_t>([&](std::int64_t *it) { return felter_counter_add(raw(), id, delta, it); });
     }
+    result<std::int64_t> increment(std::uint32_t id) {
+        return detail::out<std::int64_t>([&](std::int64_t *it) { return felter_counter_increment(raw(), id, it); });
+    }
+    result<std::int64_t> decrement(std::uint32_t id) {
+        return detail::out<std::int64_t>([&](std::int64_t *it) { return felter_counter_decrement(raw(), id, it); });
+    }
+    result<std::int64_t> get_and_set(std::uint32_t id, std::int64_t value) {
+        return detail::out<std::int64_t>(
+            [&](std::int64_t *it) { return felter_counter_get_and_set(raw(), id, value, it); });
+    }
     result<std::int64_t> value(std::uint32_t id) {
         return detail::out<std::int64_t>([&](std::int64_t *it) { return felter_counter_value(raw(), id, it); });
     }
@@ -56,6 +66,10 @@ public:
     result<std::uint32_t> propose_max(std::uint32_t id, std::int64_t value) {
         return detail::out<std::uint32_t>(
             [&](std::uint32_t *it) { return felter_counter_propose_max(raw(), id, value, it); });
+    }
+    result<std::uint32_t> compare_and_set(std::uint32_t id, std::int64_t expected, std::int64_t value) {
+        return detail::out<std::uint32_t>(
+            [&](std::uint32_t *it) { return felter_counter_compare_and_set(raw(), id, expected, value, it); });
     }
     result<std::int32_t> type_id(std::uint32_t id) {
         return detail::out<std::int32_t>([&](std::int32_t *it) { return felter_counter_type_id(raw(), id, it); });
@@ -80,6 +94,11 @@ public:
     // The number of ids, in use or not.
     result<std::uint32_t> count() {
         return detail::out<std::uint32_t>([&](std::uint32_t *it) { return felter_counters_count(raw(), it); });
+    }
+    // The number of counters that can be allocated at the moment `now`.
+    result<std::uint32_t> available(std::uint64_t now) {
+        return detail::out<std::uint32_t>(
+            [&](std::uint32_t *it) { return felter_counters_available(raw(), now, it); });
     }
     result<std::string> label(std::uint32_t id) { return detail::label_of(felter_counter_label, raw(), id); }
     result<key_bytes> key(std::uint32_t id) {

@@ -326,6 +326,29 @@ class CountersCase(Case):
         self.refuses(Number.LABEL_NOT_ASCII, counters.allocate, 0, 1, b"", b"\x80")
         self.assertEqual(list(counters), [])
 
+    def test_values_change_and_are_said_as_they_were(self):
+        counters = felter.Counters(2)
+        one = counters.allocate(0, 1)
+        self.assertEqual([counters.increment(one), counters.increment(one), counters.decrement(one)], [0, 1, 2])
+        self.assertEqual((counters.get_and_set(one, -(2**63)), counters.decrement(one)), (1, -(2**63)))
+        self.assertEqual((counters.increment(one), counters.get_and_set(one, 7)), (2**63 - 1, -(2**63)))
+        self.assertEqual((counters.compare_and_set(one, 8, 9), counters.value(one)), (False, 7))
+        self.assertEqual((counters.compare_and_set(one, 7, -9), counters.value(one)), (True, -9))
+        for refused, counter in (Number.NOT_ALLOCATED, 1), (Number.BAD_ID, 2):
+            self.refuses(refused, counters.increment, counter)
+            self.refuses(refused, counters.decrement, counter)
+            self.refuses(refused, counters.get_and_set, counter, 5)
+            self.refuses(refused, counters.compare_and_set, counter, 0, 5)
+
+    def test_ids_are_available_until_they_are_allocated_and_again_from_their_deadlines_on(self):
+        counters = felter.Counters(3, 50)
+        self.assertEqual(counters.available(0), 3)
+        ids = [counters.allocate(0, 1) for _ in range(3)]
+        self.assertEqual(counters.available(2**64 - 1), 0)
+        counters.release(100, ids[1])
+        self.assertEqual([counters.available(now) for now in (149, 150)], [0, 1])
+        self.assertEqual((counters.allocate(150, 1), counters.available(150)), (ids[1], 0))
+
 
     def test_a_reader_on_a_thread_sees_values_rise(self):
         counters = felter.Counters(2)

@@ -118,6 +118,61 @@ static void values(void) {
     EXPECT(FELTER_NO_HANDLE, felter_counter_value(&counters, id, &value));
 }
 
+/* One more and one less, at both ends of the range; a value that is replaced, and one that is replaced if it is the
+ * expected one. */
+static void changes(void) {
+    felter_counters counters = FELTER_EMPTY;
+    uint32_t id = 0, was_set = 9;
+    int64_t value = 0;
+    EXPECT(FELTER_OK, felter_counters_new(1, 0, &counters));
+    EXPECT(FELTER_OK, felter_counter_allocate(&counters, 0, 1, NULL, 0, NULL, 0, 0, &id));
+    EXPECT(FELTER_OK, felter_counter_increment(&counters, id, &value));
+    CHECK(value == 0);
+    EXPECT(FELTER_OK, felter_counter_get_and_set(&counters, id, INT64_MAX, &value));
+    CHECK(value == 1);
+    EXPECT(FELTER_OK, felter_counter_increment(&counters, id, &value));
+    CHECK(value == INT64_MAX);
+    EXPECT(FELTER_OK, felter_counter_decrement(&counters, id, &value));
+    CHECK(value == INT64_MIN);
+    EXPECT(FELTER_OK, felter_counter_decrement(&counters, id, &value));
+    CHECK(value == INT64_MAX);
+    EXPECT(FELTER_OK, felter_counter_compare_and_set(&counters, id, INT64_MAX, -5, &was_set));
+    CHECK(was_set == 0);
+    EXPECT(FELTER_OK, felter_counter_value(&counters, id, &value));
+    CHECK(value == INT64_MAX - 1);
+    EXPECT(FELTER_OK, felter_counter_compare_and_set(&counters, id, INT64_MAX - 1, -5, &was_set));
+    CHECK(was_set == 1);
+    EXPECT(FELTER_OK, felter_counter_value(&counters, id, &value));
+    CHECK(value == -5);
+    felter_free(&counters.handle);
+}
+
+static void is_available(felter_counters *counters, uint64_t now, uint32_t wanted) {
+    uint32_t available = 99;
+    EXPECT(FELTER_OK, felter_counters_available(counters, now, &available));
+    CHECK(available == wanted);
+}
+
+/* An id that was freed is counted from its deadline on. */
+static void availability(void) {
+    felter_counters counters = FELTER_EMPTY;
+    uint32_t id = 0;
+    EXPECT(FELTER_OK, felter_counters_new(3, 50, &counters));
+    is_available(&counters, 0, 3);
+    for (int i = 0; i < 3; i++) EXPECT(FELTER_OK, felter_counter_allocate(&counters, 0, 1, NULL, 0, NULL, 0, 0, &id));
+    is_available(&counters, UINT64_MAX, 0);
+    EXPECT(FELTER_OK, felter_counter_free(&counters, 100, 1));
+    EXPECT(FELTER_OK, felter_counter_free(&counters, 120, 0));
+    is_available(&counters, 149, 0);
+    is_available(&counters, 150, 1);
+    is_available(&counters, 169, 1);
+    is_available(&counters, 170, 2);
+    EXPECT(FELTER_OK, felter_counter_allocate(&counters, 170, 1, NULL, 0, NULL, 0, 0, &id));
+    is_available(&counters, 170, 1);
+    is_available(&counters, 0, 0);
+    felter_free(&counters.handle);
+}
+
 #define LAST 100000
 
 struct watcher {
@@ -184,12 +239,17 @@ static void readers(void) {
 
 /* What each call answers of an id. */
 static void refuses(felter_counters *counters, uint32_t id, int32_t code) {
-    int64_t value = 0;
-    uint64_t number = 0;
-    int32_t type_id = 0;
+    int64_t value = 7;
+    uint64_t number = 7;
+    int32_t type_id = 7;
+    uint32_t was_set = 7;
     EXPECT(code, felter_counter_free(counters, 0, id));
     EXPECT(code, felter_counter_set(counters, id, 1));
     EXPECT(code, felter_counter_add(counters, id, 1, &value));
+    EXPECT(code, felter_counter_increment(counters, id, &value));
+    EXPECT(code, felter_counter_decrement(counters, id, &value));
+    EXPECT(code, felter_counter_get_and_set(counters, id, 1, &value));
+    EXPECT(code, felter_counter_compare_and_set(counters, id, 0, 1, &was_set));
     EXPECT(code, felter_counter_value(counters, id, &value));
     EXPECT(code, felter_counter_type_id(counters, id, &type_id));
     EXPECT(code, felter_counter_registration(counters, id, &number));
@@ -199,6 +259,7 @@ static void refuses(felter_counters *counters, uint32_t id, int32_t code) {
     EXPECT(code, felter_counter_label(counters, id, &len, buffer, 1));
     EXPECT(code, felter_counter_key(counters, id, buffer, 1));
     CHECK(len == 7 && buffer[0] == 5);
+    CHECK(value == 7 && number == 7 && type_id == 7 && was_set == 7);
 }
 
 /* What each call answers of a handle. */
@@ -209,7 +270,9 @@ static void refuses_handle(felter_counters *counters, int32_t code) {
     EXPECT(code, felter_counter_allocate_owned(counters, 0, 1, NULL, 0, NULL, 0, 0, 5, &id));
     EXPECT(code, felter_counter_find(counters, 1, 0, &id));
     EXPECT(code, felter_counters_count(counters, &id));
+    EXPECT(code, felter_counters_available(counters, 0, &id));
     EXPECT(code, felter_counters_close_owner(counters, 0, 5, &id));
+    CHECK(id == 0);
 }
 
 static void refusals(void) {
@@ -232,6 +295,8 @@ int main(void) {
     makes();
     allocates();
     values();
+    changes();
+    availability();
     readers();
     refusals();
     puts("counters: each answer as it should be");

@@ -278,6 +278,11 @@ void boards_and_conductors() {
     counters.set(id, 5).value();
     auto reader = counters.reader().value();
     CHECK(counters.add(id, 2).value() == 5 && reader.value(id).value() == 7);
+    CHECK(counters.increment(id).value() == 7 && counters.decrement(id).value() == 8);
+    CHECK(counters.get_and_set(id, -1).value() == 7 && reader.value(id).value() == -1);
+    CHECK(counters.compare_and_set(id, 7, 9).value() == 0 && reader.value(id).value() == -1);
+    CHECK(counters.compare_and_set(id, -1, 9).value() == 1 && reader.value(id).value() == 9);
+    CHECK(counters.available(0).value() == 3 && counters.increment(3).code() == FELTER_NOT_ALLOCATED);
     auto conductor = felter::conductor::make(1024, 4096, 8).value();
     auto client = conductor.client().value();
     const auto asked = client.allocate(1, "", "label").value();

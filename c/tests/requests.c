@@ -188,11 +188,15 @@ static void counters(void) {
     NONE(FELTER_NO_FREE_COUNTER, felter_counter_allocate(&all, 0, 1, BYTES(""), BYTES(""), 7, &count));
     NONE(FELTER_OK, felter_counter_set(&all, 0, 5));
     NONE(FELTER_OK, felter_counter_add(&all, 0, 1, &value));
+    NONE(FELTER_OK, felter_counter_increment(&all, 0, &value));
+    NONE(FELTER_OK, felter_counter_decrement(&all, 0, &value));
+    NONE(FELTER_OK, felter_counter_get_and_set(&all, 0, 6, &value));
     NONE(FELTER_OK, felter_counter_value(&all, 0, &value));
     NONE(FELTER_OK, felter_counter_type_id(&all, 0, &type_id));
     NONE(FELTER_OK, felter_counter_registration(&all, 0, &number));
     NONE(FELTER_OK, felter_counter_owner(&all, 1, &number));
     NONE(FELTER_OK, felter_counter_propose_max(&all, 0, 9, &count));
+    NONE(FELTER_OK, felter_counter_compare_and_set(&all, 0, 9, 6, &count));
     NONE(FELTER_OK, felter_counter_state(&all, 0, &state));
     NONE(FELTER_BAD_ID, felter_counter_state(&all, 3, &state));
     NONE(FELTER_OK, felter_counter_deadline(&all, 0, &number));
@@ -200,6 +204,7 @@ static void counters(void) {
     NONE(FELTER_OK, felter_counter_key(&all, 0, buffer, sizeof buffer));
     NONE(FELTER_OK, felter_counter_find(&all, 1, 7, &count));
     NONE(FELTER_OK, felter_counters_count(&all, &count));
+    NONE(FELTER_OK, felter_counters_available(&all, 0, &count));
     NONE(FELTER_OK, felter_reader_value(&reader, 0, &value));
     NONE(FELTER_OK, felter_counter_free(&all, 0, 0));
     NONE(FELTER_NOT_ALLOCATED, felter_counter_free(&all, 0, 0));

@@ -35,6 +35,15 @@ public final class CountersManager extends Owner {
         return count - 1;
     }
 
+    /**
+     * Returns the number of counters that can be allocated at a moment. A freed id counts once the timeout after its
+     * free has passed.
+     */
+    public int available(final long now) {
+        Native.must(Native.countersAvailable(handle(0), now, outAddress));
+        return out.getInt(0);
+    }
+
     /** Allocates a counter with the value 0 and an ASCII label, and returns its id. */
     public int allocate(final String label) {
         return allocate(label, 0, NOTHING, 0, 0, 0);
@@ -72,6 +81,30 @@ public final class CountersManager extends Owner {
     public long getAndAdd(final int counterId, final long delta) {
         Native.must(Native.counterAdd(handle(0), counterId, delta, outAddress));
         return out.getLong(0);
+    }
+
+    /** Adds 1 to a counter's value, which wraps, and returns the value before. */
+    public long increment(final int counterId) {
+        Native.must(Native.counterIncrement(handle(0), counterId, outAddress));
+        return out.getLong(0);
+    }
+
+    /** Subtracts 1 from a counter's value, which wraps, and returns the value before. */
+    public long decrement(final int counterId) {
+        Native.must(Native.counterDecrement(handle(0), counterId, outAddress));
+        return out.getLong(0);
+    }
+
+    /** Sets a counter's value, and returns the value before. */
+    public long getAndSet(final int counterId, final long value) {
+        Native.must(Native.counterGetAndSet(handle(0), counterId, value, outAddress));
+        return out.getLong(0);
+    }
+
+    /** Sets a counter's value if it is the expected one. Returns whether that was so. */
+    public boolean compareAndSet(final int counterId, final long expectedValue, final long updateValue) {
+        Native.must(Native.counterCompareAndSet(handle(0), counterId, expectedValue, updateValue, outAddress));
+        return out.getInt(0) == 1;
     }
 
     /** Returns the state of an id. */

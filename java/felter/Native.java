@@ -112,11 +112,21 @@ final class Native {
 
     static native int counterAdd(long counters, int id, long delta, long out);
 
+    static native int counterIncrement(long counters, int id, long out);
+
+    static native int counterDecrement(long counters, int id, long out);
+
+    static native int counterGetAndSet(long counters, int id, long value, long out);
+
+    static native int counterCompareAndSet(long counters, int id, long expected, long value, long out);
+
     static native int counterState(long counters, int id, long out);
 
     static native int counterTypeId(long counters, int id, long out);
 
     static native int counterLabel(long counters, int id, long buffer, int room);
+
+    static native int countersAvailable(long counters, long now, long out);
 
     static native int countersReader(long counters, long reader);
 

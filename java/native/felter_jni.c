@@ -199,6 +199,26 @@ NATIVE(jint, counterAdd)(HERE, jlong counters, jint id, jlong delta, jlong out) 
     return felter_counter_add(at(counters), (uint32_t)id, delta, at(out));
 }
 
+NATIVE(jint, counterIncrement)(HERE, jlong counters, jint id, jlong out) {
+    (void)env, (void)its;
+    return felter_counter_increment(at(counters), (uint32_t)id, at(out));
+}
+
+NATIVE(jint, counterDecrement)(HERE, jlong counters, jint id, jlong out) {
+    (void)env, (void)its;
+    return felter_counter_decrement(at(counters), (uint32_t)id, at(out));
+}
+
+NATIVE(jint, counterGetAndSet)(HERE, jlong counters, jint id, jlong value, jlong out) {
+    (void)env, (void)its;
+    return felter_counter_get_and_set(at(counters), (uint32_t)id, value, at(out));
+}
+
+NATIVE(jint, counterCompareAndSet)(HERE, jlong counters, jint id, jlong expected, jlong value, jlong out) {
+    (void)env, (void)its;
+    return felter_counter_compare_and_set(at(counters), (uint32_t)id, expected, value, at(out));
+}
+
 NATIVE(jint, counterState)(HERE, jlong counters, jint id, jlong out) {
     (void)env, (void)its;
     return felter_counter_state(at(counters), (uint32_t)id, at(out));
@@ -215,6 +235,11 @@ NATIVE(jint, counterLabel)(HERE, jlong counters, jint id, jlong buffer, jint roo
     size_t len = 0;
     int32_t code = felter_counter_label(at(counters), (uint32_t)id, &len, at(buffer), (size_t)room);
     return code ? -code : (jint)len;
+}
+
+NATIVE(jint, countersAvailable)(HERE, jlong counters, jlong now, jlong out) {
+    (void)env, (void)its;
+    return felter_counters_available(at(counters), (uint64_t)now, at(out));
 }
 
 NATIVE(jint, countersReader)(HERE, jlong counters, jlong reader) {

@@ -51,17 +51,22 @@ felter_counter_allocate_owned *counters u64 i32 bytes usize bytes usize u64 u64 
 felter_counter_free *counters u64 u32
 felter_counter_set *counters u32 i64
 felter_counter_add *counters u32 i64 *i64
+felter_counter_increment *counters u32 *i64
+felter_counter_decrement *counters u32 *i64
+felter_counter_get_and_set *counters u32 i64 *i64
 felter_counter_value *counters u32 *i64
 felter_counter_type_id *counters u32 *i32
 felter_counter_registration *counters u32 *u64
 felter_counter_owner *counters u32 *u64
 felter_counter_propose_max *counters u32 i64 *u32
+felter_counter_compare_and_set *counters u32 i64 i64 *u32
 felter_counter_state *counters u32 *i32
 felter_counter_deadline *counters u32 *u64
 felter_counter_label *counters u32 *usize *u8 usize
 felter_counter_key *counters u32 *u8 usize
 felter_counter_find *counters i32 u64 *u32
 felter_counters_count *counters *u32
+felter_counters_available *counters u64 *u32
 felter_counters_close_owner *counters u64 u64 *u32
 felter_counters_reader *counters *reader
 felter_reader_value *reader u32 *i64

@@ -41,6 +41,18 @@ class Counters(Owner):
         """Adds to a counter's value, which wraps, and returns the value before the addition."""
         return self._do("felter_counter_add", counter, delta)
 
+    def increment(self, counter: int) -> int:
+        """Adds 1 to a counter's value, which wraps, and returns the value before."""
+        return self._do("felter_counter_increment", counter)
+
+    def decrement(self, counter: int) -> int:
+        """Subtracts 1 from a counter's value, which wraps, and returns the value before."""
+        return self._do("felter_counter_decrement", counter)
+
+    def get_and_set(self, counter: int, value: int) -> int:
+        """Sets a counter's value, and returns the value before."""
+        return self._do("felter_counter_get_and_set", counter, value)
+
     def value(self, counter: int) -> int:
         """A counter's value."""
         return self._do("felter_counter_value", counter)
@@ -69,6 +81,10 @@ class Counters(Owner):
         """Raises a counter's value to `value` if the counter is below it. Returns whether that was so."""
         return self._do("felter_counter_propose_max", counter, value) == 1
 
+    def compare_and_set(self, counter: int, expected: int, value: int) -> bool:
+        """Sets a counter's value to `value` if it is `expected`. Returns whether that was so."""
+        return self._do("felter_counter_compare_and_set", counter, expected, value) == 1
+
     def state(self, counter: int) -> int:
         """The state of an id: 0 if it was never used, 1 if its counter is in use, -1 if its counter was freed."""
         return self._do("felter_counter_state", counter)
@@ -90,6 +106,10 @@ class Counters(Owner):
     def count(self) -> int:
         """The number of ids, in use or not."""
         return self._do("felter_counters_count")
+
+    def available(self, now: int) -> int:
+        """The number of counters that can be allocated at the moment `now`. A freed id counts from its deadline on."""
+        return self._do("felter_counters_available", now)
 
     def __len__(self) -> int:
         """The number of ids, in use or not."""

@@ -74,23 +74,61 @@ static void free_one(struct counters *set) {
     if (CALL(wanted, felter_counter_free(&set->counters, now, id)) == FELTER_OK) model_free(&set->model, now, id);
 }
 
+static int64_t some_value(void) {
+    return (int64_t)ONE_OF(0, 1, pick(1000), UINT64_MAX, INT64_MAX, (uint64_t)INT64_MIN);
+}
+
+/* Changes a value by one of the calls that write what it was. */
 static void change(struct counters *set) {
     uint32_t id = some_id(set);
-    int64_t value = (int64_t)ONE_OF(0, 1, pick(1000), UINT64_MAX, INT64_MAX, (uint64_t)INT64_MIN), before = UNTOUCHED;
-    int32_t wanted = model_used(&set->model, id);
-    if (once_in(2)) {
-        if (CALL(wanted, felter_counter_set(&set->counters, id, value)) == FELTER_OK) set->model.of[id].value = value;
-    } else if (CALL(wanted, felter_counter_add(&set->counters, id, value, &before)) == FELTER_OK) {
-        CHECK(before == set->model.of[id].value);
-        set->model.of[id].value = (int64_t)((uint64_t)before + (uint64_t)value);
-    } else {
-        CHECK(before == UNTOUCHED);
+    int64_t value = some_value(), before = UNTOUCHED, sum;
+    int32_t wanted = model_used(&set->model, id), code;
+    int64_t was = set->model.of[id % MAX_COUNTERS].value;
+    switch (pick(4)) {
+    case 0:
+        sum = (int64_t)((uint64_t)was + (uint64_t)value);
+        code = CALL(wanted, felter_counter_add(&set->counters, id, value, &before));
+        break;
+    case 1:
+        sum = (int64_t)((uint64_t)was + 1);
+        code = CALL(wanted, felter_counter_increment(&set->counters, id, &before));
+        break;
+    case 2:
+        sum = (int64_t)((uint64_t)was - 1);
+        code = CALL(wanted, felter_counter_decrement(&set->counters, id, &before));
+        break;
+    default:
+        sum = value;
+        code = CALL(wanted, felter_counter_get_and_set(&set->counters, id, value, &before));
     }
+    CHECK(before == (code ? UNTOUCHED : was));
+    if (code == FELTER_OK) set->model.of[id].value = sum;
+}
+
+static void set_value(struct counters *set) {
+    uint32_t id = some_id(set);
+    int64_t value = some_value();
+    if (CALL(model_used(&set->model, id), felter_counter_set(&set->counters, id, value)) == FELTER_OK)
+        set->model.of[id].value = value;
+}
+
+static void compare_value(struct counters *set) {
+    uint32_t id = some_id(set), was_set = UNTOUCHED;
+    int64_t was = set->model.of[id % MAX_COUNTERS].value, expected = once_in(2) ? was : some_value();
+    int64_t value = some_value();
+    int32_t code = CALL(model_used(&set->model, id),
+                        felter_counter_compare_and_set(&set->counters, id, expected, value, &was_set));
+    if (code) {
+        CHECK(was_set == UNTOUCHED);
+        return;
+    }
+    CHECK(was_set == (was == expected));
+    if (was_set) set->model.of[id].value = value;
 }
 
 static void raise_value(struct counters *set) {
     uint32_t id = some_id(set), raised = UNTOUCHED;
-    int64_t value = (int64_t)ONE_OF(0, 1, pick(1000), UINT64_MAX, INT64_MAX, (uint64_t)INT64_MIN);
+    int64_t value = some_value();
     int32_t code = CALL(model_used(&set->model, id), felter_counter_propose_max(&set->counters, id, value, &raised));
     if (code) {
         CHECK(raised == UNTOUCHED);
@@ -111,6 +149,15 @@ static void look_at_state(struct counters *set) {
     CHECK(deadline == (code ? UNTOUCHED : model_deadline(&set->model, id)));
 }
 
+static void look_at_numbers(struct counters *set) {
+    uint32_t count = UNTOUCHED, available = UNTOUCHED;
+    uint64_t now = some_moment();
+    int32_t code = CALL(FELTER_OK, felter_counters_count(&set->counters, &count));
+    CHECK(code || count == set->model.count);
+    code = CALL(FELTER_OK, felter_counters_available(&set->counters, now, &available));
+    CHECK(code || available == model_available(&set->model, now));
+}
+
 static void look_at_texts(struct counters *set, uint32_t id, int32_t wanted) {
     const struct model_counter *its = &set->model.of[id % MAX_COUNTERS];
     size_t room = (size_t)ONE_OF(MAX_LABEL, its->label_len, its->label_len ? its->label_len - 1 : 0), len = UNTOUCHED;
@@ -127,7 +174,7 @@ static void look_at_texts(struct counters *set, uint32_t id, int32_t wanted) {
 }
 
 static void look_at(struct counters *set) {
-    uint32_t id = some_id(set), count = UNTOUCHED;
+    uint32_t id = some_id(set);
     const struct model_counter *its = &set->model.of[id % MAX_COUNTERS];
     int32_t wanted = model_used(&set->model, id), type_id = UNTOUCHED;
     int64_t value = UNTOUCHED;
@@ -140,8 +187,6 @@ static void look_at(struct counters *set) {
     CHECK(registration == (code ? UNTOUCHED : its->registration));
     code = CALL(wanted, felter_counter_owner(&set->counters, id, &owner));
     CHECK(owner == (code ? UNTOUCHED : its->owner));
-    code = CALL(FELTER_OK, felter_counters_count(&set->counters, &count));
-    CHECK(code || count == set->model.count);
     look_at_texts(set, id, wanted);
 }
 
@@ -210,16 +255,18 @@ void counter_step(void) {
         make(set);
         return;
     }
-    if (set->has_owner) switch (pick(14)) {
+    if (set->has_owner) switch (pick(16)) {
         case 0: case 1: case 2: allocate(set); break;
         case 3: case 4: free_one(set); break;
-        case 5: case 6: case 7: change(set); break;
-        case 8: look_at(set); look_at_state(set); break;
-        case 13: raise_value(set); break;
+        case 5: case 6: change(set); break;
+        case 7: set_value(set); break;
+        case 8: look_at(set); look_at_state(set); look_at_numbers(set); break;
         case 9: find(set); break;
         case 10: close_owner(set); break;
         case 11: lend(set); break;
         case 12: if (once_in(40)) free_owner(set); break;
+        case 13: raise_value(set); break;
+        case 14: case 15: compare_value(set); break;
         default: break;
         }
     if (set->has_reader[k]) switch (pick(6)) {

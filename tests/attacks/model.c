@@ -202,6 +202,13 @@ uint64_t model_deadline(const struct model_counters *counters, uint32_t id) {
     return !counters->of[id].was_used ? 0 : counters->of[id].is_used ? INT64_MAX : counters->of[id].due;
 }
 
+uint32_t model_available(const struct model_counters *counters, uint64_t now) {
+    uint32_t available = 0;
+    for (uint32_t id = 0; id < counters->count; id++)
+        available += !counters->of[id].is_used && model_deadline(counters, id) <= now;
+    return available;
+}
+
 uint32_t model_close_owner(struct model_counters *counters, uint64_t now, uint64_t owner) {
     uint32_t closed = 0;
     for (uint32_t id = 0; id < counters->count; id++) {

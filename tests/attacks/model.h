@@ -99,6 +99,8 @@ void model_free(struct model_counters *counters, uint64_t now, uint32_t id);
 /* The state of a record, and the moment from which its id may be allocated again. */
 int32_t model_state(const struct model_counters *counters, uint32_t id);
 uint64_t model_deadline(const struct model_counters *counters, uint32_t id);
+/* How many counters can be allocated, one after another. */
+uint32_t model_available(const struct model_counters *counters, uint64_t now);
 uint32_t model_close_owner(struct model_counters *counters, uint64_t now, uint64_t owner);
 
 #endif

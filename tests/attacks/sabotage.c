@@ -138,6 +138,18 @@ int32_t __wrap_felter_counter_propose_max(felter_counters *counters, uint32_t id
 }
 #endif
 
+#if defined SABOTAGE_SET_ANYWAY
+int32_t __real_felter_counter_compare_and_set(felter_counters *counters, uint32_t id, int64_t expected, int64_t value,
+                                              uint32_t *was_set);
+
+/* A value that was not expected is replaced all the same. */
+int32_t __wrap_felter_counter_compare_and_set(felter_counters *counters, uint32_t id, int64_t expected, int64_t value,
+                                              uint32_t *was_set) {
+    int32_t code = __real_felter_counter_compare_and_set(counters, id, expected, value, was_set);
+    return code == FELTER_OK && *was_set == 0 && ONCE_IN(20) ? felter_counter_set(counters, id, value) : code;
+}
+#endif
+
 #if defined SABOTAGE_SHORT_LAP
 int32_t __real_felter_receiver_lap(felter_receiver *receiver, uint64_t *place, uint64_t *intent);
 

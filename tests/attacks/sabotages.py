@@ -21,6 +21,7 @@ SABOTAGES = {
     "TAKING_PEEK": "felter_peek",     # a message that is looked at does not stay
     "UNTAKEN": "felter_take",         # one that is taken stays
     "UNRAISED": "felter_counter_propose_max",         # a value that was raised is said to be as it was
+    "SET_ANYWAY": "felter_counter_compare_and_set",   # a value that was not expected is replaced all the same
     "SHORT_LAP": "felter_receiver_lap",               # a receiver is said to have been further on when it was lapped
     "EARLY_DEADLINE": "felter_conductor_deadline",    # a freed id is said to rest for less
 }

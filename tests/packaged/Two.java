@@ -169,12 +169,18 @@ public final class Two {
             final int id = counters.allocate("a label", 9, new byte[] {1}, 0, 5, 6);
             counters.setCounterValue(id, 40);
             check(counters.getAndAdd(id, 2) == 40 && reader.getCounterValue(id) == 42, "the value");
+            check(counters.increment(id) == 42 && counters.decrement(id) == 43, "one more and one less");
+            check(counters.getAndSet(id, 7) == 42 && reader.getCounterValue(id) == 7, "the value before");
+            check(!counters.compareAndSet(id, 8, 1) && counters.compareAndSet(id, 7, 9), "whether it was expected");
+            check(reader.getCounterValue(id) == 9 && counters.available(0) == 3, "the value, and what is left");
             check("a label".equals(counters.getCounterLabel(id)) && counters.getCounterTypeId(id) == 9, "the label");
             counters.free(counters.allocate("freed"), 0);
             final List<Integer> used = new ArrayList<>();
             counters.forEach(used::add);
             check(used.equals(List.of(id)) && counters.getCounterState(1) == CountersManager.RECORD_RECLAIMED, "states");
             refused(21, () -> counters.getCounterLabel(3));
+            refused(21, () -> counters.increment(3));
+            refused(20, () -> counters.compareAndSet(4, 0, 1));
         }
     }
 

@@ -2,6 +2,7 @@
 pub(crate) mod asking;
 pub(crate) mod boards;
 pub(crate) mod calling;
+pub(crate) mod changing;
 pub(crate) mod concluding;
 pub(crate) mod conducting;
 pub(crate) mod consuming;

@@ -20,6 +20,10 @@ pub use exports::calling::{
     felter_client_heartbeat, felter_poll, felter_send_allocate, felter_send_allocate_owned,
     felter_send_close_owner, felter_send_free, felter_send_set,
 };
+pub use exports::changing::{
+    felter_counter_compare_and_set, felter_counter_decrement, felter_counter_get_and_set,
+    felter_counter_increment,
+};
 pub use exports::concluding::felter_conductor_finish;
 pub use exports::conducting::{
     felter_conductor_client, felter_conductor_new_numbered, felter_conductor_set_heartbeat,
@@ -32,7 +36,8 @@ pub use exports::counting::{
     felter_counter_add, felter_counter_allocate, felter_counter_allocate_owned,
     felter_counter_find, felter_counter_free, felter_counter_key, felter_counter_label,
     felter_counter_owner, felter_counter_registration, felter_counter_set, felter_counter_type_id,
-    felter_counter_value, felter_counters_close_owner, felter_counters_count,
+    felter_counter_value, felter_counters_available, felter_counters_close_owner,
+    felter_counters_count,
 };
 pub use exports::counting_new::felter_counters_new_numbered;
 pub use exports::ending::{

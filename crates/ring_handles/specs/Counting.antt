@@ -1,10 +1,11 @@
 -- What calls of counters do: c are the counters before, d after, and the code is what is returned.
-use Rattle.std.specs.Prelude.{◌≡◌, ◌≢◌, ◌⊎◌, ◌<◌, ◌≤◌, ◌^◌, ℕ, ℤ, pos, true, false, List, [], ◌∷◌, ◌++◌, length, Option, Some, None, Ok, Err}
+use Rattle.std.specs.Prelude.{◌≡◌, ◌≢◌, ◌⊎◌, ◌<◌, ◌≤◌, ◌^◌, ℕ, ℤ, pos, Bool, true, false, List, [], ◌∷◌, ◌++◌, length, Option, Some, None, Ok, Err}
 use Rattle.std.specs.Arc.{arc_value}
 use Rattle.ring_layout.specs.History.{overwritten}
 use Rattle.ring_counters.specs.declared.fault.AllocateRefused.{AllocateRefused}
 use Rattle.ring_counters.specs.declared.fault.IdFault.{IdFault}
 use Rattle.ring_counters.specs.declared.manager.CountersManager.{CountersManager}
+use Rattle.ring_counters.specs.Available.{available_in, has_value}
 use Rattle.ring_counters.specs.Codes.{allocate_code, id_code}
 use Rattle.ring_counters.specs.Manager.{registry_of, shares_of, writes_of}
 use Rattle.ring_counters.specs.Registry.{Registry, allocated_in, allocation_of, answer, closed_in, counter_at, count_of, id_refusal_of, is_raised_by, new_counter, owned_ids, range_refusal_of, reclaimed_in, registered_id, value_at, value_plus, with_value}
@@ -60,22 +61,35 @@ pub record StoresValue (id : ℕ) (value : ℤ) (c d : CountersSide) : Type 0 wh
 abbrev pub WasSet : ℕ → ℤ → CountersSide → CountersSide → ℤ → Type 0
 WasSet id value c d code = ((code ≡ pos 0) × StoresValue id value c d) ⊎ IdRefused {T = Unit {0}} tt id c d code
 
+-- the counter got this value, and the value before is put out
+abbrev pub WasReplaced : ℕ → ℤ → ℤ → ℤ → CountersSide → CountersSide → ℤ → Type 0
+WasReplaced id value before after c d code =
+    ((code ≡ pos 0) × (after ≡ value_at (registry_of c.manager) id) × StoresValue id value c d)
+    ⊎ (IdRefused (value_at (registry_of c.manager) id) id c d code × (after ≡ before))
+
 -- this much was added, and the value before is put out
 abbrev pub WasAdded : ℕ → ℤ → ℤ → ℤ → CountersSide → CountersSide → ℤ → Type 0
 WasAdded id delta before after c d code =
-    ((code ≡ pos 0) × (after ≡ value_at (registry_of c.manager) id)
-    × StoresValue id (value_plus (registry_of c.manager) id delta) c d)
-    ⊎ (IdRefused (value_at (registry_of c.manager) id) id c d code × (after ≡ before))
+    WasReplaced id (value_plus (registry_of c.manager) id delta) before after c d code
 
--- the value was raised to this one, and 1 is put out; or it was not below it, and 0 is put out
-abbrev pub Proposes : ℕ → ℤ → ℕ → CountersSide → CountersSide → Type 0
-Proposes id value after c d =
-    ((is_raised_by (registry_of c.manager) id value ≡ true) × (after ≡ 1) × StoresValue id value c d)
-    ⊎ ((is_raised_by (registry_of c.manager) id value ≡ false) × (after ≡ 0) × (d ≡ c))
+-- the counter got this value if the test holds, and 1 is put out; otherwise nothing changed, and 0 is put out
+abbrev pub SetsIf : Bool → ℕ → ℤ → ℕ → CountersSide → CountersSide → Type 0
+SetsIf test id value after c d = ((test ≡ true) × (after ≡ 1) × StoresValue id value c d)
+    ⊎ ((test ≡ false) × (after ≡ 0) × (d ≡ c))
 
+abbrev pub WasSetIf : Bool → ℕ → ℤ → ℕ → ℕ → CountersSide → CountersSide → ℤ → Type 0
+WasSetIf test id value before after c d code = ((code ≡ pos 0) × SetsIf test id value after c d)
+    ⊎ (IdRefused test id c d code × (after ≡ before))
+
+-- the value was raised to this one, if it was below it
 abbrev pub WasProposed : ℕ → ℤ → ℕ → ℕ → CountersSide → CountersSide → ℤ → Type 0
-WasProposed id value before after c d code = ((code ≡ pos 0) × Proposes id value after c d)
-    ⊎ (IdRefused (is_raised_by (registry_of c.manager) id value) id c d code × (after ≡ before))
+WasProposed id value before after c d code =
+    WasSetIf (is_raised_by (registry_of c.manager) id value) id value before after c d code
+
+-- the value was set to this one, if it was the expected one
+abbrev pub WasCompared : ℕ → ℤ → ℤ → ℕ → ℕ → CountersSide → CountersSide → ℤ → Type 0
+WasCompared id expected value before after c d code =
+    WasSetIf (has_value (registry_of c.manager) id expected) id value before after c d code
 
 -- the moment is above 2^62, and nothing changed, as Same says; otherwise P holds
 abbrev pub AtMoment : ℕ → Type 0 → Type 0 → ℤ → Type 0
@@ -133,6 +147,10 @@ WasFound type_id registration = Asks (TellsFound type_id registration)
 -- the number of ids
 abbrev pub TellsCount : CountersManager → ℕ → ℕ → ℤ → Type 0
 TellsCount m before count code = (code ≡ pos 0) × (count ≡ count_of (registry_of m))
+
+-- the number of ids that can be allocated at this moment
+abbrev pub TellsAvailable : ℕ → CountersManager → ℕ → ℕ → ℤ → Type 0
+TellsAvailable now m before available code = (code ≡ pos 0) × (available ≡ available_in (registry_of m) now)
 
 -- these bytes are at the front of the buffer, or it is too short for them, and stays
 abbrev pub FillsBuffer : List ℕ → List ℕ → List ℕ → ℤ → Type 0

@@ -1,8 +1,10 @@
 //! What a handle's counters do.
-ghost use Rattle.std.specs.Prelude.{◌≡◌};
+ghost use Rattle.std.specs.Prelude.{◌≡◌, pos, negsuc};
 ghost use Rattle.ring_counters.specs.Registry.{counter_at};
 ghost use Rattle.ring_counters.specs.Counter.{deadline_of, state_of};
-ghost use Rattle.ring_handles.specs.Counting.{label_out, Asked, Asks, OwnerClosed, TellsCount, TellsFound, TellsKey, TellsLabel, TellsOfRecord, WasAdded, WasAllocated, WasFound, WasFreed, WasProposed, WasSet};
+ghost use Rattle.ring_handles.specs.Counting.{label_out, Asked, Asks, OwnerClosed, TellsAvailable, TellsCount, TellsFound};
+ghost use Rattle.ring_handles.specs.Counting.{TellsKey, TellsLabel, TellsOfRecord, WasAdded, WasAllocated, WasCompared};
+ghost use Rattle.ring_handles.specs.Counting.{WasFound, WasFreed, WasProposed, WasReplaced, WasSet};
 
 use crate::code::{BAD_MOMENT, BAD_OWNER, DONE, NOT_ALLOCATED, SHORT_BUFFER};
 use crate::copying::copy_at;
@@ -132,6 +134,27 @@ impl CountersSide {
         tell!(before, self.manager.add(&self.values, id, delta))
     }
 
+    /// Adds 1 to a counter's value, and reports the value before.
+    pub fn increment(&mut self, id: u32, before: &mut i64) -> i32
+        ensures { WasAdded id (pos 1) before.old before.new self.old self.new result }
+    {
+        tell!(before, self.manager.increment(&self.values, id))
+    }
+
+    /// Subtracts 1 from a counter's value, and reports the value before.
+    pub fn decrement(&mut self, id: u32, before: &mut i64) -> i32
+        ensures { WasAdded id (negsuc 0) before.old before.new self.old self.new result }
+    {
+        tell!(before, self.manager.decrement(&self.values, id))
+    }
+
+    /// Sets a counter's value, and reports the value before.
+    pub fn get_and_set(&mut self, id: u32, value: i64, before: &mut i64) -> i32
+        ensures { WasReplaced id value before.old before.new self.old self.new result }
+    {
+        tell!(before, self.manager.get_and_set(&self.values, id, value))
+    }
+
     /// Frees a counter.
     pub fn free(&mut self, now: u64, id: u32) -> i32
         ensures { WasFreed now id self.old self.new result }
@@ -173,6 +196,14 @@ impl CountersSide {
         ensures { Asks TellsCount count.old count.new self.old self.new result }
     {
         *count = self.manager.count();
+        DONE
+    }
+
+    /// Reports how many counters can be allocated at a moment.
+    pub fn available(&mut self, now: u64, available: &mut u32) -> i32
+        ensures { Asks (TellsAvailable now) available.old available.new self.old self.new result }
+    {
+        *available = self.manager.available(now);
         DONE
     }
 
@@ -231,6 +262,26 @@ impl CountersSide {
             }
             Ok(false) => {
                 *raised = 0;
+                DONE
+            }
+            Err(fault) => fault.code(),
+        }
+    }
+
+    /// Sets a counter's value if it is the expected one, and reports 1, or otherwise 0.
+    pub fn compare_and_set(&mut self, id: u32, expected: i64, value: i64, was_set: &mut u32) -> i32
+        ensures { WasCompared id expected value was_set.old was_set.new self.old self.new result }
+    {
+        match self
+            .manager
+            .compare_and_set(&self.values, id, expected, value)
+        {
+            Ok(true) => {
+                *was_set = 1;
+                DONE
+            }
+            Ok(false) => {
+                *was_set = 0;
                 DONE
             }
             Err(fault) => fault.code(),

@@ -113,6 +113,30 @@ impl Counters {
         Ok(before)
     }
 
+    /// Adds 1 to a counter's value, which wraps, and returns the value before.
+    ///
+    /// Errors: [`Error::BadId`], [`Error::NotAllocated`].
+    pub fn increment(&mut self, id: u32) -> Result<i64, Error> {
+        self.handle.number(id, raw::felter_counter_increment)
+    }
+
+    /// Subtracts 1 from a counter's value, which wraps, and returns the value before.
+    ///
+    /// Errors: [`Error::BadId`], [`Error::NotAllocated`].
+    pub fn decrement(&mut self, id: u32) -> Result<i64, Error> {
+        self.handle.number(id, raw::felter_counter_decrement)
+    }
+
+    /// Sets a counter's value, and returns the value before.
+    ///
+    /// Errors: [`Error::BadId`], [`Error::NotAllocated`].
+    pub fn get_and_set(&mut self, id: u32, value: i64) -> Result<i64, Error> {
+        let mut before = 0;
+        // SAFETY: our handle, and a number of ours.
+        done(unsafe { raw::felter_counter_get_and_set(self.handle.raw(), id, value, &mut before) })?;
+        Ok(before)
+    }
+
     /// Raises a counter's value to `value` if the counter is below it. Returns whether that was so.
     ///
     /// Errors: [`Error::BadId`], [`Error::NotAllocated`].
@@ -121,6 +145,16 @@ impl Counters {
         // SAFETY: our handle, and a number of ours.
         done(unsafe { raw::felter_counter_propose_max(self.handle.raw(), id, value, &mut raised) })?;
         Ok(raised == 1)
+    }
+
+    /// Sets a counter's value to `value` if it is `expected`. Returns whether that was so.
+    ///
+    /// Errors: [`Error::BadId`], [`Error::NotAllocated`].
+    pub fn compare_and_set(&mut self, id: u32, expected: i64, value: i64) -> Result<bool, Error> {
+        let mut was_set = 0;
+        // SAFETY: our handle, and a number of ours.
+        done(unsafe { raw::felter_counter_compare_and_set(self.handle.raw(), id, expected, value, &mut was_set) })?;
+        Ok(was_set == 1)
     }
 
     /// The state of an id: 0 if it was never used, 1 if its counter is in use, -1 if its counter was freed.
@@ -181,6 +215,15 @@ impl Counters {
     /// The number of ids, in use or not.
     pub fn count(&mut self) -> Result<u32, Error> {
         self.handle.said(raw::felter_counters_count)
+    }
+
+    /// The number of counters that can be allocated at the moment `now`. A freed id counts from its
+    /// [`deadline`](Counters::deadline) on.
+    pub fn available(&mut self, now: u64) -> Result<u32, Error> {
+        let mut available = 0;
+        // SAFETY: our handle, and a number of ours.
+        done(unsafe { raw::felter_counters_available(self.handle.raw(), now, &mut available) })?;
+        Ok(available)
     }
 
     /// The ids in use, in rising order.

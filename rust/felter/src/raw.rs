@@ -175,11 +175,21 @@ extern "C" {
     pub(crate) fn felter_counter_free(counters: *mut Raw, now: u64, id: u32) -> i32;
     pub(crate) fn felter_counter_set(counters: *mut Raw, id: u32, value: i64) -> i32;
     pub(crate) fn felter_counter_add(counters: *mut Raw, id: u32, delta: i64, before: *mut i64) -> i32;
+    pub(crate) fn felter_counter_increment(counters: *mut Raw, id: u32, before: *mut i64) -> i32;
+    pub(crate) fn felter_counter_decrement(counters: *mut Raw, id: u32, before: *mut i64) -> i32;
+    pub(crate) fn felter_counter_get_and_set(counters: *mut Raw, id: u32, value: i64, before: *mut i64) -> i32;
     pub(crate) fn felter_counter_value(counters: *mut Raw, id: u32, value: *mut i64) -> i32;
     pub(crate) fn felter_counter_type_id(counters: *mut Raw, id: u32, type_id: *mut i32) -> i32;
     pub(crate) fn felter_counter_registration(counters: *mut Raw, id: u32, registration: *mut u64) -> i32;
     pub(crate) fn felter_counter_owner(counters: *mut Raw, id: u32, owner: *mut u64) -> i32;
     pub(crate) fn felter_counter_propose_max(counters: *mut Raw, id: u32, value: i64, raised: *mut u32) -> i32;
+    pub(crate) fn felter_counter_compare_and_set(
+        counters: *mut Raw,
+        id: u32,
+        expected: i64,
+        value: i64,
+        was_set: *mut u32,
+    ) -> i32;
     pub(crate) fn felter_counter_state(counters: *mut Raw, id: u32, state: *mut i32) -> i32;
     pub(crate) fn felter_counter_deadline(counters: *mut Raw, id: u32, deadline: *mut u64) -> i32;
     pub(crate) fn felter_counter_label(
@@ -192,6 +202,7 @@ extern "C" {
     pub(crate) fn felter_counter_key(counters: *mut Raw, id: u32, buffer: *mut u8, room: usize) -> i32;
     pub(crate) fn felter_counter_find(counters: *mut Raw, type_id: i32, registration: u64, id: *mut u32) -> i32;
     pub(crate) fn felter_counters_count(counters: *mut Raw, count: *mut u32) -> i32;
+    pub(crate) fn felter_counters_available(counters: *mut Raw, now: u64, available: *mut u32) -> i32;
     pub(crate) fn felter_counters_close_owner(counters: *mut Raw, now: u64, owner: u64, freed: *mut u32) -> i32;
     pub(crate) fn felter_counters_reader(counters: *mut Raw, reader: *mut Raw) -> i32;
     pub(crate) fn felter_reader_value(reader: *mut Raw, id: u32, value: *mut i64) -> i32;

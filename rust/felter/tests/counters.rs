@@ -34,6 +34,32 @@ fn counters_say_what_they_were_given() {
 }
 
 #[test]
+fn values_change_and_are_said_as_they_were() {
+    let mut counters = Counters::new(2, 0).unwrap();
+    let id = counters.allocate(0, 1, b"", b"", 0).unwrap();
+    assert_eq!((counters.increment(id), counters.increment(id), counters.decrement(id)), (Ok(0), Ok(1), Ok(2)));
+    assert_eq!((counters.get_and_set(id, i64::MIN), counters.decrement(id)), (Ok(1), Ok(i64::MIN)));
+    assert_eq!((counters.increment(id), counters.get_and_set(id, 7)), (Ok(i64::MAX), Ok(i64::MIN)));
+    assert_eq!((counters.compare_and_set(id, 8, 9), counters.value(id)), (Ok(false), Ok(7)));
+    assert_eq!((counters.compare_and_set(id, 7, -9), counters.value(id)), (Ok(true), Ok(-9)));
+    assert_eq!((counters.increment(1), counters.decrement(2)), (Err(Error::NotAllocated), Err(Error::BadId)));
+    assert_eq!((counters.get_and_set(1, 0), counters.get_and_set(2, 0)), (Err(Error::NotAllocated), Err(Error::BadId)));
+    assert_eq!(counters.compare_and_set(1, 0, 5), Err(Error::NotAllocated));
+    assert_eq!(counters.compare_and_set(2, 0, 5), Err(Error::BadId));
+}
+
+#[test]
+fn ids_are_available_until_they_are_allocated_and_again_from_their_deadlines_on() {
+    let mut counters = Counters::new(3, 50).unwrap();
+    assert_eq!(counters.available(0), Ok(3));
+    let ids = [0; 3].map(|_| counters.allocate(0, 1, b"", b"", 0).unwrap());
+    assert_eq!(counters.available(u64::MAX), Ok(0));
+    counters.free(100, ids[1]).unwrap();
+    assert_eq!((counters.available(149), counters.available(150)), (Ok(0), Ok(1)));
+    assert_eq!((counters.allocate(150, 1, b"", b"", 0), counters.available(150)), (Ok(ids[1]), Ok(0)));
+}
+
+#[test]
 fn values_rise_for_readers_on_threads() {
     let mut counters = Counters::new(2, 0).unwrap();
     let id = counters.allocate(0, 1, b"", b"rises", 0).unwrap();

@@ -1,6 +1,7 @@
 //! What a handle of counters does.
 ghost use Rattle.ring_counters.specs.Registry.{counter_at};
-ghost use Rattle.ring_handles.specs.Counting.{label_out, Asked, Asks, OwnerClosed, TellsCount, TellsKey, TellsLabel, WasAdded, WasAllocated, WasFound, WasFreed, WasSet};
+ghost use Rattle.ring_handles.specs.Counting.{label_out, Asked, Asks, OwnerClosed, TellsAvailable, TellsCount, TellsKey, TellsLabel};
+ghost use Rattle.ring_handles.specs.Counting.{WasAdded, WasAllocated, WasFound, WasFreed, WasSet};
 ghost use Rattle.ring_handles.specs.Kinds.{some_counters};
 ghost use Rattle.ring_c.specs.Told.{Uses, Yields};
 
@@ -143,6 +144,20 @@ pub extern "C" fn felter_counters_count(
         counters.new.held result }
 {
     work_on!(counters, alloc, Counters(side) => side.count(count))
+}
+
+/// Says how many counters can be allocated at a moment.
+#[unsafe(no_mangle)]
+pub extern "C" fn felter_counters_available(
+    alloc: Global,
+    counters: &mut Handle,
+    now: u64,
+    available: &mut u32,
+) -> i32
+    ensures { Yields some_counters (Asks (TellsAvailable now)) available.old available.new counters.old.held
+        counters.new.held result }
+{
+    work_on!(counters, alloc, Counters(side) => side.available(now, available))
 }
 
 /// Says a counter's value.

@@ -1,0 +1,23 @@
+use Rattle.std.proofs.Common.{refl, sym, ◌∙◌, inl, inr, rules}
+use Rattle.std.specs.Int.{w64}
+use Rattle.std.proofs.lemmas.Int.{to_z-of_z}
+use Rattle.ring_handles.proofs.CountingLemmas.{answered, same_side, stored}
+use Rattle.ring_handles.proofs.counters.CountersSide.get_and_set.Goals as goal
+
+pub returns-in-Ok : goal.returns-in-Ok
+returns-in-Ok c =
+    let it = c.get_and_set.ensures in
+    let is = answered _ _ _ (sym it.before ∙ c.in-Ok.is) in
+    let same = to_z-of_z w64 c.args.value c.ranges.value in
+    inl (refl, search rules ∙ sym is, stored _ _ _ c.args.self.now _ _ same c.in-Ok.ensures.sets it.shares)
+
+pub returns-in-Err : goal.returns-in-Err
+returns-in-Err c = inr (
+  record {
+    fault = c.in-Err.fault;
+    is = sym c.get_and_set.ensures.before ∙ c.in-Err.is;
+    code_is = search rules ∙ c.code.ensures;
+    same = same_side c.args.self.now _ _ c.in-Err.ensures.err;
+  },
+  refl,
+)

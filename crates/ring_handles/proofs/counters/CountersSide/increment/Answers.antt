@@ -1,0 +1,20 @@
+use Rattle.std.proofs.Common.{refl, sym, ◌∙◌, inl, inr, rules}
+use Rattle.ring_handles.proofs.CountingLemmas.{answered, same_side, stored}
+use Rattle.ring_handles.proofs.counters.CountersSide.increment.Goals as goal
+
+pub returns-in-Ok : goal.returns-in-Ok
+returns-in-Ok c =
+    let it = c.increment.ensures in
+    let is = answered _ _ _ (sym it.before ∙ c.in-Ok.is) in
+    inl (refl, search rules ∙ sym is, stored _ _ _ c.args.self.now _ _ refl c.in-Ok.ensures.sets it.shares)
+
+pub returns-in-Err : goal.returns-in-Err
+returns-in-Err c = inr (
+  record {
+    fault = c.in-Err.fault;
+    is = sym c.increment.ensures.before ∙ c.in-Err.is;
+    code_is = search rules ∙ c.code.ensures;
+    same = same_side c.args.self.now _ _ c.in-Err.ensures.err;
+  },
+  refl,
+)
