@@ -1,22 +1,24 @@
 -- What the words of a ring with lost producers hand out.
-use Rattle.std.proofs.Common.{◌≡◌, ◌∙◌, ℕ, ◌%◌, ◌≤◌, List, [], ◌∷◌, length, slice_index, refl, sym, ap, subst, arith}
-use mathlib.Core.Option.{some}
-use lib.ListN.{get_elem?}
-use Rattle.ring_layout.specs.Layout.{head_cache_index, heartbeat_index}
+use Rattle.std.proofs.Common.{◌≡◌, ◌∙◌, ℕ, ◌%◌, List, [], ◌∷◌, slice_index, refl, sym, ap, subst, arith}
+use Rattle.std.specs.declared.snapshot.Snapshot.{Snapshot}
+use Rattle.std.specs.declared.alloc.Global.{Global}
+use Rattle.atomic_table.specs.declared.owned.Closed.{Closed}
 use Rattle.ring_layout.specs.Picture.{IsPicture}
 use Rattle.ring_layout.specs.Places.{end_of}
 use Rattle.ring_words.specs.Ring.{Has, IsRing, ring}
 use Rattle.ring_words.proofs.UniqueLemmas.{alike}
 use Rattle.ring_table.specs.declared.claim.StagedClaim.{StagedClaim}
+use Rattle.ring_table.specs.declared.view.Key.{Key}
 use Rattle.ring_table.specs.declared.view.View.{View}
 use Rattle.ring_table.specs.Closed.{restarted}
 use Rattle.ring_table.specs.Passing.{placed_committed_of}
-use Rattle.ring_table.specs.Rescued.{silent_bytes, unsettled_count, Rescues}
-use Rattle.ring_table.specs.Owners.{all_of}
-use Rattle.ring_table.specs.Staged.{ArePlaced, unplaced}
+use Rattle.ring_table.specs.Rescued.{unsettled_count, HadHistory, Rescues}
+use Rattle.ring_table.specs.Owners.{OwnedHistory, all_of}
+use Rattle.ring_table.specs.Staged.{Bodies, unplaced}
 use Rattle.ring_table.proofs.RestLemmas.{end_of-claims_of}
 use Rattle.ring_rings.specs.Reading.{messages_of}
-use Rattle.ring_rings.specs.Rescuing.{IsRescued}
+use Rattle.ring_rings.specs.Rescuing.{IsRescued, IsRescuedOf}
+use Rattle.ring_rings.specs.declared.rescue.Rescued.{Rescued}
 use Rattle.ring_rings.proofs.CloseLemmas.{placed_lawful, placed_rising}
 use Rattle.ring_rings.proofs.SentLemmas.{same_committed}
 
@@ -30,7 +32,7 @@ restarted_count s [] = refl
 restarted_count s (c ∷ cs) = refl
 
 module _ (C start : ℕ) (v : View) (words : List ℕ) (claims silent : ℕ)
-    (r : Rescues C start v words claims silent) where
+    (hist : OwnedHistory) (drawn : ℕ) (r : Rescues C start v hist drawn words claims silent) where
   rest_has : Has (ring C words) (unplaced r.settles.now)
   rest_has =
       let k = r.settles in
@@ -58,40 +60,58 @@ module _ (C start : ℕ) (v : View) (words : List ℕ) (claims silent : ℕ)
         history = (unplaced r.settles.now, rest_has);
       }
 
-  pub is_rescued : (v' : View) → v'.producer.claims ≡ v.producer.claims → v'.consumer.taken ≡ v.consumer.taken
-      → v'.consumer.head ≡ v.consumer.head → v'.consumer.heartbeats ≡ v.consumer.heartbeats
-      → IsRescued C start v' (record { rest = ring C words; unsettled = record { claims = claims; silent = silent } })
-  is_rescued v' own taken at beats =
+  is_rescued_of : (before : Snapshot (Closed ℕ Global)) → IsRescuedOf C start v hist drawn (record {
+    rest = ring C words;
+    unsettled = record { claims = claims; silent = silent };
+    before = before;
+  })
+  is_rescued_of before =
       let k = r.settles in
       let same : placed_committed_of k.now ≡ placed_committed_of r.left =
       k.messages ∙ restarted_committed v.consumer.head r.left in
       record {
-        hist = r.hist;
-        ordered = record { placed = r.placed; rising = placed_rising C start (all_of r.hist) r.placed };
+        ordered = record { placed = r.placed; rising = placed_rising C start (all_of hist) r.placed };
         id = r.id;
-        own = own ∙ r.own;
+        own = r.own;
         passed = r.passed;
         left = r.left;
         whole = r.whole;
         settled = r.settled;
-        messages = taken ∙ r.messages;
+        messages = r.messages;
+        below = r.below;
+        ahead = r.ahead;
         now = k.now;
-        placed = subst (λ h. ArePlaced C h k.now) (sym at) k.placed;
+        placed = k.placed;
         done = k.settled;
         same = same;
         capacity = refl;
-        head = r.head_is ∙ sym at;
+        head = r.head_is;
         has = rest_has;
         unread = λ h has. (alike (ring C words) h (unplaced k.now) rescued_ring has rest_has).messages
             ∙ same_committed k.now ∙ ap messages_of same;
         claims = k.claims_is ∙ restarted_count v.consumer.head r.left;
-        silent = k.silent_is ∙ ap (λ h. silent_bytes (restarted h r.left)) (sym at);
-        drawn = r.drawn;
-        service = record {
-          cache = subst (λ (h : ℕ). slice_index words (head_cache_index C) ≤ h) (sym at) r.service.cache;
-          correlation = r.service.correlation;
-          heartbeat = subst (λ (hs : List ℕ). get_elem? (0 ∷ hs) (length hs)
-              ≡ some (slice_index words (heartbeat_index C))) (sym beats) r.service.heartbeat;
-          unnamed = r.service.unnamed;
-        };
+        silent = k.silent_is;
+        service = r.service;
       }
+
+-- what the words of a table come to, of each history that it had
+pub is_rescued : (B : Bodies) (C : ℕ) (k : Key) (v : View) (words : List ℕ) (r : Rescued) → k.capacity ≡ C
+    → r.rest ≡ ring C words
+    → ((hist : OwnedHistory) × (drawn : ℕ) × HadHistory B k v r.before.value hist drawn)
+    → ((hist : OwnedHistory) (drawn : ℕ) → HadHistory B k v r.before.value hist drawn
+    → Rescues C k.start v hist drawn words r.unsettled.claims r.unsettled.silent)
+    → IsRescued B C k.start v r
+is_rescued B C k v words r same rest had each =
+    let key : k ≡ record { capacity = C; start = k.start } = λ i. record { capacity = same i; start = k.start } in
+    record {
+      hist = had.0;
+      drawn = had.1;
+      had = subst (λ z. HadHistory B z v r.before.value had.0 had.1) key had.2;
+      each = λ h n x. subst (λ z. IsRescuedOf C k.start v h n (record {
+        rest = z;
+        unsettled = r.unsettled;
+        before = r.before;
+      })) (sym rest)
+          (is_rescued_of C k.start v words r.unsettled.claims r.unsettled.silent h n
+          (each h n (subst (λ z. HadHistory B z v r.before.value h n) (sym key) x)) r.before);
+    }

@@ -12,7 +12,8 @@ ghost use Rattle.ring_table.specs.declared.view.Key.{Key as TheKey};
 ghost use Rattle.ring_table.specs.declared.view.View.{View};
 ghost use Rattle.ring_table.specs.Closed.{IsClosed, IsLeft, LeavesRest};
 ghost use Rattle.ring_table.specs.ProducerSteps.{with_changed, HasClaimAt, NeedsHeader};
-ghost use Rattle.ring_table.specs.Rescued.{IsSaved, Rescues};
+ghost use Rattle.ring_table.specs.Owners.{OwnedHistory};
+ghost use Rattle.ring_table.specs.Rescued.{HadHistory, IsSaved, Rescues};
 ghost use Rattle.ring_table.specs.Rule.{IsLawful};
 ghost use Rattle.ring_table.specs.Seats.{IsSameSeat, IsSeatOf};
 ghost use Rattle.ring_table.specs.SlotSteps.{IsOpenOf};
@@ -136,6 +137,7 @@ pub trait Bodies: Mode {
         requires left { (k : TheKey) × (v : View) × IsSaved Self.bodies k v closed
             × (slots_len closed.slots ≡ slots_for k.capacity) × (k.capacity ≡ capacity) }
         requires room { vec_len room ≡ slots_len closed.words }
-        ensures { (k : TheKey) (v : View) → IsSaved Self.bodies k v closed → k.capacity ≡ capacity
-            → Rescues capacity k.start v result.0.items result.1.claims result.1.silent };
+        ensures { (k : TheKey) (v : View) (hist : OwnedHistory) (drawn : ℕ) → IsSaved Self.bodies k v closed
+            → HadHistory Self.bodies k v closed hist drawn → k.capacity ≡ capacity
+            → Rescues capacity k.start v hist drawn result.0.items result.1.claims result.1.silent };
 }

@@ -1,15 +1,19 @@
 //! How a ring is taken apart of which producers are lost.
-ghost use Rattle.std.specs.Prelude.{◌≡◌, vec_len, true, []};
-ghost use Rattle.ring_table.specs.Rescued.{Rescues};
+ghost use Rattle.std.specs.Prelude.{◌≡◌, ℕ, vec_len, true, []};
+ghost use Rattle.ring_table.specs.Owners.{OwnedHistory};
+ghost use Rattle.ring_table.specs.Rescued.{HadHistory, Rescues};
 ghost use Rattle.ring_table.specs.Views.{with_consumer_of};
 ghost use Rattle.ring_rings.specs.Rescuing.{IsRescued};
-ghost use Rattle.ring_rings.specs.Seats.{capacity_of, consumer_view, start_of, view_of};
+ghost use Rattle.ring_rings.specs.Seats.{capacity_of, seat_view, start_of, view_of};
 ghost use Rattle.ring_rings.specs.Seats.{IsConsumerOf, IsProducerOf};
 
 use crate::bodies::Bodies;
 use crate::ring::{Consumer, Producer, Ring};
+use atomic_table::Closed;
 use ring_table::{RingSeat, RingTable, Unsettled, join_consumer};
 use ring_words::SoloRing;
+use std::alloc::Global;
+use std::snapshot::Snapshot;
 
 /// What was saved of a ring: the messages that were committed and not read, as a ring of one owner, and what lost
 /// producers had claimed and not settled.
@@ -17,24 +21,34 @@ use ring_words::SoloRing;
 pub struct Rescued {
     pub rest: SoloRing,
     pub unsettled: Unsettled,
+    /// What the ring's table left, for contracts: it has no bytes. They read in it which claims there were.
+    pub before: Snapshot<Closed<u64, Global>>,
 }
 
-/// The words of a ring in its format, in `room`, from a seat that consumes.
+/// The words of a ring in its format, in `room`, from a seat that consumes, and what its table left, by name.
 fn save_words<B: Bodies>(
     table: RingTable<B>,
     seat: RingSeat,
     capacity: u32,
     room: Vec<u64>,
-) -> (Vec<u64>, Unsettled)
+) -> (Vec<u64>, Unsettled, Snapshot<Closed<u64, Global>>)
     requires table { (seat.table_id ≡ table.shared.table_id)
         × (table.shared.table_id.slots ≡ B.slots_for table.shared.key.capacity) }
     requires capacity { table.shared.key.capacity ≡ capacity }
     requires room { vec_len room ≡ table.shared.table_id.words }
     requires consumes { (seat.me.0.consumes ≡ true) × (seat.me.0.consumer.cleared ≡ seat.me.0.consumer.head) }
     requires home { seat.me.0.out ≡ [] }
-    ensures { Rescues capacity table.shared.key.start seat.me.0 result.0.items result.1.claims result.1.silent }
+    ensures had { (hist : OwnedHistory) × (drawn : ℕ)
+        × HadHistory B.bodies table.shared.key seat.me.0 result.2.value hist drawn }
+    ensures each { (hist : OwnedHistory) (drawn : ℕ)
+        → HadHistory B.bodies table.shared.key seat.me.0 result.2.value hist drawn
+        → Rescues capacity table.shared.key.start seat.me.0 hist drawn
+        result.0.items result.1.claims result.1.silent }
 {
-    B::rescue(table.close_with(seat), capacity, room)
+    let closed = table.close_with(seat);
+    let before = Snapshot::of(&closed);
+    let (words, unsettled) = B::rescue(closed, capacity, room);
+    (words, unsettled, before)
 }
 
 impl<K, B: Bodies> Ring<K, B> {
@@ -42,7 +56,7 @@ impl<K, B: Bodies> Ring<K, B> {
     /// stays, in its order and at its places, and what was claimed and not settled is aborted.
     pub fn rescue(self, consumer: Consumer) -> Rescued
         requires consumer { IsConsumerOf self consumer }
-        ensures rescued { IsRescued (capacity_of self) (start_of self) (consumer_view consumer) result }
+        ensures rescued { IsRescued B.bodies (capacity_of self) (start_of self) (seat_view consumer) result }
     {
         let Consumer {
             seat,
@@ -55,10 +69,11 @@ impl<K, B: Bodies> Ring<K, B> {
             capacity,
             kind: _,
         } = self;
-        let (words, unsettled) = save_words(table, seat, capacity, room);
+        let (words, unsettled, before) = save_words(table, seat, capacity, room);
         Rescued {
             rest: SoloRing::from_words(capacity, words, scratch),
             unsettled,
+            before,
         }
     }
 
@@ -67,8 +82,8 @@ impl<K, B: Bodies> Ring<K, B> {
     pub fn rescue_with(self, producer: Producer, consumer: Consumer) -> Rescued
         requires producer { IsProducerOf self producer }
         requires consumer { IsConsumerOf self consumer }
-        ensures rescued { IsRescued (capacity_of self) (start_of self)
-            (with_consumer_of (view_of producer) (consumer_view consumer)) result }
+        ensures rescued { IsRescued B.bodies (capacity_of self) (start_of self)
+            (with_consumer_of (view_of producer) (seat_view consumer)) result }
     {
         let Producer {
             mut seat,
@@ -88,10 +103,11 @@ impl<K, B: Bodies> Ring<K, B> {
             kind: _,
         } = self;
         join_consumer(&table.shared, &mut seat, reader);
-        let (words, unsettled) = save_words(table, seat, capacity, room);
+        let (words, unsettled, before) = save_words(table, seat, capacity, room);
         Rescued {
             rest: SoloRing::from_words(capacity, words, scratch),
             unsettled,
+            before,
         }
     }
 }

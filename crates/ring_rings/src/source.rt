@@ -1,5 +1,6 @@
 //! What a conductor needs of a ring, whatever its kind.
 ghost use Rattle.std.specs.Prelude.{◌≡◌, ◌⊎◌, ℕ, IfOk};
+ghost use Rattle.ring_table.specs.Staged.{Bodies as TheBodies};
 ghost use Rattle.ring_table.specs.Views.{with_beat, with_consumer_of};
 ghost use Rattle.ring_rings.specs.declared.ring.Consumer.{Consumer as TheConsumer};
 ghost use Rattle.ring_rings.specs.declared.ring.Producer.{Producer as TheProducer};
@@ -7,8 +8,8 @@ ghost use Rattle.ring_rings.specs.Closing.{close_refusal_of, kept_open, HandsOut
 ghost use Rattle.ring_rings.specs.Reading.{Controls, EndsAt};
 ghost use Rattle.ring_rings.specs.Rescuing.{IsRescued};
 ghost use Rattle.ring_rings.specs.Ring.{received, sent, IsWhole, Leaves, Receives};
-ghost use Rattle.ring_rings.specs.Seats.{capacity_of, consumer_view, open_claims_of, shares_of, start_of};
-ghost use Rattle.ring_rings.specs.Seats.{view_of, IsConsumerOf, IsProducerOf, IsSameConsumer};
+ghost use Rattle.ring_rings.specs.Seats.{capacity_of, consumer_view, open_claims_of, seat_view, shares_of};
+ghost use Rattle.ring_rings.specs.Seats.{start_of, view_of, IsConsumerOf, IsProducerOf, IsSameConsumer};
 
 use crate::bodies::Bodies;
 use crate::rescue::Rescued;
@@ -94,20 +95,25 @@ impl<K, B: Bodies> CommandSource for Ring<K, B> {
 
 /// A ring that commands are read from, and that can be taken apart though producers are lost.
 pub trait Rescue: CommandSource {
+    /// Where the bodies of its messages lie.
+    ghost bodies: { TheBodies };
+
     /// Takes the ring apart with its consumer alone, as `Ring::rescue` does.
     fn rescue(self, consumer: Consumer) -> Rescued
         requires consumer { Self.is_consumer self consumer }
-        ensures rescued { IsRescued (Self.bytes self) (Self.start self) (consumer_view consumer) result };
+        ensures rescued { IsRescued bodies (Self.bytes self) (Self.start self) (seat_view consumer) result };
 
     /// Takes the ring apart with its consumer and a producer that is left, as `Ring::rescue_with` does.
     fn rescue_with(self, producer: Producer, consumer: Consumer) -> Rescued
         requires producer { Self.is_producer self producer }
         requires consumer { Self.is_consumer self consumer }
-        ensures rescued { IsRescued (Self.bytes self) (Self.start self)
-            (with_consumer_of (view_of producer) (consumer_view consumer)) result };
+        ensures rescued { IsRescued bodies (Self.bytes self) (Self.start self)
+            (with_consumer_of (view_of producer) (seat_view consumer)) result };
 }
 
 impl<K, B: Bodies> Rescue for Ring<K, B> {
+    ghost bodies = { B.bodies };
+
     fn rescue(self, consumer: Consumer) -> Rescued {
         Ring::rescue(self, consumer)
     }

@@ -87,6 +87,7 @@ fn rescues<B: Bodies>(rt: &impl Abort, alloc: Global, half: u64) {
     let Rescued {
         mut rest,
         unsettled,
+        ..
     } = lose_two::<B>(rt, alloc, false);
     let lost = Unsettled {
         claims: 1,
@@ -110,6 +111,7 @@ fn rescues_with<B: Bodies>(rt: &impl Abort, alloc: Global, half: u64) {
     let Rescued {
         mut rest,
         unsettled,
+        ..
     } = lose_two::<B>(rt, alloc, true);
     let lost = Unsettled {
         claims: 2,
@@ -146,6 +148,7 @@ impl OnEach for LosesTheOneProducer {
         let Rescued {
             mut rest,
             unsettled,
+            ..
         } = ring.rescue(consumer);
         assert_eq!(rt; unsettled.claims, 1);
         assert_eq!(rt; rest.positions(), Positions { head: 24, tail: 64 });
@@ -301,6 +304,7 @@ fn loses_no_message<R: Abort + Threads + Sync, B: Bodies + Sync>(rt: &R, alloc: 
     let Rescued {
         mut rest,
         unsettled,
+        ..
     } = ring.rescue(consumer);
     let _end = rest.read(u32::MAX, &mut tally);
     let all = [a, b, c, d];

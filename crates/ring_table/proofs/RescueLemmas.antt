@@ -1,16 +1,29 @@
 -- What the consumer's seat alone knows of a table's last state.
 use Rattle.std.proofs.Common.{◌≡◌, ℕ, ◌/◌, ◌%◌, ◌≤◌, List, ◌++◌, cond, true, length, slice_index, refl, sym, ap, ◌∙◌, subst, le-ltb, arith}
 use mathlib.Core.Option.{some}
+use Rattle.std.specs.declared.alloc.Global.{Global}
+use Rattle.atomic_table.specs.declared.owned.Closed.{Closed}
 use lib.ListN.{get_elem?}
 use Rattle.ring_layout.specs.Layout.{correlation_index, head_cache_index, head_index, heartbeat_index, tail_index}
 use Rattle.ring_table.specs.Closed.{restarted}
-use Rattle.ring_table.specs.Owners.{all_of}
-use Rattle.ring_table.specs.Rescued.{Rescues, Settles, ShowsClaims}
+use Rattle.ring_table.specs.Owners.{OwnedHistory, all_of}
+use Rattle.ring_table.specs.Rescued.{HadHistory, IsSaved, Rescues, Settles, ShowsClaims}
 use Rattle.ring_table.specs.Rule.{IsMemory, IsService, Kept}
 use Rattle.ring_table.specs.Staged.{Bodies, StagedClaim, ArePlaced, staged_end, staged_word_at}
 use Rattle.ring_table.specs.Views.{ConsumerView, View}
+use Rattle.ring_table.specs.declared.view.Key.{Key}
 use Rattle.ring_table.proofs.MemoryLemmas.{head_bounds}
 use Rattle.ring_table.proofs.RestLemmas.{Splits, splits}
+
+-- a table had the history of its last state
+pub had_history : (B : Bodies) (k : Key) (v : View) (closed : Closed ℕ Global) → IsSaved B k v closed
+    → (hist : OwnedHistory) × (drawn : ℕ) × HadHistory B k v closed hist drawn
+had_history B k v closed saved =
+    let f = saved.final in (
+      f.1.0.0.hist,
+      f.1.0.0.drawn,
+      record { id = saved.id; final = (f.0, (((f.1.0.0, refl, refl), f.1.0.1), f.1.1), f.2, f.3, f.4) },
+    )
 
 module _ (B : Bodies) (C start : ℕ) (words : List ℕ) (views : List View) (r : Kept B C start words views) (id : ℕ)
     (v : View) (at : get_elem? views id ≡ some v) (consumes : v.consumes ≡ true)
@@ -52,7 +65,7 @@ module _ (B : Bodies) (C start : ℕ) (words : List ℕ) (views : List View) (r 
   pub rescues : (new : List ℕ) (claims silent : ℕ) → length new ≡ length words
       → ((i : ℕ) → C / 8 ≤ i → slice_index new i ≡ slice_index words i)
       → Settles C (slice_index words (head_index C)) left new claims silent
-      → Rescues C start v new claims silent
+      → Rescues C start v r.hist r.drawn new claims silent
   unfolding left
   rescues new claims silent long trailer settles =
       let head : ℕ = slice_index words (head_index C) in
@@ -70,7 +83,6 @@ module _ (B : Bodies) (C start : ℕ) (words : List ℕ) (views : List View) (r 
       trailer (head_cache_index C) (omega arith) in
       record {
         lawful = r.lawful;
-        hist = r.hist;
         id = id;
         placed = memory.placed;
         own = (r.seated.each id v at).claims;
@@ -79,6 +91,8 @@ module _ (B : Bodies) (C start : ℕ) (words : List ℕ) (views : List View) (r 
         whole = cut.whole;
         settled = cut.settled;
         messages = cut.messages;
+        below = cut.below;
+        ahead = cut.placed;
         wide = long ∙ memory.wide;
         head_is = trailer (head_index C) (omega arith) ∙ e;
         tail_is = tail ∙ tail_is ∙ sym cut.ends;
@@ -87,7 +101,6 @@ module _ (B : Bodies) (C start : ℕ) (words : List ℕ) (views : List View) (r 
         room = omega arith;
         limit = omega arith;
         settles = subst (λ x. Settles C x left new claims silent) e settles;
-        drawn = r.drawn;
         service = record {
           cache = omega arith;
           correlation = trailer (correlation_index C) (omega arith) ∙ service.correlation;

@@ -7,7 +7,7 @@ use Rattle.std.proofs.lemmas.Bool.{cases_lt}
 use Rattle.ring_layout.specs.Places.{next_place, end_of}
 use Rattle.ring_layout.specs.Headers.{padding_header}
 use Rattle.ring_layout.specs.Picture.{claim_word, word_at}
-use Rattle.ring_layout.proofs.PlaceLemmas.{next_fixed}
+use Rattle.ring_layout.proofs.PlaceLemmas.{next_fixed, next_le}
 use Rattle.ring_layout.proofs.PictureLemmas.{word_at_padding, word_at_padding_header, word_at_record, word_at_rest}
 use Rattle.ring_table.specs.Staged.{StagedClaim, PlacedMessage, Stage, Moved, Padded, Stored, IsStored, AreStored, claim_of, unplaced, claim_end, staged_span, masked_padding, masked_record, staged_word, staged_word_at, ArePlaced, staged_end}
 use Rattle.ring_table.specs.Passing.{AreSettled, placed_message, shown_at, placed_committed_of, Reaches}
@@ -79,37 +79,41 @@ pub record Splits (B : Bodies) (C s e : ℕ) (cs : List StagedClaim) (got : List
   pub whole : cs ≡ taken ++ rest
   pub settled : AreSettled taken
   pub messages : got ≡ placed_committed_of taken
+  pub below : staged_end e taken ≤ s
   pub placed : ArePlaced C s (restarted s rest)
   pub ends : staged_end s (restarted s rest) ≡ staged_end e cs
   pub words : (p : ℕ) → s ≤ p → staged_word_at B cs p ≡ staged_word_at B (restarted s rest) p
 
 pub splits : (B : Bodies) (C s e : ℕ) (cs : List StagedClaim) (got : List PlacedMessage) → 128 ≤ C → ArePlaced C e cs
     → Reaches s e cs got → Splits B C s e cs got
-splits B C s e [] got big placed r = record {
-  taken = [];
-  rest = [];
-  whole = refl;
-  settled = tt;
-  messages = r.1;
-  placed =
-      tt;
-  ends = r.0;
-  words = λ _ _. refl;
-}
+splits B C s e [] got big placed r =
+    let at : s ≡ e = r.0 in
+    record {
+      taken = [];
+      rest = [];
+      whole = refl;
+      settled = tt;
+      messages = r.1;
+      below = omega arith;
+      placed = tt;
+      ends = r.0;
+      words = λ _ _. refl;
+    }
 splits B C s e (c ∷ cs) got big placed r =
     let lies = placed.0 in
     let a : ℕ = staged_span c in
     let short = lies.message.short in
     let n : ℕ = length c.message.body in
     let d : StagedClaim = record { from = s; place = c.place; message = c.message; stage = c.stage } in
-    let left : got ≡ [] → c.place ≡ next_place C s a → ((p : ℕ) → s ≤ p → staged_word B c p ≡ staged_word B d p)
+    let left : got ≡ [] → e ≤ s → c.place ≡ next_place C s a → ((p : ℕ) → s ≤ p → staged_word B c p ≡ staged_word B d p)
     → Splits B C s e (c ∷ cs) got =
-    λ none place plain. record {
+    λ none above place plain. record {
       taken = [];
       rest = c ∷ cs;
       whole = refl;
       settled = tt;
       messages = none;
+      below = above;
       placed = (record { from = refl; place = place; message = lies.message }, placed.1);
       ends = refl;
       words = λ p le. ap (λ k. cond (ltb p (claim_end c)) k (staged_word_at B cs p)) (plain p le);
@@ -119,12 +123,14 @@ splits B C s e (c ∷ cs) got big placed r =
     let at : s ≡ e = alt.0 in
     let same : c ≡ d =
     λ i. record { from = (lies.from ∙ sym at) i; place = c.place; message = c.message; stage = c.stage } in
-    left alt.1 (lies.place ∙ ap (λ k. next_place C k a) (sym at))
+    left alt.1 (omega arith) (lies.place ∙ ap (λ k. next_place C k a) (sym at))
     (λ p le. ap (λ (x : StagedClaim). staged_word B x p) same))
     (⊎_elim
     (λ alt.
     let at : s ≡ c.place = alt.0 in
-    left alt.2
+    let place : c.place ≡ next_place C e a = lies.place in
+    let on = next_le C e a in
+    left alt.2 (omega arith)
     (lies.place ∙ sym (next_fixed C e a (omega arith) (omega arith))
     ∙ ap (λ k. next_place C k a) (sym (at ∙ lies.place)))
     (λ p le. staged_word-record B c p (omega arith) ∙ sym (staged_word-record B d p (omega arith))))
@@ -139,6 +145,7 @@ splits B C s e (c ∷ cs) got big placed r =
       whole = ap (λ l. c ∷ l) t.whole;
       settled = (alt.0, t.settled);
       messages = alt.1.1 ∙ ap (λ l. shown_at c.stage (placed_message c) ++ l) t.messages;
+      below = t.below;
       placed = t.placed;
       ends = t.ends;
       words = λ p le. ap (λ b. cond b (staged_word B c p) (staged_word_at B cs p)) (le-ltb p (claim_end c) (omega arith))

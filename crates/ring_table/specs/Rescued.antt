@@ -10,7 +10,8 @@ use Rattle.ring_table.specs.Staged.{Bodies, StagedClaim, Stage, Moved, Padded, S
 use Rattle.ring_table.specs.Passing.{AreSettled, placed_committed_of}
 use Rattle.ring_table.specs.Owners.{OwnedHistory, all_of, owned_by}
 use Rattle.ring_table.specs.Closed.{restarted}
-use Rattle.ring_table.specs.Rule.{IsLawful, IsService, Keeps}
+use Rattle.ring_table.specs.Rule.{IsLawful, IsService, Keeps, Kept}
+use Rattle.ring_table.specs.Shelf.{HasShelf}
 use Rattle.ring_table.specs.declared.view.Key.{Key}
 use Rattle.std.specs.Slots.{slots_items, IsFull}
 use Rattle.std.specs.declared.alloc.Global.{Global}
@@ -84,12 +85,25 @@ pub record IsSaved (bodies : Bodies) (k : Key) (v : View) (closed : Closed ℕ G
   pub final : Final (Seen (λ s. Keeps bodies k s.words s.homes s.views) id v)
       (slots_items closed.words) (slots_items closed.slots)
 
--- What is left of a table whose other seats may be lost, and one seat of which knew v and consumes. There is one history
--- of all claims, of which v's own claims are its part. The messages that v's consumer took are the committed ones of
--- those that it passed, all of them settled, and in the words the others are settled, from the head on
-pub record Rescues (C start : ℕ) (v : View) (words : List ℕ) (claims silent : ℕ) : Type 0 where
+-- the rule holds with this history of all claims, and with this number of draws
+abbrev pub KeptWith : Bodies → ℕ → ℕ → OwnedHistory → ℕ → List ℕ → List View → Type 0
+KeptWith B C start hist n words views = (r : Kept B C start words views) × (r.hist ≡ hist) × (r.drawn ≡ n)
+
+-- The table that left this had this history and this number of draws: the rule held with them of its last state, in
+-- which a seat knew v. What was not read of the history is in the words that the table left, or in its slots
+pub record HadHistory (bodies : Bodies) (k : Key) (v : View) (closed : Closed ℕ Global) (hist : OwnedHistory)
+    (drawn : ℕ) : Type 0 where
+  pub id : ℕ
+  pub final : Final (Seen (λ s. KeptWith bodies k.capacity k.start hist drawn s.words s.views
+      × HasShelf bodies k.capacity s.homes s.views) id v) (slots_items closed.words) (slots_items closed.slots)
+
+-- What is left of a table whose other seats may be lost, which had this history and this number of draws, and one seat
+-- of which knew v and consumes. v's own claims are its part of the history. The messages that v's consumer took are the
+-- committed ones of those that it passed, which end at or below its head and are settled, and in the words the others
+-- are settled, from the head on
+pub record Rescues (C start : ℕ) (v : View) (hist : OwnedHistory) (drawn : ℕ) (words : List ℕ) (claims silent : ℕ)
+    : Type 0 where
   pub lawful : IsLawful C start
-  pub hist : OwnedHistory
   pub id : ℕ
   pub placed : ArePlaced C start (all_of hist)
   pub own : v.producer.claims ≡ owned_by id hist
@@ -98,6 +112,8 @@ pub record Rescues (C start : ℕ) (v : View) (words : List ℕ) (claims silent 
   pub whole : all_of hist ≡ passed ++ left
   pub settled : AreSettled passed
   pub messages : v.consumer.taken ≡ placed_committed_of passed
+  pub below : staged_end start passed ≤ v.consumer.head
+  pub ahead : ArePlaced C v.consumer.head (restarted v.consumer.head left)
   pub wide : length words ≡ ring_words C
   pub head_is : slice_index words (head_index C) ≡ v.consumer.head
   pub tail_is : slice_index words (tail_index C) ≡ staged_end v.consumer.head (restarted v.consumer.head left)
@@ -106,5 +122,4 @@ pub record Rescues (C start : ℕ) (v : View) (words : List ℕ) (claims silent 
   pub room : slice_index words (tail_index C) ≤ v.consumer.head + C
   pub limit : slice_index words (tail_index C) ≤ max_position
   pub settles : Settles C v.consumer.head (restarted v.consumer.head left) words claims silent
-  pub drawn : ℕ
   pub service : IsService C words v.consumer drawn

@@ -8,7 +8,8 @@ ghost use Rattle.ring_table.specs.Refilling.{Filled, FillsTo, MayFill};
 ghost use Rattle.std.specs.Slots.{slots_items, slots_len, IsFull};
 ghost use Rattle.ring_table.specs.declared.view.Key.{Key as TheKey};
 ghost use Rattle.ring_table.specs.Views.{View};
-ghost use Rattle.ring_table.specs.Rescued.{IsSaved, settled_word, Rescues, Settles, ShowsClaims};
+ghost use Rattle.ring_table.specs.Owners.{OwnedHistory};
+ghost use Rattle.ring_table.specs.Rescued.{settled_word, HadHistory, IsSaved, Rescues, Settles, ShowsClaims};
 
 use crate::mode::{InSlots, Mode};
 use crate::picture::{copy_range, copy_words, free_slots};
@@ -88,8 +89,9 @@ pub fn rescue_words(
     requires left { (k : TheKey) × (v : View) × IsSaved in_words k v closed × (slots_len closed.slots ≡ 0)
         × (k.capacity ≡ capacity) }
     requires room { vec_len room ≡ slots_len closed.words }
-    ensures { (k : TheKey) (v : View) → IsSaved in_words k v closed → k.capacity ≡ capacity
-        → Rescues capacity k.start v result.0.items result.1.claims result.1.silent }
+    ensures { (k : TheKey) (v : View) (hist : OwnedHistory) (drawn : ℕ) → IsSaved in_words k v closed
+        → HadHistory in_words k v closed hist drawn → k.capacity ≡ capacity
+        → Rescues capacity k.start v hist drawn result.0.items result.1.claims result.1.silent }
 {
     let mut words = room;
     copy_words(&closed, &mut words);
@@ -163,8 +165,9 @@ pub fn rescue_slots(
     requires left { (k : TheKey) × (v : View) × IsSaved elsewhere k v closed × (slots_len closed.slots ≡ k.capacity / 8)
         × (k.capacity ≡ capacity) }
     requires room { vec_len room ≡ slots_len closed.words }
-    ensures { (k : TheKey) (v : View) → IsSaved elsewhere k v closed → k.capacity ≡ capacity
-        → Rescues capacity k.start v result.0.items result.1.claims result.1.silent }
+    ensures { (k : TheKey) (v : View) (hist : OwnedHistory) (drawn : ℕ) → IsSaved elsewhere k v closed
+        → HadHistory elsewhere k v closed hist drawn → k.capacity ≡ capacity
+        → Rescues capacity k.start v hist drawn result.0.items result.1.claims result.1.silent }
 {
     let mut words = room;
     copy_words(&closed, &mut words);

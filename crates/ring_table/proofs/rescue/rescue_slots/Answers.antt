@@ -2,7 +2,8 @@ use Rattle.std.proofs.Common.{◌≡◌, ℕ, ◌+◌, ◌/◌, ◌≤◌, List,
 use Rattle.std.specs.Slots.{slots_items}
 use Rattle.ring_layout.specs.Layout.{head_index, tail_index}
 use Rattle.ring_table.specs.Refilling.{MayFill}
-use Rattle.ring_table.specs.Rescued.{Settles, ShowsClaims}
+use Rattle.ring_table.specs.Owners.{OwnedHistory}
+use Rattle.ring_table.specs.Rescued.{KeptWith, Rescues, Settles, ShowsClaims}
 use Rattle.ring_table.specs.Rule.{Kept}
 use Rattle.ring_table.specs.Shelf.{IsShelf}
 use Rattle.ring_table.specs.Staged.{elsewhere, in_words, StagedClaim}
@@ -83,21 +84,22 @@ add_bodies-requires-clause-claims c =
     (body_at cs, k.now, may)
 
 pub returns : goal.returns
-returns c = λ key v saved same.
-    let final = saved.final in
+returns c = λ key v hist drawn saved had same.
+    let final = had.final in
     let C : ℕ = c.args.capacity in
     let words : List ℕ = c.copy_words.new.words.items in
     let one : List ℕ = c.format_headers.new.words.items in
     let xs : List ℕ = slots_items c.args.closed.slots in
     let e : final.0.words ≡ words = final.2 ∙ sym c.copy_words.ensures in
-    let kept : Kept elsewhere C key.start words final.0.views =
-    subst (λ (z : ℕ × List ℕ). Kept elsewhere z.0 key.start z.1 final.0.views)
+    let keeps : KeptWith elsewhere C key.start hist drawn words final.0.views =
+    subst (λ (z : ℕ × List ℕ). KeptWith elsewhere z.0 key.start hist drawn z.1 final.0.views)
     (λ i. (same i, e i)) final.1.0.0 in
+    let kept : Kept elsewhere C key.start words final.0.views = keeps.0 in
     let shelf : IsShelf C final.0.homes final.0.views =
     subst (λ z. IsShelf z final.0.homes final.0.views) same final.1.0.1 in
     let rests = saved.rests in
     let consumes = saved.consumes in
-    let id : ℕ = saved.id in
+    let id : ℕ = had.id in
     let cs : List StagedClaim = left elsewhere C key.start words final.0.views kept id v final.1.1 consumes rests in
     let cap = kept.lawful.capacity in
     let shows1 : ShowsClaims in_words C one (all_blanked cs) =
@@ -120,11 +122,12 @@ returns c = λ key v saved same.
     may_fill_left C key.start words final.0.homes final.0.views kept shelf id v final.1.1 consumes rests
     saved.home xs final.4 one two e1 e2 t2 claims silent k in
     let three : List ℕ = c.add_bodies.new.words.items in
-    rescues elsewhere C key.start words final.0.views kept id v final.1.1 consumes rests three claims silent
+    subst (λ (z : OwnedHistory × ℕ). Rescues C key.start v z.0 z.1 three claims silent) (λ i. (keeps.1 i, keeps.2 i))
+    (rescues elsewhere C key.start words final.0.views kept id v final.1.1 consumes rests three claims silent
     (sym c.add_bodies.new.words.ok.0 ∙ c.add_bodies.ensures.long ∙ c.settle_words-unsettled.ensures.long
     ∙ c.format_headers.ensures.long ∙ c.copy_words.new.words.ok.0)
     (λ i far. c.add_bodies.ensures.trailer i far ∙ c.settle_words-unsettled.ensures.trailer i far
     ∙ c.format_headers.ensures.trailer i far)
     (settles_left C key.start words final.0.homes final.0.views kept shelf id v final.1.1 consumes rests
     saved.home xs final.4 one two e1 e2 t2 claims silent k three
-    (c.add_bodies.ensures.filled (body_at cs) k.now may))
+    (c.add_bodies.ensures.filled (body_at cs) k.now may)))

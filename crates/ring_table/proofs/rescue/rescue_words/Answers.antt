@@ -1,4 +1,6 @@
 use Rattle.std.proofs.Common.{◌≡◌, ℕ, ◌/◌, ◌≤◌, List, length, slice_index, sym, ◌∙◌, subst}
+use Rattle.ring_table.specs.Owners.{OwnedHistory}
+use Rattle.ring_table.specs.Rescued.{KeptWith, Rescues}
 use Rattle.ring_table.specs.Rule.{Kept}
 use Rattle.ring_table.specs.Staged.{in_words}
 use Rattle.ring_table.proofs.RescueLemmas.{left, rescues, shows_left}
@@ -21,16 +23,22 @@ settle_words-unsettled-requires-clause-claims c =
     )
 
 pub returns : goal.returns
-returns c = λ key v saved same.
-    let final = saved.final in
-    let e : final.0.words ≡ c.copy_words.new.words.items = final.2 ∙ sym c.copy_words.ensures in
-    let kept : Kept in_words c.args.capacity key.start c.copy_words.new.words.items final.0.views =
-    subst (λ (z : ℕ × List ℕ). Kept in_words z.0 key.start z.1 final.0.views) (λ i. (same i, e i)) final.1.0.0 in
-    rescues in_words c.args.capacity key.start c.copy_words.new.words.items final.0.views kept saved.id v final.1.1
-    saved.consumes saved.rests c.settle_words-unsettled.new.words.items c.settle_words-unsettled.result.claims
-    c.settle_words-unsettled.result.silent
+returns c = λ key v hist drawn saved had same.
+    let final = had.final in
+    let C : ℕ = c.args.capacity in
+    let words : List ℕ = c.copy_words.new.words.items in
+    let e : final.0.words ≡ words = final.2 ∙ sym c.copy_words.ensures in
+    let kept : KeptWith in_words C key.start hist drawn words final.0.views =
+    subst (λ (z : ℕ × List ℕ). KeptWith in_words z.0 key.start hist drawn z.1 final.0.views) (λ i. (same i, e i))
+    final.1.0.0 in
+    let made : List ℕ = c.settle_words-unsettled.new.words.items in
+    let claims : ℕ = c.settle_words-unsettled.result.claims in
+    let silent : ℕ = c.settle_words-unsettled.result.silent in
+    subst (λ (z : OwnedHistory × ℕ). Rescues C key.start v z.0 z.1 made claims silent) (λ i. (kept.1 i, kept.2 i))
+    (rescues in_words C key.start words final.0.views kept.0 had.id v final.1.1 saved.consumes saved.rests made claims
+    silent
     (sym c.settle_words-unsettled.new.words.ok.0 ∙ c.settle_words-unsettled.ensures.long
     ∙ c.copy_words.new.words.ok.0)
     c.settle_words-unsettled.ensures.trailer
-    (c.settle_words-unsettled.ensures.settles _ (shows_left in_words c.args.capacity key.start
-    c.copy_words.new.words.items final.0.views kept saved.id v final.1.1 saved.consumes saved.rests))
+    (c.settle_words-unsettled.ensures.settles _ (shows_left in_words C key.start words final.0.views kept.0 had.id v
+    final.1.1 saved.consumes saved.rests)))
