@@ -7,12 +7,12 @@ use Rattle.ring_layout.specs.declared.message.Message.{Message}
 use Rattle.ring_words.specs.Drain.{AllSettled}
 use Rattle.ring_words.specs.Ring.{Has}
 use Rattle.ring_table.specs.Passing.{placed_committed_of}
-use Rattle.ring_table.specs.Staged.{unplaced}
+use Rattle.ring_table.specs.Staged.{Bodies, unplaced}
 use Rattle.ring_table.specs.declared.claim.PlacedMessage.{PlacedMessage}
 use Rattle.ring_table.specs.declared.claim.StagedClaim.{StagedClaim}
 use Rattle.ring_table.specs.declared.view.View.{View}
 use Rattle.ring_rings.specs.Closing.{close_refusal_of}
-use Rattle.ring_rings.specs.Reading.{messages_of}
+use Rattle.ring_rings.specs.Reading.{at_rest, messages_of}
 use Rattle.ring_rings.specs.Rescuing.{IsRescued}
 use Rattle.ring_rings.specs.declared.rescue.Rescued.{Rescued}
 use Rattle.ring_rings.proofs.ReceivedLemmas.{lengths}
@@ -42,14 +42,15 @@ pub none_is_open : (open_claims shares : ℕ) → close_refusal_of open_claims s
 none_is_open open_claims shares e = grind arith
 
 -- what a ring with lost producers leaves is what its rest has
-pub leaves_committed : (C start : ℕ) (v : View) (out : Rescued) → IsRescued C start v out → (count : ℕ)
+pub leaves_committed : (B : Bodies) (C start : ℕ) (v : View) (out : Rescued) → IsRescued B C start v out → (count : ℕ)
     → ((h : List Claim) → Has out.rest h → AllSettled h → count ≡ length (committed_of h))
-    → LeavesCommitted C start v count
-leaves_committed C start v out r count drains =
+    → LeavesCommitted C start (at_rest v) count
+leaves_committed B C start v out rescued count drains =
+    let r = rescued.each rescued.hist rescued.drawn rescued.had in
     let rest = messages_of (placed_committed_of r.left) in
     let here = all_settled r.now r.done in
     record {
-      hist = r.hist;
+      hist = rescued.hist;
       id = r.id;
       own = r.own;
       unread = record {

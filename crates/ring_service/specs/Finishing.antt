@@ -4,13 +4,14 @@ use Rattle.ring_layout.specs.Refusals.{all_shares}
 use Rattle.ring_table.specs.declared.claim.PlacedMessage.{PlacedMessage}
 use Rattle.ring_table.specs.declared.claim.StagedClaim.{StagedClaim}
 use Rattle.ring_table.specs.declared.view.Service.{Service}
+use Rattle.ring_table.specs.Staged.{Bodies}
 use Rattle.ring_rings.specs.declared.ring.Consumer.{Consumer}
 use Rattle.ring_rings.specs.declared.ring.Producer.{Producer}
 use Rattle.ring_rings.specs.Closing.{AreOrdered, HandsOut, Serves}
 use Rattle.ring_rings.specs.Reading.{messages_of}
 use Rattle.ring_rings.specs.Rescuing.{IsRescued}
 use Rattle.ring_rings.specs.Ring.{sent, IsWhole}
-use Rattle.ring_rings.specs.Seats.{claims_of, open_claims_of, shares_of, view_of}
+use Rattle.ring_rings.specs.Seats.{claims_of, open_claims_of, seat_view, shares_of, view_of}
 use Rattle.ring_board.specs.declared.board.Board.{Board}
 use Rattle.ring_board.specs.declared.board.ClosedBoard.{ClosedBoard}
 use Rattle.ring_board.specs.declared.shared.view.Joined.{Joined}
@@ -133,11 +134,12 @@ pub record HandsOn (C : ℕ) (board : Board) (v : CounterValues) (p : Producer) 
   pub conductor : f.conductor.value ≡ c
 
 -- Without the producers: what holds of what one run hands out although producers and receivers are lost, in the order
--- of the headline's words. C and start are the ring's, and the conductor c is the one that was given
-pub record HeadlineWithout (C start : ℕ) (c : Conductor) (f : FinishedWithout) : Type 0 where
-  -- There is one history of the claims of all producers. What was received, followed by what still lies in the ring, is
-  -- its committed records, each whole and once, and nothing that was not committed.
-  pub rescued : IsRescued C start (ring_view c) f.rescued
+-- of the headline's words. B, C and start are the ring's, and the conductor c is the one that was given
+pub record HeadlineWithout (B : Bodies) (C start : ℕ) (c : Conductor) (f : FinishedWithout) : Type 0 where
+  -- Of each history of the claims of all producers that the ring's table had when it was taken apart, what was
+  -- received, followed by what still lies in the ring, is the committed records, each whole and once, and nothing that
+  -- was not committed. There is such a history, and the one that was made is one.
+  pub rescued : IsRescued B C start (seat_view c.consumer) f.rescued
   -- Each receiver's validated copies are rising contiguous runs of the transmitted list, broken only where its count
   -- rose.
   pub runs : AreAllRuns (replies_of c) (joined_by c)

@@ -40,10 +40,10 @@ impl Conductor {
     ) -> FinishedWithout
         requires conductor { IsConductorOf R.is_consumer ring board values self }
 
-        // What was received, followed by what still lies in the ring, is the committed records of one history of all
-        // claims, those of lost producers among them; each joined receiver's copies are runs of the replies; and
-        // counters and replies are the fold of what was received.
-        ensures headline { HeadlineWithout (R.bytes ring) (R.start ring) self result }
+        // What was received, followed by what still lies in the ring, is the committed records of each history of all
+        // claims, those of lost producers among them, that the ring had when it was taken apart; each joined
+        // receiver's copies are runs of the replies; and counters and replies are the fold of what was received.
+        ensures headline { HeadlineWithout R.bodies (R.bytes ring) (R.start ring) self result }
 
         // Counters, replies and values are handed on.
         ensures hands_on { HandsOnWithout board values self result }

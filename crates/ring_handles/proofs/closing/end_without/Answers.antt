@@ -4,6 +4,6 @@ use Rattle.ring_handles.proofs.closing.end_without.Goals as goal
 
 pub returns : goal.returns
 returns g c = record {
-  left = leaves_committed _ _ _ _ c.rescue-rescued.ensures.rescued _
+  left = leaves_committed _ _ _ _ _ c.rescue-rescued.ensures.rescued _
       (λ h has closed. c.from.ensures ∙ (c.drain.ensures.whole h has closed).0);
 }

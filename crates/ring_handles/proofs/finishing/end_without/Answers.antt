@@ -10,7 +10,7 @@ returns c =
     record {
       ended = record {
         received_is = e.hands_on.received;
-        unread = leaves_committed _ _ _ _ line.rescued _
+        unread = leaves_committed _ _ _ _ _ line.rescued _
             (λ h has closed. c.from.ensures ∙ (c.drain.ensures.whole h has closed).0);
         folded = subst (λ m. ∥ IsFoldOfReceived c.args.conductor m ∥₁) e.hands_on.counters line.folded;
         runs = line.runs;
