@@ -1,5 +1,6 @@
 """Whether four times as much work takes at most ten times as long: of the C library, ring_run and ring_show."""
 import os
+import resource
 import struct
 import tempfile
 import time
@@ -8,18 +9,21 @@ from .shared import Finding, NotRun, compiled, program, run_program
 
 # Times as long for four times as much, and the shortest time that is compared.
 MOST, SHORTEST = 10, 0.05
+# The place of the tail in the trailer of a ring, in bytes.
+TAIL = 128
 
 
-def seconds_of(words, data, count):
-    """The least time of a program of a few runs, of the processor."""
+def seconds_of(words, data, ending, count):
+    """The least time of a program of a few runs, of the processor. What it prints must end in this."""
     least = None
     for _ in range(count):
-        before = os.times()
+        before = resource.getrusage(resource.RUSAGE_CHILDREN)
         done = run_program(words, input=data)
-        after = os.times()
-        if done.returncode not in (0, 1):
-            raise Finding(f"{words[0]} ended with status {done.returncode}: {done.stderr.decode()[-300:]}")
-        took = after.children_user + after.children_system - before.children_user - before.children_system
+        after = resource.getrusage(resource.RUSAGE_CHILDREN)
+        if done.returncode or not done.stdout.endswith(ending):
+            said = (done.stderr or done.stdout)[-300:].decode(errors="replace")
+            raise Finding(f"{words[0]} ended with status {done.returncode}: {said}")
+        took = after.ru_utime + after.ru_stime - before.ru_utime - before.ru_stime
         least = took if least is None else min(least, took)
     return least
 
@@ -33,7 +37,7 @@ def records(n):
     """The memory of a ring with n bytes: messages of no body, one after another, and then the trailer."""
     ring = struct.pack("<ii", 8, 7) * (n // 8)
     trailer = bytearray(768)
-    struct.pack_into("<Q", trailer, 0, n)
+    struct.pack_into("<Q", trailer, TAIL, n)
     return ring + bytes(trailer)
 
 
@@ -56,7 +60,8 @@ def of_library(folder):
 
 def of_scenarios(_folder):
     path = program("ring_run", "RING_RUN")
-    one, four = (seconds_of([path, "--ring", "1024"], lines(n), 3) for n in (50000, 200000))
+    one, four = (seconds_of([path, "--ring", "1024"], lines(n), b"end messages %d left 0\n" % (n // 2), 3)
+                 for n in (18000, 72000))
     return compare("lines of a scenario", one, four)
 
 
@@ -66,7 +71,8 @@ def of_snapshots(folder):
         name = os.path.join(folder, f"snapshot-{n}")
         with open(name, "wb") as file:
             file.write(records(n))
-        times.append(seconds_of([path, "ring", name], b"", 3))
+        ending = b"%d committed, 0 open, 0 aborted or padding; 0 of %d bytes free\n" % (n // 8, n)
+        times.append(seconds_of([path, "ring", name], b"", ending, 3))
     return compare("records of a snapshot", *times)
 
 
