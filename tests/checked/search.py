@@ -91,6 +91,6 @@ def random_run(generator):
             lines.insert(place, generator.choice(["", "# nothing", "empty"]))
         elif lines[place][:1] in "srg":
             words = lines[place].split()
-            words[generator.randrange(1, 4)] = str(generator.randrange(3))
+            words[generator.randrange(1, min(4, len(words)))] = str(generator.randrange(3))
             lines[place] = " ".join(words)
     return "\n".join(["queue", *lines]) + "\n"
