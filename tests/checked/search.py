@@ -89,8 +89,8 @@ def random_run(generator):
             lines[place], lines[other] = lines[other], lines[place]
         elif how == 3:
             lines.insert(place, generator.choice(["", "# nothing", "empty"]))
-        elif lines[place][:1] in "srg":
+        elif lines[place].startswith(("s", "r", "g")):
             words = lines[place].split()
-            words[generator.randrange(1, min(4, len(words)))] = str(generator.randrange(3))
+            words[generator.randrange(1, 4)] = str(generator.randrange(3))
             lines[place] = " ".join(words)
     return "\n".join(["queue", *lines]) + "\n"
