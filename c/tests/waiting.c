@@ -16,10 +16,14 @@ static void *write_all(void *its) {
     return its;
 }
 
-static int64_t millis(void) {
+static int64_t nanos(void) {
     struct timespec now;
     clock_gettime(CLOCK_MONOTONIC, &now);
-    return (int64_t)now.tv_sec * 1000 + now.tv_nsec / 1000000;
+    return (int64_t)now.tv_sec * 1000000000 + now.tv_nsec;
+}
+
+static int64_t millis(void) {
+    return nanos() / 1000000;
 }
 
 /* The number of turns of a wait stays small, however long the wait is. */
@@ -88,6 +92,85 @@ static void sleepers(void) {
     felter_free(&it.consumer.handle);
     felter_free(&transmitter.handle);
     felter_free(&receiver.handle);
+}
+
+#define WAKES 100
+#define MOST_NANOS 5000000
+
+/* A reader that sleeps for a message, then for a doorbell, and so on, and after how many nanoseconds it woke. */
+struct woken {
+    felter_consumer consumer;
+    felter_sleepers sleepers;
+    int bell, steps; /* how often it woke */
+    int64_t rang, by_message[WAKES], by_bell[WAKES];
+};
+
+static void *be_woken(void *its) {
+    struct woken *it = its;
+    int32_t type_id, code;
+    size_t len;
+    int64_t wrote;
+    for (int i = 0; i < WAKES; i++) {
+        /* (a reader that no wake reaches finds the message at its deadline, which is too late) */
+        do {
+            code = felter_read_asleep(&it->consumer, &it->sleepers, &type_id, &len, &wrote, sizeof wrote, 100);
+        } while (code == FELTER_NO_MESSAGE);
+        it->by_message[i] = nanos() - wrote;
+        EXPECT(FELTER_OK, code);
+        __atomic_add_fetch(&it->steps, 1, __ATOMIC_SEQ_CST);
+        while (felter_wait_doorbell(it->bell, 10000) == 0) continue;
+        it->by_bell[i] = nanos() - __atomic_load_n(&it->rang, __ATOMIC_SEQ_CST);
+        CHECK(felter_clear_doorbell(it->bell) == 1);
+        __atomic_add_fetch(&it->steps, 1, __ATOMIC_SEQ_CST);
+    }
+    return its;
+}
+
+/* Waits until the reader has woken this often, and then until it has had time to fall asleep. */
+static void await_step(struct woken *it, int steps) {
+    const struct timespec pause = {0, 1000000};
+    while (__atomic_load_n(&it->steps, __ATOMIC_SEQ_CST) < steps) nanosleep(&pause, NULL);
+    while (steps % 2 == 0 && __atomic_load_n(&it->sleepers.count, __ATOMIC_SEQ_CST) == 0) nanosleep(&pause, NULL);
+    nanosleep(&pause, NULL);
+}
+
+static int compare(const void *one, const void *other) {
+    const int64_t *a = one, *b = other;
+    return *a < *b ? -1 : *a > *b;
+}
+
+static int64_t median(int64_t *nanos_of) {
+    qsort(nanos_of, WAKES, sizeof *nanos_of, compare);
+    return nanos_of[WAKES / 2];
+}
+
+/* A reader that sleeps is woken soon: in the median within 5 ms and four times what an eventfd takes meanwhile, so that
+ * a busy machine passes. A reader that looks again after long pauses, or waits for its deadline, does not pass. */
+static void wakes(void) {
+    static struct woken it = {FELTER_EMPTY, FELTER_NO_SLEEPERS, -1, 0, 0, {0}, {0}};
+    felter_producer producer = FELTER_EMPTY;
+    pthread_t thread;
+    it.bell = felter_doorbell();
+    CHECK(it.bell >= 0);
+    EXPECT(FELTER_OK, felter_one_to_one_new(256, &producer, &it.consumer));
+    CHECK(pthread_create(&thread, NULL, be_woken, &it) == 0);
+    for (int i = 0; i < WAKES; i++) {
+        await_step(&it, 2 * i);
+        const int64_t began = nanos();
+        EXPECT(FELTER_OK, felter_write(&producer, 1, &began, sizeof began));
+        felter_wake(&it.sleepers);
+        await_step(&it, 2 * i + 1);
+        __atomic_store_n(&it.rang, nanos(), __ATOMIC_SEQ_CST);
+        CHECK(felter_ring_doorbell(it.bell) == 0);
+    }
+    pthread_join(thread, NULL);
+    const int64_t by_message = median(it.by_message), by_bell = median(it.by_bell);
+    printf("waiting: woken after %" PRId64 " us, by an eventfd after %" PRId64 " us, in the median of %d\n",
+           by_message / 1000, by_bell / 1000, WAKES);
+    CHECK(by_message < MOST_NANOS + 4 * by_bell);
+    CHECK(close(it.bell) == 0);
+    felter_free(&producer.handle);
+    felter_free(&it.consumer.handle);
 }
 
 struct working {
@@ -192,6 +275,8 @@ int main(void) {
     size_t len;
     int64_t began;
     pauses();
+    /* (first, since a reader whom no wake reaches would wait for ever in the others) */
+    wakes();
     sleepers();
     requests();
     EXPECT(FELTER_OK, felter_one_to_one_new(128, &producer, &consumer));
