@@ -1,4 +1,4 @@
-"""What an installed package says of itself to a type checker: types.py. It looks where a type checker does."""
+"""What an installed package says of itself to a type checker: typed.py. It looks where a type checker does."""
 
 import importlib.metadata
 import importlib.util
