@@ -9,6 +9,7 @@ use Rattle.atomic_table.specs.Table.{Allows}
 use Rattle.atomic_table.specs.declared.shared.Seat.{Seat}
 use Rattle.ring_runs.specs.Rule.{table_words}
 use Rattle.ring_runs.specs.Seats.{IsSameSeat, IsSeatOf}
+use Rattle.ring_runs.specs.Turns.{IsSameTable}
 use Rattle.ring_runs.specs.Views.{View}
 use Rattle.ring_runs.specs.Steps.{Claims, ClaimsAlone, ClaimsShared, Looks, Mine}
 use Rattle.ring_runs.proofs.KeptLemmas.{Ok}
@@ -61,3 +62,23 @@ claims_told {id} {key} {n} {seat} s tail len word me' tail_is most word_is told 
     (λ i. (sym tail_is i + len) % cap i) ∙ sym word_is in
     subst (λ t. Claims (t + len) t len seat.me me') (sym tail_is)
     (told len most.0 (let h = most.1 in omega arith) at)
+
+-- ---- calls of several steps
+
+pub seat_on : {id : TableId} {key n : ℕ} {old new : Seat ℕ View} → IsSeatOf id key n old → IsSameSeat old new
+    → IsSeatOf id key n new
+seat_on {id} {key} {n} {old} {new} s same = record {
+  table_is = same.table ∙ s.table_is;
+  words_are = s.words_are;
+  slots_are = s.slots_are;
+  key_is = s.key_is;
+  view_is = same.capacity ∙ s.view_is;
+  lawful = s.lawful;
+}
+
+pub same_on : {old mid new : Seat ℕ View} → IsSameSeat old mid → IsSameTable mid new → IsSameSeat old new
+same_on {old} {mid} {new} s t = record {
+  table = t.table ∙ s.table;
+  id = t.id ∙ s.id;
+  capacity = ap (λ (v : View). v.capacity) t.view ∙ s.capacity;
+}

@@ -12,3 +12,7 @@ pub mod HeadLemmas
 pub mod SeatLemmas
 pub mod Calls
 pub mod LawLemmas
+pub mod TurnLemmas
+pub mod WordLemmas
+pub mod BatchLemmas
+pub mod ShowLemmas

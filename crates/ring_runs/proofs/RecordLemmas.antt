@@ -1,5 +1,5 @@
 -- Words are records in one way.
-use Rattle.std.proofs.Common.{◌≡◌, ℕ, ◌+◌, ◌-◌, ◌*◌, ◌/◌, ◌%◌, ◌^◌, ◌<◌, ◌≤◌, List, [], ◌∷◌, ◌++◌, drop, length, slice_index, ℤ, pos, FitsSigned, sym, refl, ap, ◌∙◌, subst, length-append, length-drop, arith}
+use Rattle.std.proofs.Common.{◌≡◌, ℕ, ◌+◌, ◌-◌, ◌*◌, ◌/◌, ◌%◌, ◌^◌, ◌<◌, ◌≤◌, List, [], ◌∷◌, ◌++◌, drop, length, slice_index, pos, FitsSigned, sym, refl, ap, ◌∙◌, subst, length-append, length-drop, arith}
 use Rattle.std.specs.Int.{cast_signed, w32}
 use Rattle.std.proofs.lemmas.Int.{ints}
 use Rattle.std.proofs.lemmas.List.{drop-append-le, get_or_append_left}
@@ -8,33 +8,31 @@ use Rattle.ring_layout.specs.declared.message.Message.{Message}
 use Rattle.ring_layout.specs.History.{IsMessage}
 use Rattle.ring_layout.proofs.HeaderLemmas.{fits_pos, len_of-header, type_of-header}
 use Rattle.ring_runs.proofs.ByteLemmas.{same_body, same_message}
-use Rattle.ring_runs.specs.Records.{AreRecords, Entry, entry_body, entry_bytes, entry_words, Holds, IsEntry, IsRecord, Skips, total_words}
-
--- the type id in a header
-abbrev entry_type : Entry → ℤ
-entry_type (Holds m) = m.type_id
-entry_type (Skips bytes) = padding_type
+use Rattle.ring_runs.specs.Records.{AreRecords, Entry, entry_body, entry_bytes, entry_header, entry_type, entry_words, Holds, IsEntry, IsRecord, Skips, total_words}
 
 fits_padding : FitsSigned w32 padding_type
 fits_padding = record { sfits = omega (arith, ints) }
 
-type_fits : (C : ℕ) (e : Entry) → IsEntry C e → FitsSigned w32 (entry_type e)
+pub type_fits : (C : ℕ) (e : Entry) → IsEntry C e → FitsSigned w32 (entry_type e)
 type_fits C (Holds m) is = is.type_fits
 type_fits C (Skips bytes) is = fits_padding
 
-len_fits : (C : ℕ) (e : Entry) → C ≤ 2 ^ 24 → IsEntry C e → FitsSigned w32 (pos (entry_bytes e))
+pub len_fits : (C : ℕ) (e : Entry) → C ≤ 2 ^ 24 → IsEntry C e → FitsSigned w32 (pos (entry_bytes e))
 len_fits C (Holds m) small is = let short = is.short in fits_pos (8 + length m.body) (omega arith)
 len_fits C (Skips bytes) small is = fits_pos bytes is.1
 
-pub header_is : (C : ℕ) (e : Entry) (ws : List ℕ) → IsRecord C e ws
+pub entry_header_is : (e : Entry) → entry_header e ≡ header (pos (entry_bytes e)) (entry_type e)
+entry_header_is (Holds m) = refl
+entry_header_is (Skips bytes) = refl
+
+header_is : (C : ℕ) (e : Entry) (ws : List ℕ) → IsRecord C e ws
     → slice_index ws 0 ≡ header (pos (entry_bytes e)) (entry_type e)
-header_is C (Holds m) ws r = r.header
-header_is C (Skips bytes) ws r = r.header
+header_is C e ws r = r.header ∙ entry_header_is e
 
 one_bytes : (a b : ℕ) → pos a ≡ pos b → a ≡ b
 one_bytes a b e = omega (arith, ints)
 
-not_padding : (C : ℕ) (m : Message) → IsMessage C m → m.type_id ≡ padding_type → ⊥
+pub not_padding : (C : ℕ) (m : Message) → IsMessage C m → m.type_id ≡ padding_type → ⊥
 not_padding C m is e = let least = is.type_id in absurd (omega (arith, ints))
 
 pub one_record : (C : ℕ) (e f : Entry) (ws : List ℕ) → C ≤ 2 ^ 24 → IsRecord C e ws → IsRecord C f ws → e ≡ f

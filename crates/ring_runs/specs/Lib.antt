@@ -6,3 +6,6 @@ pub mod Rule
 pub mod Seats
 pub mod Steps
 pub mod Laws
+pub mod Turns
+pub mod Writing
+pub mod Reading

@@ -1,7 +1,7 @@
 -- The records of a run, one after the other: messages, and what a reader passes.
-use Rattle.std.specs.Prelude.{◌≡◌, ℕ, ◌+◌, ◌/◌, ◌^◌, ◌≤◌, ◌<◌, List, [], ◌∷◌, ◌++◌, length, drop, slice_index}
+use Rattle.std.specs.Prelude.{◌≡◌, ℕ, ℤ, ◌+◌, ◌/◌, ◌^◌, ◌≤◌, ◌<◌, List, [], ◌∷◌, ◌++◌, length, drop, slice_index}
 use Rattle.ring_layout.specs.Bytes.{HoldsBytes}
-use Rattle.ring_layout.specs.Headers.{committed_header, padding_header}
+use Rattle.ring_layout.specs.Headers.{committed_header, padding_header, padding_type}
 use Rattle.ring_layout.specs.declared.message.Message.{Message}
 use Rattle.ring_layout.specs.History.{IsMessage}
 pub use Rattle.ring_runs.specs.declared.view.Entry.{Entry}
@@ -15,6 +15,11 @@ entry_bytes (Skips bytes) = bytes
 -- the words of a record
 abbrev pub entry_words : Entry → ℕ
 entry_words e = (entry_bytes e + 7) / 8
+
+-- the type id in the header of a record
+abbrev pub entry_type : Entry → ℤ
+entry_type (Holds m) = m.type_id
+entry_type (Skips bytes) = padding_type
 
 abbrev pub entry_header : Entry → ℕ
 entry_header (Holds m) = committed_header m.type_id (length m.body)

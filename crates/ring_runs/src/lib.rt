@@ -4,16 +4,21 @@
 //! - `view`: what each seat knows. `rule`: what holds between any two steps.
 //! - `plays`: what each kind of step says. `steps`: a function for each kind.
 //! - `table`: the table and its seats.
+//! - `write`, `read`: calls that publish and take whole runs. `slots`: records in the slots that a seat has out.
 #![tactic(auto)]
 
 mod laws;
 mod plays;
+mod read;
 mod rule;
+mod slots;
 mod steps;
 mod table;
 mod view;
+mod write;
 
 pub use laws::what_is_taken_was_published;
+pub use read::{Consumer, read_run};
 pub use rule::RunsRule;
 pub use steps::consumer::{look, retake, return_all, store_head};
 pub use steps::producer::{
@@ -22,3 +27,4 @@ pub use steps::producer::{
 pub use steps::{RunsSeat, SharedRuns};
 pub use table::{RunsTable, open, split_producer, split_reader};
 pub use view::{Claim, Entry, Reader, Run, Stage, View};
+pub use write::{Outgoing, Producer, write_batch};
