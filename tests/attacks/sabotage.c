@@ -1,10 +1,11 @@
 /* Faults put before calls of the C library, one for each build: SABOTAGE_NAME says which, and the linker wraps the
- * call. tests/attacks/sabotages.py has the table. Most happen once in some hundred calls. */
+ * call. tests/attacks/sabotages.py has the table. Most happen once in twenty to three hundred calls. */
 #include "felter.h"
 
 #include <string.h>
 
-#define ONCE_IN(times) (++turns % (times) == 0)
+/* (several threads may count) */
+#define ONCE_IN(times) (__atomic_add_fetch(&turns, 1, __ATOMIC_RELAXED) % (times) == 0)
 static unsigned turns;
 
 #if defined SABOTAGE_LOST || defined SABOTAGE_DOUBLED || defined SABOTAGE_FULL
@@ -169,5 +170,130 @@ int32_t __wrap_felter_conductor_deadline(felter_conductor *conductor, uint32_t i
     int32_t code = __real_felter_conductor_deadline(conductor, id, deadline);
     if (code == FELTER_OK && *deadline > 0 && *deadline < INT64_MAX && ONCE_IN(5)) --*deadline;
     return code;
+}
+#endif
+
+/* Faults that threads can notice which meet in a call. What each thread had before is kept for it alone. */
+
+#if defined SABOTAGE_OLD_COPY
+int32_t __real_felter_receive(felter_receiver *receiver, int32_t *type_id, size_t *len, uint64_t *lapped,
+                              uint8_t *buffer, size_t room);
+
+/* The copy that the thread got before, in place of the next one. */
+int32_t __wrap_felter_receive(felter_receiver *receiver, int32_t *type_id, size_t *len, uint64_t *lapped,
+                              uint8_t *buffer, size_t room) {
+    static _Thread_local uint8_t last[2048];
+    static _Thread_local size_t last_len;
+    static _Thread_local int32_t last_type_id;
+    int32_t code = __real_felter_receive(receiver, type_id, len, lapped, buffer, room);
+    if (code != FELTER_OK || *len > sizeof last) return code;
+    if (last_type_id && last_len <= room && ONCE_IN(100)) {
+        memcpy(buffer, last, *len = last_len);
+        *type_id = last_type_id;
+        return code;
+    }
+    memcpy(last, buffer, last_len = *len);
+    last_type_id = *type_id;
+    return code;
+}
+#endif
+
+#if defined SABOTAGE_TORN_COPY
+int32_t __real_felter_load_body(felter_raw_receiver *receiver, uint8_t *buffer, size_t room);
+
+int32_t __wrap_felter_load_body(felter_raw_receiver *receiver, uint8_t *buffer, size_t room) {
+    int32_t code = __real_felter_load_body(receiver, buffer, room);
+    if (code == FELTER_OK && room && ONCE_IN(50)) buffer[0] ^= 1;
+    return code;
+}
+#endif
+
+#if defined SABOTAGE_OVERWRITTEN
+int32_t __real_felter_validate(felter_raw_receiver *receiver);
+
+int32_t __wrap_felter_validate(felter_raw_receiver *receiver) {
+    int32_t code = __real_felter_validate(receiver);
+    return code == FELTER_LAPPED && ONCE_IN(5) ? FELTER_OK : code;
+}
+#endif
+
+#if defined SABOTAGE_OLD_VALUE
+int32_t __real_felter_reader_value(felter_reader *reader, uint32_t id, int64_t *value);
+
+/* The value that the thread saw in this counter before the newest one. */
+int32_t __wrap_felter_reader_value(felter_reader *reader, uint32_t id, int64_t *value) {
+    static _Thread_local int64_t newest[8], before[8];
+    int32_t code = __real_felter_reader_value(reader, id, value);
+    if (code != FELTER_OK || id >= 8) return code;
+    if (*value != newest[id]) {
+        before[id] = newest[id];
+        newest[id] = *value;
+    } else if (ONCE_IN(20)) {
+        *value = before[id];
+    }
+    return code;
+}
+#endif
+
+#if defined SABOTAGE_UNSET
+int32_t __real_felter_counter_set(felter_counters *counters, uint32_t id, int64_t value);
+
+int32_t __wrap_felter_counter_set(felter_counters *counters, uint32_t id, int64_t value) {
+    int64_t is;
+    return ONCE_IN(50) ? felter_counter_value(counters, id, &is) : __real_felter_counter_set(counters, id, value);
+}
+#endif
+
+#if defined SABOTAGE_SAME_ID
+int32_t __real_felter_next_id(felter_producer *producer, uint64_t *id);
+
+int32_t __wrap_felter_next_id(felter_producer *producer, uint64_t *id) {
+    int32_t code = __real_felter_next_id(producer, id);
+    if (code == FELTER_OK && *id && ONCE_IN(50)) --*id;
+    return code;
+}
+#endif
+
+#if defined SABOTAGE_OLD_HEAD
+int32_t __real_felter_positions(felter_producer *producer, uint64_t *head, uint64_t *tail);
+
+/* The head that the thread saw before the newest one. */
+int32_t __wrap_felter_positions(felter_producer *producer, uint64_t *head, uint64_t *tail) {
+    static _Thread_local uint64_t newest, before;
+    int32_t code = __real_felter_positions(producer, head, tail);
+    if (code != FELTER_OK) return code;
+    if (*head != newest) {
+        before = newest;
+        newest = *head;
+    } else if (ONCE_IN(20)) {
+        *head = before;
+    }
+    return code;
+}
+#endif
+
+#if defined SABOTAGE_OLD_BEAT
+int32_t __real_felter_heartbeat(felter_producer *producer, uint64_t *value);
+
+/* The heartbeat that the thread saw before the newest one. */
+int32_t __wrap_felter_heartbeat(felter_producer *producer, uint64_t *value) {
+    static _Thread_local uint64_t newest, before;
+    int32_t code = __real_felter_heartbeat(producer, value);
+    if (code != FELTER_OK) return code;
+    if (*value != newest) {
+        before = newest;
+        newest = *value;
+    } else if (ONCE_IN(20)) {
+        *value = before;
+    }
+    return code;
+}
+#endif
+
+#if defined SABOTAGE_HELD_BACK
+int32_t __real_felter_read(felter_consumer *consumer, int32_t *type_id, size_t *len, uint8_t *buffer, size_t room);
+
+int32_t __wrap_felter_read(felter_consumer *consumer, int32_t *type_id, size_t *len, uint8_t *buffer, size_t room) {
+    return ONCE_IN(50) ? FELTER_NO_MESSAGE : __real_felter_read(consumer, type_id, len, buffer, room);
 }
 #endif

@@ -1,12 +1,14 @@
-"""Faults put before the C library, each of which the random calls have to notice."""
+"""Faults put before the C library, each of which the random calls or the threads that meet have to notice."""
 import os
 import tempfile
 
 from .calls import OPTIONS, SOURCES
 from .shared import Finding, compiled, run_program
+from .threads import MEETINGS
 
 # What is done, and the call it is done in: sabotage.c has it under SABOTAGE_ and the name.
-SABOTAGES = {
+# The random calls have to notice these:
+IN_CALLS = {
     "LOST": "felter_write",           # a message is not written
     "DOUBLED": "felter_write",        # one is written twice
     "FULL": "felter_write",           # one that has room is refused
@@ -25,15 +27,31 @@ SABOTAGES = {
     "SHORT_LAP": "felter_receiver_lap",               # a receiver is said to have been further on when it was lapped
     "EARLY_DEADLINE": "felter_conductor_deadline",    # a freed id is said to rest for less
 }
+# The threads of meetings.c have to notice these, while other threads go on:
+IN_MEETINGS = {
+    "OLD_COPY": "felter_receive",          # a receiver gets the copy that it got before
+    "UNSAID_LAP": "felter_receive",        # a receiver does not learn that it missed something
+    "TORN_COPY": "felter_load_body",       # a copy has another first byte
+    "OVERWRITTEN": "felter_validate",      # a record that is overwritten is said to be whole
+    "OLD_VALUE": "felter_reader_value",    # a reader gets an older value of a counter after a newer one
+    "UNSET": "felter_counter_set",         # a value is not written
+    "SAME_ID": "felter_next_id",           # a correlation id is drawn twice
+    "OLD_HEAD": "felter_positions",        # a head is older than one loaded before
+    "OLD_BEAT": "felter_heartbeat",        # and so is a heartbeat
+    "HELD_BACK": "felter_read",            # a message that is there is said not to be there yet
+    "OTHER_REPLY": "felter_poll",          # a client takes the reply to another command for its own
+}
 SECONDS = 4
 
 
 def run(_seconds, seed):
     with tempfile.TemporaryDirectory() as folder:
-        calls = compiled(os.path.join(folder, "calls.o"), SOURCES, *OPTIONS[:2], "-r")
-        for name, call in SABOTAGES.items():
-            program = compiled(os.path.join(folder, name), (calls, "sabotage.c"), *OPTIONS, f"-DSABOTAGE_{name}",
-                               f"-Wl,--wrap={call}")
-            if run_program([program, str(SECONDS), str(seed)]).returncode == 0:
-                raise Finding(f"{name} in {call} was not noticed")
-    return f"{len(SABOTAGES)} faults, all noticed"
+        for sources, options, sabotages in (SOURCES, OPTIONS, IN_CALLS), (MEETINGS, ("-O1",), IN_MEETINGS):
+            attack = sources[0][:-2]
+            sound = compiled(os.path.join(folder, attack + ".o"), sources, "-O1", "-Wno-misleading-indentation", "-r")
+            for name, call in sabotages.items():
+                program = compiled(os.path.join(folder, name), (sound, "sabotage.c"), *options, f"-DSABOTAGE_{name}",
+                                   f"-Wl,--wrap={call}")
+                if run_program([program, str(SECONDS), str(seed)]).returncode == 0:
+                    raise Finding(f"{name} in {call} was not noticed by {attack}")
+    return f"{len(IN_CALLS) + len(IN_MEETINGS)} faults, all noticed"
