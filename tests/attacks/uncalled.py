@@ -23,7 +23,8 @@ ALONE = {
         felter_one_to_one_new_at_numbered felter_board_new_numbered felter_board_new_at_numbered
         felter_counters_new_numbered felter_conductor_new_numbered""",
     "other threads only load values of counters, and this is in the records, which the owner's thread alone uses": """
-        felter_counters_count felter_counters_available felter_counter_find felter_counter_type_id felter_counter_registration
+        felter_counters_count felter_counters_available felter_counter_find felter_counter_type_id
+        felter_counter_registration
         felter_counter_owner felter_counter_state felter_counter_deadline felter_counter_label felter_counter_key""",
     "the same, of a conductor's counters": """
         felter_conductor_count felter_conductor_find felter_conductor_type_id felter_conductor_registration
