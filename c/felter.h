@@ -190,11 +190,11 @@ static inline int32_t felter_one_to_one_new_at(uint32_t capacity, uint64_t start
  * FELTER_INSUFFICIENT_CAPACITY, and FELTER_CONTENDED for a many-to-one ring. */
 int32_t felter_write(felter_producer *producer, int32_t type_id, const void *body, size_t len);
 
-/* Tries once to claim room for a message of `len` bytes, which are 0 until they are put. Writes the claim's number,
- * which is its place: no other claim of the ring ever has this number.
+/* Tries once to claim room for a message of `len` bytes. Each byte is 0 until felter_put stores it. Writes the claim's
+ * number, which is its place: no other claim of the ring ever has this number.
  *
- * Any number of claims may be open at once, and they may be settled in any order. To settle one takes about the same
- * time however many are open. The consumer passes no open claim, so each must be settled.
+ * Any number of claims may be open at once, and they may be settled in any order. To settle a claim takes about the
+ * same time however many claims are open. The consumer passes no open claim, so each claim must be settled.
  *
  * Codes: those of felter_write. If there is no memory to keep one more claim, the result is FELTER_OUT_OF_MEMORY, and
  * nothing was tried. */
@@ -207,13 +207,14 @@ int32_t felter_put(felter_producer *producer, uint64_t claim, size_t offset, con
 int32_t felter_commit(felter_producer *producer, uint64_t claim);
 int32_t felter_abort(felter_producer *producer, uint64_t claim);
 
-/* Makes another producer of a many-to-one ring. It has one share and no claim: open claims stay with the first
- * producer. Codes: FELTER_NO_SHARES, FELTER_OUT_OF_MEMORY, FELTER_HANDLE_IN_USE, and FELTER_WRONG_HANDLE for a
+/* Makes `other` another producer of a many-to-one ring. `other` gets one share and no claim: open claims stay with
+ * `producer`. Codes: FELTER_NO_SHARES, FELTER_OUT_OF_MEMORY, FELTER_HANDLE_IN_USE, and FELTER_WRONG_HANDLE for a
  * one-to-one ring. */
 int32_t felter_split(felter_producer *producer, felter_producer *other);
-/* Joins another producer of the same many-to-one ring to the first one, with its shares and its open claims, and
- * empties its handle. The claims keep their numbers. Codes, in this order: FELTER_WRONG_HANDLE for a one-to-one ring,
- * FELTER_OTHER_RING, and FELTER_OUT_OF_MEMORY if there is no memory to keep the open claims. */
+/* Joins `other` to `producer`, which is a producer of the same many-to-one ring. The shares and the open claims of
+ * `other` go to `producer`, and the claims keep their numbers. The handle `other` is empty afterwards. Codes, in this
+ * order: FELTER_WRONG_HANDLE for a one-to-one ring, FELTER_OTHER_RING, and FELTER_OUT_OF_MEMORY if there is no memory
+ * to keep the open claims. */
 int32_t felter_join(felter_producer *producer, felter_producer *other);
 
 /* Loads the head, and then the tail. */
@@ -247,8 +248,8 @@ int32_t felter_peek(felter_consumer *consumer, int32_t *type_id, size_t *len, vo
  * The head moves at each take, so the producers get the room of each message that was taken. */
 int32_t felter_take(felter_consumer *consumer);
 
-/* What comes before the bytes of a message in a batch. If the buffer is aligned to 8 bytes, the record may be read in
- * place. Otherwise copy the record by memcpy. */
+/* A felter_record comes before the bytes of each message in a batch. If the buffer is aligned to 8 bytes, the
+ * felter_record may be read in place. Otherwise copy it by memcpy. */
 typedef struct felter_record {
     uint64_t len;    /* how many bytes follow */
     int64_t type_id;
@@ -264,9 +265,9 @@ typedef struct felter_record {
 
 /* Reads up to `limit` messages into a buffer, one after another. Each message is a felter_record followed by its bytes.
  * It begins at a multiple of 8 bytes, FELTER_SPAN bytes after the message before it. The call writes the number of
- * messages, and how many bytes they take. It stops when the buffer has no room for the next message, which stays in the
- * ring. The call copies the body of this message into a buffer of the consumer before it stops, which takes time in
- * proportion to the length of the message. The call can return fewer messages than are in the ring. When it returns,
+ * messages, and how many bytes they take. The call stops when the buffer has no room for the next message, which stays
+ * in the ring. The call copies the body of this message into a buffer of the consumer before it stops, which takes time
+ * in proportion to the length of the message. The call can return fewer messages than are in the ring. When it returns,
  * the producers have the room of the messages that it read.
  *
  * Codes: FELTER_NO_MESSAGE, also if the limit is 0, and FELTER_SHORT_BUFFER if the first message has no room.
@@ -556,8 +557,8 @@ enum felter_reply {
  *   - FELTER_OTHER_REPLY if the message is the reply to another command, or no reply. The message was passed over, so
  *     poll again;
  *   - FELTER_LAPPED if the conductor overtook the client. Then *lapped is how often that has happened, and the next
- *     call goes on with the reply that was transmitted last. What became of the commands that had no reply yet is not
- *     known. */
+ *     call goes on with the reply that was transmitted last. The client does not learn what became of the
+ *     commands that had no reply yet. */
 int32_t felter_poll(felter_client *client, uint64_t correlation, int32_t *kind, int64_t *number, uint64_t *lapped);
 
 #include "felter_inline.h"

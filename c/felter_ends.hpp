@@ -76,8 +76,9 @@ public:
         return *this;
     }
 
-    // Whether every end of the other side was freed, closed or joined. Then nothing more will be written for a consumer
-    // or a receiver, but what was written before can still be read. An empty end is abandoned.
+    // Whether every end of the other side was freed, closed or joined. If this end is a consumer or a receiver, nothing
+    // more will be written for it then. It can still read what was written before. The result is also true if this end
+    // is empty.
     bool is_abandoned() const noexcept { return end_.is_abandoned(); }
 
     // For felter.hpp: this end is the first one of a new structure, or one more end of it. Both return whether there

@@ -192,7 +192,8 @@ def page():
         found = walk.follow(list(starts_of(path, function, clauses)))
         everything += found
         parts.append("## %s\n\n%s\n\n%s\n" % (title, counted(walk, found), "\n".join(part(found))))
-    parts.append("## All of them\n\n%s They name these types of `src`: %s.\n\nThey also use these words of the kit: %s.\n"
+    parts.append("## All of them\n\n%s These definitions name these types of `src`: %s.\n\n"
+                 "The definitions also use these words of the kit: %s.\n"
                  % (counted(walk, everything), ", ".join("`%s`" % it for it in sorted(walk.types)),
                     ", ".join("`%s`" % it for it in sorted(walk.kit))))
     return "\n".join(parts)

@@ -226,7 +226,7 @@ class Client(Owner):
         sent.
 
         Raises Lapped if the conductor overtook the client. The next call goes on with the reply that was transmitted
-        last. What became of the commands that had no reply yet is not known."""
+        last. The client does not learn what became of the commands that had no reply yet."""
         while True:
             try:
                 found = self._try("felter_poll", correlation)
@@ -295,5 +295,5 @@ class Client(Owner):
             pause = min(pause * 2 or 1e-6, 1e-3)
 
     def heartbeat(self) -> int:
-        """Loads the heartbeat that the conductor stored last. It is 0 before the first one."""
+        """Loads the heartbeat that the conductor stored last. The heartbeat is 0 before the conductor stores one."""
         return self._do("felter_client_heartbeat")

@@ -201,7 +201,7 @@ class Producer(Settling):
 
     @direct
     def claim(self, type_id: int, length: int) -> Claim:
-        """Claims room for a message, whose bytes are 0 until they are put. Any number of claims may be open at once."""
+        """Claims room for a message. Each byte is 0 until `put` stores it. Any number of claims may be open at once."""
         claim = Claim(self)
         self._do("felter_claim", type_id, length, claim._trace.number)
         return claim
@@ -245,7 +245,7 @@ class Producer(Settling):
         return self._do("felter_next_id")
 
     def heartbeat(self) -> int:
-        """Loads the heartbeat that the consumer stored last. It is 0 before the first one."""
+        """Loads the heartbeat that the consumer stored last. The heartbeat is 0 before the consumer stores one."""
         return self._do("felter_heartbeat")
 
     def shares(self) -> int:

@@ -255,9 +255,9 @@ impl Receiver {
 /// What a raw receiver returns of a record, whose body is not yet copied.
 #[derive(Clone, Copy, Debug, PartialEq, Eq)]
 pub struct RawRecord {
-    /// Its type id, at least 1.
+    /// The type id of the record, at least 1.
     pub type_id: i32,
-    /// The length of its body.
+    /// The length of the record's body.
     pub len: usize,
 }
 

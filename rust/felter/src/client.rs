@@ -139,7 +139,7 @@ impl Client {
     /// replies in that order.
     ///
     /// Errors: [`Error::Lapped`] if the conductor overtook the client. The next call goes on with the reply that was
-    /// transmitted last. What became of the commands that had no reply yet is not known.
+    /// transmitted last. The client does not learn what became of the commands that had no reply yet.
     pub fn poll(&mut self, correlation: u64) -> Result<Polled, Error> {
         let (mut kind, mut number, mut lapped) = (0, 0, 0);
         // SAFETY: our handle, and three numbers of ours.
@@ -153,7 +153,7 @@ impl Client {
         }
     }
 
-    /// Loads the heartbeat that the conductor stored last. It is 0 before the first one.
+    /// Loads the heartbeat that the conductor stored last. The heartbeat is 0 before the conductor stores one.
     pub fn heartbeat(&mut self) -> Result<u64, Error> {
         self.handle.said(raw::felter_client_heartbeat)
     }

@@ -123,11 +123,11 @@ impl Producer {
         Ok(written)
     }
 
-    /// Tries once to claim room for a message of `len` bytes, which are 0 until they are put. The consumer passes no
-    /// open claim.
+    /// Tries once to claim room for a message of `len` bytes. Each byte is 0 until [`put`](Claim::put) stores it. The
+    /// consumer passes no open claim.
     ///
-    /// Errors: those of [`write`](Producer::write). [`Error::OutOfMemory`] if there is no memory for one more claim;
-    /// then nothing was tried.
+    /// Errors: those of [`write`](Producer::write). [`Error::OutOfMemory`] if there is no memory for one more claim. In
+    /// this case nothing was tried.
     ///
     /// ```
     /// let (mut producer, mut consumer) = felter::many_to_one(128)?;
@@ -221,7 +221,7 @@ impl Producer {
         self.handle.said(raw::felter_next_id)
     }
 
-    /// Loads the heartbeat that the consumer stored last. It is 0 before the first one.
+    /// Loads the heartbeat that the consumer stored last. The heartbeat is 0 before the consumer stores one.
     pub fn heartbeat(&mut self) -> Result<u64, Error> {
         self.handle.said(raw::felter_heartbeat)
     }
