@@ -1,8 +1,9 @@
 package felter;
 
 /**
- * A ring that any threads write and one thread reads. Each thread that writes gets a producer of its own, which goes
- * back to the ring after the thread has ended. There are at most 65,536 producers at a time.
+ * A ring that any threads write and one thread reads. Each thread that writes gets a producer of its own. After the
+ * thread has ended and the garbage collector has found its producer, a claim that the thread left open is aborted, and
+ * the producer goes back to the ring. There are at most 65,536 producers at a time.
  */
 public final class ManyToOneRingBuffer extends RingBuffer {
     private final Object lock = new Object();
@@ -27,22 +28,28 @@ public final class ManyToOneRingBuffer extends RingBuffer {
                 Native.must(code);
             }
         }
-        final Producer producer = new Producer(its, 0, maxMsgLength());
+        final Producer.OpenClaim open = new Producer.OpenClaim();
+        final Producer producer = new Producer(its, 0, maxMsgLength(), open);
         final Handles first = handles();
         final Object guard = lock;
-        whenGone(producer, () -> giveBack(guard, first, its));
+        whenGone(producer, () -> giveBack(guard, first, its, open));
         return producer;
     }
 
-    /** Joins the producer of a thread that has ended, or frees it if the ring is closed. */
-    private static void giveBack(final Object lock, final Handles first, final Handles its) {
-        synchronized (lock) {
-            if (first.isOpen()) {
-                // (out of memory: then the producer is freed, and its share is lost)
-                Native.join(first.at(0), its.at(0));
+    /** Aborts the open claim of a thread that has ended, and joins its producer, or frees it if the ring is closed. */
+    private static void giveBack(
+            final Object lock, final Handles first, final Handles its, final Producer.OpenClaim open) {
+        try {
+            synchronized (lock) {
+                if (first.isOpen()) {
+                    open.abort(its.at(0));
+                    // (out of memory: then the producer is freed, and its share is lost)
+                    Native.join(first.at(0), its.at(0));
+                }
             }
+        } finally {
+            its.run();
         }
-        its.run();
     }
 
     @Override

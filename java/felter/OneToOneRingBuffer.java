@@ -7,7 +7,7 @@ public final class OneToOneRingBuffer extends RingBuffer {
     /** Makes a ring of {@code capacity} bytes, a power of two from 128 to 2^24. */
     public OneToOneRingBuffer(final int capacity) {
         super(true, capacity);
-        producer = new Producer(handles(), 0, maxMsgLength());
+        producer = new Producer(handles(), 0, maxMsgLength(), new Producer.OpenClaim());
     }
 
     @Override

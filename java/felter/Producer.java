@@ -4,20 +4,38 @@ import java.nio.ByteBuffer;
 
 /** What a thread writes with: a handle, and a buffer for its claim. */
 final class Producer {
+    /**
+     * The number of the open claim of a producer, if there is one. This object does not refer to the producer. So the
+     * number can be read after nothing refers to the producer any more.
+     */
+    static final class OpenClaim {
+        private static final long NONE = -1;
+        private volatile long number = NONE;
+
+        /** Aborts the claim, if there is one. */
+        void abort(final long handle) {
+            if (number != NONE) {
+                Native.must(Native.abort(handle, number));
+                number = NONE;
+            }
+        }
+    }
+
     private final Owner.Handles handles;
     private final int index;
     private final ByteBuffer out = Owner.buffer(16);
     private final long outAddress = Native.address(out);
     private final int most;
+    private final OpenClaim open;
     private ByteBuffer room;
     private long roomAddress;
-    private long claim;
     private int length = -1;
 
-    Producer(final Owner.Handles handles, final int index, final int most) {
+    Producer(final Owner.Handles handles, final int index, final int most, final OpenClaim open) {
         this.handles = handles;
         this.index = index;
         this.most = most;
+        this.open = open;
     }
 
     long handle() {
@@ -42,7 +60,7 @@ final class Producer {
         if (!RingBuffer.isWritten(Native.claim(handle(), msgTypeId, bytes, outAddress))) {
             return RingBuffer.INSUFFICIENT_CAPACITY;
         }
-        claim = out.getLong(0);
+        open.number = out.getLong(0);
         length = bytes;
         final ByteBuffer its = room();
         for (int i = 0; i < bytes; i++) {
@@ -61,12 +79,13 @@ final class Producer {
     void commit(final int at) {
         final int bytes = length;
         settle(at);
-        Native.must(Native.putAndCommit(handle(), claim, roomAddress, bytes));
+        Native.must(Native.putAndCommit(handle(), open.number, roomAddress, bytes));
+        open.number = OpenClaim.NONE;
     }
 
     void abort(final int at) {
         settle(at);
-        Native.must(Native.abort(handle(), claim));
+        open.abort(handle());
     }
 
     long nextId() {

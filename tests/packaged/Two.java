@@ -88,6 +88,24 @@ public final class Two {
         }
     }
 
+    /** A thread ends with an open claim, which is aborted after the collector has found the thread's producer. */
+    private static void endedThread() throws InterruptedException {
+        try (ManyToOneRingBuffer ring = new ManyToOneRingBuffer(4096)) {
+            final Thread thread = new Thread(() -> check(ring.tryClaim(9, 8) == 0, "a claim"));
+            thread.start();
+            thread.join();
+            check(ring.write(1, new byte[4], 0, 4), "there is room");
+            final long most = System.nanoTime() + 30_000_000_000L;
+            int all = 0;
+            while (all == 0 && System.nanoTime() < most) {
+                System.gc();
+                Thread.sleep(20);
+                all = ring.read((type, buffer, index, length) -> check(type == 1 && length == 4, "what was written"));
+            }
+            check(all == 1 && ring.size() == 0, "a claim of a thread that has ended blocks the reader");
+        }
+    }
+
     private static void oneThread() {
         try (OneToOneRingBuffer ring = new OneToOneRingBuffer(256)) {
             check(ring.capacity() == 256 && ring.maxMsgLength() == 32, "sizes");
@@ -186,6 +204,7 @@ public final class Two {
 
     public static void main(final String[] arguments) throws InterruptedException {
         threads();
+        endedThread();
         oneThread();
         others();
         System.out.println("1000 messages, in order");
