@@ -164,15 +164,14 @@ static void use_producer(struct worker *worker) {
 /* The consumer ----------------------------------------------------------------------------------------------------- */
 
 /* Whether a message is there for certain: one was committed that was not read yet, and then, in each lane, all that had
- * begun was settled. So no claim before that message is open. */
+ * begun was settled. So no claim before that message is open. (A message may be read before its sender counts it.) */
 static bool has_message(void) {
-    uint64_t sent = 0;
-    for (uint32_t lane = 0; lane < ring.senders; lane++) sent += atomic_load(&senders[lane].sent);
-    if (reading.stays) return true;
-    if (sent == reading.read) return false;
+    bool has_one = reading.stays;
     for (uint32_t lane = 0; lane < ring.senders; lane++)
-        if (atomic_load(&senders[lane].has_begun)) return false;
-    return true;
+        has_one |= atomic_load(&senders[lane].sent) > reading.next[lane];
+    for (uint32_t lane = 0; lane < ring.senders; lane++)
+        if (!reading.stays && atomic_load(&senders[lane].has_begun)) return false;
+    return has_one;
 }
 
 /* The next message of its lane. */
