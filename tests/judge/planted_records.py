@@ -41,6 +41,7 @@ def changes_in(crates, crate):
         "other edits": (f"{TOP}/crates/{crate}/{EDITS}", lambda text: text + "\n", NEW),
         "another judge": (f"{TOP}/tests/judge/log.py", lambda text: text + "\n", NEW),
         "another body": (source[crate], in_a_body, NEW),
+        "another comment": (source[crate], lambda text: f"// More.\n{text}", RECORDED),
         "another contract below": (source[lowest], in_a_contract, NEW),
     }
     if lowest != crate:

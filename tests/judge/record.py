@@ -34,6 +34,15 @@ def files_of(part):
     return [part] if os.path.isfile(part) else [f"{at}/{it}" for at, names in walked for it in names]
 
 
+def without_comments(text):
+    return re.sub(r"^\s*//.*\n", "", text, flags=re.M)
+
+
+def seen_within(path, text):
+    """Returns what the verdicts on a crate's own edits depend on in one of its files: all but comments in sources."""
+    return without_comments(text) if path.endswith(".rt") else text
+
+
 def seen_above(path, text):
     """Returns what the crates above can see of a file: no body of a plain function, no comment, no private proof."""
     name, bodies, place = os.path.basename(path), [], 0
@@ -45,7 +54,7 @@ def seen_above(path, text):
         if it.is_copyable and not is_constant and it.begin >= place:
             bodies.append((it.begin, it.end, ""))
             place = it.end
-    return re.sub(r"^\s*//.*\n", "", replaced(text, bodies), flags=re.M)
+    return without_comments(replaced(text, bodies))
 
 
 def sum_of(crates, crate, version, text_of=read):
@@ -56,7 +65,8 @@ def sum_of(crates, crate, version, text_of=read):
     below = sorted(crates.all_below(crate))
     parts = [f"{TOP}/tests/wrong-bodies", f"{TOP}/tests/judge"]
     parts += [f"{TOP}/crates/{crate}/{it}" for it in (*SOURCES, EDITS, ATTACKS)]
-    texts = [(it, text_of(it)) for part in parts for it in files_of(part) if os.path.basename(it) not in OTHERS]
+    files = [it for part in parts for it in files_of(part) if os.path.basename(it) not in OTHERS]
+    texts = [(it, seen_within(it, text_of(it))) for it in files]
     parts = [f"{TOP}/crates/{it}/{part}" for it in below if it != crate for part in SOURCES]
     texts += [(it, seen_above(it, text_of(it))) for part in parts for it in files_of(part)]
     total = hashlib.sha256(repr((version, [crates.lines[it] for it in below])).encode())
