@@ -52,6 +52,7 @@ def changes_in(crates, crate):
             "another lemma below": (lemmas, lambda text: text + "\n", NEW),
             "another body below": (source[lowest], in_a_body, RECORDED),
             "another comment below": (source[lowest], lambda text: f"// More.\n{text}", RECORDED),
+            "another comment of a lemma below": (lemmas, lambda text: f"-- More.\n{text}", RECORDED),
             "another proof of a function below": (private, lambda text: text + "\n", RECORDED),
         })
     return changes

@@ -34,39 +34,39 @@ def files_of(part):
     return [part] if os.path.isfile(part) else [f"{at}/{it}" for at, names in walked for it in names]
 
 
-def without_comments(text):
-    return re.sub(r"^\s*//.*\n", "", text, flags=re.M)
-
-
-def seen_within(path, text):
-    """Returns what the verdicts on a crate's own edits depend on in one of its files: all but comments in sources."""
-    return without_comments(text) if path.endswith(".rt") else text
+def without_comments(path, text):
+    """Returns a source, a definition or a proof without the lines that are comments, and another file as it is."""
+    mark = {".rt": "//", ".antt": "--"}.get(os.path.splitext(path)[1])
+    return re.sub(rf"^\s*{mark}.*\n", "", text, flags=re.M) if mark else text
 
 
 def seen_above(path, text):
     """Returns what the crates above can see of a file: no body of a plain function, no comment, no private proof."""
     name, bodies, place = os.path.basename(path), [], 0
-    if name in PROOFS or not name.endswith(".rt"):
-        return "" if name in PROOFS else text
+    if name in PROOFS:
+        return ""
+    if not name.endswith(".rt"):
+        return without_comments(path, text)
     for it in functions_of("", "", text):
         is_constant = "const " in text[it.item : it.named].rpartition("\n")[2]
         # (a function within another goes with that)
         if it.is_copyable and not is_constant and it.begin >= place:
             bodies.append((it.begin, it.end, ""))
             place = it.end
-    return without_comments(replaced(text, bodies))
+    return without_comments(path, replaced(text, bodies))
 
 
 def sum_of(crates, crate, version, text_of=read):
     """Returns a sum of all that the verdicts on a crate's edits and attacks depend on.
 
-    Proofs are modular: of the crates below that is what they state, and no body or proof of a function.
+    Proofs are modular: of the crates below that is what they state, and no body or proof of a function. No verdict
+    depends on a comment.
     """
     below = sorted(crates.all_below(crate))
     parts = [f"{TOP}/tests/wrong-bodies", f"{TOP}/tests/judge"]
     parts += [f"{TOP}/crates/{crate}/{it}" for it in (*SOURCES, EDITS, ATTACKS)]
     files = [it for part in parts for it in files_of(part) if os.path.basename(it) not in OTHERS]
-    texts = [(it, seen_within(it, text_of(it))) for it in files]
+    texts = [(it, without_comments(it, text_of(it))) for it in files]
     parts = [f"{TOP}/crates/{it}/{part}" for it in below if it != crate for part in SOURCES]
     texts += [(it, seen_above(it, text_of(it))) for part in parts for it in files_of(part)]
     total = hashlib.sha256(repr((version, [crates.lines[it] for it in below])).encode())
