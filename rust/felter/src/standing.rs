@@ -1,8 +1,8 @@
-//! What a consumer finds next.
+//! The call that returns what a consumer finds next.
 use crate::error::Error;
 use crate::ring::{Consumer, Producer};
 
-/// What is next in a ring.
+/// The kind of thing that is next in a ring.
 #[derive(Clone, Copy, Debug, PartialEq, Eq)]
 pub enum Found {
     /// A message, which the consumer reads next.
@@ -11,7 +11,7 @@ pub enum Found {
     Nothing,
     /// A claim that is not settled yet: its producer is slow, or lost.
     Claim,
-    /// Something changed during the call: call again.
+    /// Something changed during the call. Call again.
     Change,
 }
 
@@ -20,14 +20,15 @@ pub enum Found {
 pub struct Standing {
     /// What is next.
     pub found: Found,
-    /// The head, in bytes. If a claim is next, the head is its place.
+    /// The head, in bytes. If a claim is next, the head is the position of this claim.
     pub head: u64,
 }
 
 impl Consumer {
-    /// Returns what is next in the ring. The call needs a producer of the same ring. It loads the positions, reads into
-    /// a buffer of no bytes, and loads the positions again. The read passes padding and aborted claims before the next
-    /// message. If it passed any, the result is [`Found::Change`] unless a message is next.
+    /// Returns what is next in the ring. The call needs a producer of the same ring. The call loads the positions,
+    /// reads into a buffer of no bytes, and loads the positions again. The read passes padding and aborted claims
+    /// before the next message. If the read passed any of these, the result is [`Found::Change`] unless a message is
+    /// next.
     ///
     /// Errors: [`Error::OtherRing`].
     ///
