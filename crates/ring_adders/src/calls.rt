@@ -13,7 +13,7 @@ use ring_layout::{ALL_SHARES, NoShares, has_spare_share};
 use std::alloc::Global;
 
 impl Adder {
-    /// The shares of this adder: 65,536 for the first one. If it has all of them, there is no other adder.
+    /// Returns the shares of this adder: 65,536 for the first one. If it has all of them, there is no other adder.
     pub fn shares(&self) -> u32
         ensures { result ≡ shares_of self.now }
     {

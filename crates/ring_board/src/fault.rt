@@ -22,7 +22,7 @@ pub enum TransmitFault {
 }
 
 impl TransmitFault {
-    /// The number of the refusal.
+    /// Returns the number of the refusal.
     pub fn code(self) -> i32
         ensures { result ≡ transmit_code self }
     {
@@ -46,7 +46,7 @@ pub enum SubscribeFault {
 }
 
 impl SubscribeFault {
-    /// The number of the refusal.
+    /// Returns the number of the refusal.
     pub fn code(self) -> i32
         ensures { result ≡ subscribe_code self }
     {
@@ -68,7 +68,7 @@ pub struct Lapped {
 }
 
 impl Lapped {
-    /// The number of the refusal.
+    /// Returns the number of the refusal.
     pub fn code(self) -> i32
         ensures { result ≡ pos 13 }
     {
@@ -84,7 +84,7 @@ pub struct ReceiversOut {
 }
 
 impl ReceiversOut {
-    /// The number of the refusal.
+    /// Returns the number of the refusal.
     pub fn code(self) -> i32
         ensures { result ≡ pos 14 }
     {

@@ -87,14 +87,14 @@ impl Board {
         Ok((board, transmitter))
     }
 
-    /// The bytes of the buffer.
+    /// Returns the bytes of the buffer.
     pub fn capacity(&self) -> u32
         ensures { result ≡ capacity_of self.now }
     {
         self.capacity
     }
 
-    /// The most bytes of a message: an eighth of the capacity.
+    /// Returns the most bytes of a message: an eighth of the capacity.
     pub fn max_message(&self) -> u32
         ensures { result ≡ capacity_of self.now / 8 }
     {
@@ -149,7 +149,7 @@ impl Board {
 }
 
 impl ClosedBoard {
-    /// The intent: the tail.
+    /// Returns the intent: the tail.
     pub fn intent(&self) -> u64
         ensures { result ≡ slice_index (closed_words self.now) (intent_index (closed_capacity self.now)) }
     {

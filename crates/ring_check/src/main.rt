@@ -38,7 +38,7 @@ fn failed(rt: &impl Eprint, fault: CheckFault<'_>) -> ExitCode {
     ExitCode::from(FAULT)
 }
 
-/// The words of the command line.
+/// Returns the words of the command line.
 fn words_of<R: AllocGlobal + Env>(rt: &R) -> Result<Vec<String>, CheckFault<'static>> {
     match env::args(rt) {
         Ok(arguments) => Ok(arguments.collect(rt.alloc())?),
@@ -87,7 +87,7 @@ fn judge_file<'a, R: AllocGlobal + Files + Input + Print>(
     })
 }
 
-/// The bytes of a file; `-` is standard input.
+/// Returns the bytes of a file; `-` is standard input.
 fn bytes_of<'a, R: AllocGlobal + Files + Input>(
     rt: &R,
     file: &'a str,

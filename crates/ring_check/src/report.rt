@@ -46,7 +46,7 @@ fn counts_of(lines: &[QueueLine]) -> Counts {
     counts
 }
 
-/// The text of the line at this index.
+/// Returns the text of the line at this index.
 fn text_of(alloc: Global, text: &[u8], at: usize) -> Result<String, AllocError> {
     for (index, line) in text.split(|letter| *letter == b'\n').enumerate() {
         if index == at {
@@ -57,7 +57,7 @@ fn text_of(alloc: Global, text: &[u8], at: usize) -> Result<String, AllocError> 
 }
 
 impl Report {
-    /// The report of a run, from its text, its lines and the verdict.
+    /// Returns the report of a run, from its text, its lines and the verdict.
     pub fn of(
         alloc: Global,
         text: &[u8],
@@ -78,7 +78,7 @@ impl Report {
         })
     }
 
-    /// The verdict, and then how many messages were sent, refused and shown.
+    /// Returns the verdict, and then how many messages were sent, refused and shown.
     pub fn to_table(&self, alloc: Global) -> Result<String, AllocError> {
         let mut text = String::new(alloc);
         match &self.unexplained {
@@ -106,7 +106,7 @@ impl Report {
         Ok(text)
     }
 
-    /// The same as an object of JSON. `line`, `text` and `reason` are `null` after a yes.
+    /// Returns the same as an object of JSON. `line`, `text` and `reason` are `null` after a yes.
     pub fn to_json(&self, alloc: Global, file: &str) -> Result<String, AllocError> {
         let mut object = Map::new(alloc);
         let verdict = if self.unexplained.is_none() {

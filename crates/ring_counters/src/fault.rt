@@ -20,7 +20,7 @@ pub enum MakeFault {
 }
 
 impl MakeFault {
-    /// The number of the refusal.
+    /// Returns the number of the refusal.
     pub fn code(self) -> i32
         ensures { result ≡ make_code self }
     {
@@ -49,7 +49,7 @@ pub enum AllocateRefused {
 }
 
 impl AllocateRefused {
-    /// The number of the refusal.
+    /// Returns the number of the refusal.
     pub fn code(self) -> i32
         ensures { result ≡ allocate_code self }
     {
@@ -74,7 +74,7 @@ pub enum IdFault {
 }
 
 impl IdFault {
-    /// The number of the refusal.
+    /// Returns the number of the refusal.
     pub fn code(self) -> i32
         ensures { result ≡ id_code self }
     {
@@ -91,7 +91,7 @@ impl IdFault {
 pub struct BadId;
 
 impl BadId {
-    /// The number of the refusal.
+    /// Returns the number of the refusal.
     pub fn code(self) -> i32
         ensures { result ≡ pos 20 }
     {
@@ -105,7 +105,7 @@ impl BadId {
 pub struct BadOwner;
 
 impl BadOwner {
-    /// The number of the refusal.
+    /// Returns the number of the refusal.
     pub fn code(self) -> i32
         ensures { result ≡ pos 28 }
     {
@@ -119,7 +119,7 @@ impl BadOwner {
 pub struct OutOfMemory;
 
 impl OutOfMemory {
-    /// The number of the refusal.
+    /// Returns the number of the refusal.
     pub fn code(self) -> i32
         ensures { result ≡ pos 3 }
     {

@@ -84,7 +84,7 @@ impl ValueRecord {
         self.owner
     }
 
-    /// The word with this number of the 16 that the record has.
+    /// Returns the word with this number of the 16 that the record has.
     #[tactic(auto, unfolding(crate::specs::Counter::value_word))]
     pub(crate) fn word(&self, k: usize) -> u64
         requires { k < 16 }
@@ -198,7 +198,7 @@ impl Records {
         &self.values[id as usize]
     }
 
-    /// The number of ids that were ever used: those below it.
+    /// Returns the number of ids that were ever used: those below it.
     pub(crate) fn used(&self) -> u32
         ensures most { result ≤ count_of self.now }
         ensures unused { (id : ℕ) → result ≤ id → counter_at self.now id ≡ unused_counter }
@@ -229,7 +229,7 @@ impl Records {
         }
     }
 
-    /// Whether the counter is in use.
+    /// Returns whether the counter is in use.
     pub(crate) fn is_live(&self, id: u32) -> bool
         requires { id < count_of self.now }
         ensures { result ≡ is_allocated (status_at self.now id) }
@@ -237,7 +237,7 @@ impl Records {
         self.live[id as usize]
     }
 
-    /// Whether the counter is in use, with this type and registration.
+    /// Returns whether the counter is in use, with this type and registration.
     fn is_registered(&self, id: u32, type_id: i32, registration: u64) -> bool
         requires { id < count_of self.now }
         ensures { result ≡ is_registered type_id registration (counter_at self.now id) }
@@ -247,7 +247,7 @@ impl Records {
             && self.values(id).registration() == registration
     }
 
-    /// The lowest id in use with this type and registration.
+    /// Returns the lowest id in use with this type and registration.
     pub(crate) fn find(&self, type_id: i32, registration: u64) -> Option<u32>
         ensures { result ≡ registered_id self.now type_id registration }
     {
@@ -259,7 +259,7 @@ impl Records {
         None
     }
 
-    /// What a listing says of one counter.
+    /// Returns what a listing says of one counter.
     fn info(&self, alloc: Global, id: u32) -> Result<CounterInfo, AllocError>
         requires { id < count_of self.now }
         ensures { IfOk result (λ info. IsInfoOf id (counter_at self.now id) info) }

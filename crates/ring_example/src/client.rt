@@ -27,7 +27,7 @@ pub struct Caller {
 
 // Each call states that the caller's producer stays one of the ring, and its receiver one of the broadcast buffer.
 impl Caller {
-    /// A caller that has sent nothing yet.
+    /// Returns a caller that has sent nothing yet.
     pub fn new(label: &'static str, client: Client) -> Caller
         ensures { result.client ≡ client }
     {

@@ -23,7 +23,7 @@ pub fn is_board_capacity(capacity: u32) -> bool
     capacity.is_power_of_two() && capacity >= board::MIN_CAPACITY && capacity <= board::MAX_CAPACITY
 }
 
-/// The most bytes of a message: an eighth of the capacity.
+/// Returns the most bytes of a message: an eighth of the capacity.
 pub fn max_message(capacity: u32) -> u32
     ensures { result ≡ capacity / 8 }
 {

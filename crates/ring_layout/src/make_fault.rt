@@ -20,7 +20,7 @@ pub enum MakeFault {
 }
 
 impl MakeFault {
-    /// The number of the refusal.
+    /// Returns the number of the refusal.
     pub fn code(self) -> i32
         ensures { result ≡ make_code self }
     {

@@ -6,7 +6,7 @@ ghost use Rattle.ring_layout.specs.Places.{index, max_position, next_place};
 
 use crate::record_descriptor;
 
-/// The byte index of a position, in bytes, in a buffer whose capacity is a power of two.
+/// Returns the byte index of a position, in bytes, in a buffer whose capacity is a power of two.
 pub fn byte_index(capacity: u32, position: u64) -> u64
     requires { IsTrue (is_power_of_two capacity) }
     ensures { result ≡ position % capacity }
@@ -15,7 +15,7 @@ pub fn byte_index(capacity: u32, position: u64) -> u64
     position & u64::from(capacity - 1)
 }
 
-/// The index of the word at a position, in bytes, in a buffer whose capacity is a power of two.
+/// Returns the index of the word at a position, in bytes, in a buffer whose capacity is a power of two.
 pub fn word_index(capacity: u32, position: u64) -> usize
     requires { IsTrue (is_power_of_two capacity) }
     ensures { result ≡ index capacity position }

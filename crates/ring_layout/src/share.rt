@@ -15,7 +15,7 @@ pub const ALL_SHARES: u32 = 1 << 16;
 pub struct NoShares;
 
 impl NoShares {
-    /// The number of the refusal.
+    /// Returns the number of the refusal.
     pub fn code(self) -> i32
         ensures { result ≡ pos 12 }
     {

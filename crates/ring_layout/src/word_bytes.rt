@@ -4,7 +4,7 @@ ghost use Rattle.std.specs.Int.{from_le_bytes, to_le_bytes, w64};
 ghost use Rattle.ring_layout.specs.Bytes.{HoldsBytes};
 ghost use Rattle.ring_layout.specs.History.{overwritten};
 
-/// The word with these bytes in place of its own from the byte `at` on. The bytes are inside the word.
+/// Returns the word with these bytes in place of its own from the byte `at` on. The bytes are inside the word.
 pub fn put_bytes_word(word: u64, at: usize, bytes: &[u8]) -> u64
     requires { at + length bytes.now ≤ 8 }
     ensures { result ≡ from_le_bytes w64 (overwritten at bytes.now (to_le_bytes w64 word)) }
@@ -14,7 +14,7 @@ pub fn put_bytes_word(word: u64, at: usize, bytes: &[u8]) -> u64
     u64::from_le_bytes(all)
 }
 
-/// The first 8 bytes as a little-endian word, with zeros if there are fewer.
+/// Returns the first 8 bytes as a little-endian word, with zeros if there are fewer.
 pub fn first_word(bytes: &[u8]) -> u64
     ensures { result ≡ from_le_bytes w64 bytes.now }
 {
@@ -24,7 +24,7 @@ pub fn first_word(bytes: &[u8]) -> u64
     }
 }
 
-/// The byte at this place, 0 if there is none.
+/// Returns the byte at this place, 0 if there is none.
 fn byte_or_zero(bytes: &[u8], at: usize) -> u8
     ensures { result ≡ slice_index bytes.now at }
 {
@@ -89,7 +89,7 @@ pub fn put_part(bytes: &mut [u8], at: usize, word: u64)
     }
 }
 
-/// The byte `at` of a word, 0 to 7.
+/// Returns the byte `at` of a word, 0 to 7.
 pub fn get_byte_word(word: u64, at: usize) -> u8
     requires { at < 8 }
     ensures { result ≡ word / 2 ^ (8 * at) % 256 }

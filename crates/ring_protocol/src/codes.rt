@@ -45,7 +45,7 @@ pub struct UnknownCode {
 }
 
 impl RefusalCode {
-    /// The number that a reply gives for it.
+    /// Returns the number that a reply gives for it.
     pub fn number(self) -> i32
         ensures { result ≡ number_of self }
     {
@@ -136,14 +136,14 @@ impl From<Bad> for RefusalCode {
 }
 
 impl Bad {
-    /// The number of the fault.
+    /// Returns the number of the fault.
     pub fn code(self) -> i32
         ensures { result ≡ bad_code self }
     {
         RefusalCode::from(self).number()
     }
 
-    /// The correlation id of the reply.
+    /// Returns the correlation id of the reply.
     pub fn correlation(self) -> u64
         ensures { result ≡ bad_correlation self }
     {

@@ -64,7 +64,7 @@ pub enum Request<T> {
 impl Request<Vec<u8>> {
     ghost use Rattle.ring_protocol.specs.Command.{content_of_owned, content_of_request};
 
-    /// The same request, with a key and a label that it borrows from this one.
+    /// Returns the same request, with a key and a label that it borrows from this one.
     pub fn as_slices(&self) -> Request<&[u8]>
         ensures { content_of_request result ≡ content_of_owned self.now }
     {
@@ -103,7 +103,7 @@ impl Request<&[u8]> {
     ghost use Rattle.ring_protocol.specs.Command.{HasTextLengths, asked, content_of_request};
     ghost use Rattle.ring_protocol.specs.Command.{request_type_id, spelling_of};
 
-    /// The type id of the message that spells the command.
+    /// Returns the type id of the message that spells the command.
     pub fn type_id(&self) -> i32
         ensures { result ≡ request_type_id (content_of_request self.now) }
     {
@@ -175,7 +175,7 @@ pub enum Command<'a> {
 impl<'a> Command<'a> {
     ghost use Rattle.ring_protocol.specs.Command.{HasTextLengths, spelling_of, type_id_of};
 
-    /// What it asks for, without the correlation id.
+    /// Returns what it asks for, without the correlation id.
     pub fn request(&self) -> Request<&'a [u8]>
         ensures { asked result (content_of self.now).correlation ≡ content_of self.now }
     {
@@ -208,7 +208,7 @@ impl<'a> Command<'a> {
         }
     }
 
-    /// The correlation id, which its reply carries too.
+    /// Returns the correlation id, which its reply carries too.
     pub fn correlation(&self) -> u64
         ensures { result ≡ (content_of self.now).correlation }
     {
@@ -221,7 +221,7 @@ impl<'a> Command<'a> {
         }
     }
 
-    /// The type id of the message that spells the command.
+    /// Returns the type id of the message that spells the command.
     pub fn type_id(&self) -> i32
         ensures { result ≡ type_id_of (content_of self.now) }
     {
@@ -238,8 +238,8 @@ impl<'a> Command<'a> {
     }
 }
 
-/// The number of bytes that a field of these bytes takes, with the length before them, if four bytes can hold the
-/// length.
+/// Returns the number of bytes that a field of these bytes takes, with the length before them, if four bytes can hold
+/// the length.
 fn sized_len(bytes: &[u8]) -> Option<usize>
     ensures fits { IsSome result ↔ (length bytes.now < 2 ^ 32) }
     ensures len { IfSome result (λ n. n ≡ 4 + length bytes.now) }

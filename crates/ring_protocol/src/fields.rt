@@ -52,7 +52,7 @@ pub fn take_sized(bytes: &[u8]) -> Option<(&[u8], &[u8])>
     rest.split_at_checked(len as usize)
 }
 
-/// The correlation of the reply to a body that spells nothing.
+/// Returns the correlation of the reply to a body that spells nothing.
 #[tactic(auto, unfolding(crate::specs::Bad::correlation_of, crate::specs::Field::u64_at))]
 pub fn correlation_in(body: &[u8]) -> u64
     ensures { result ≡ correlation_of body.now }
@@ -60,7 +60,7 @@ pub fn correlation_in(body: &[u8]) -> u64
     take_u64(body).map_or(u64::MAX, |(correlation, _)| correlation)
 }
 
-/// The total length of the fields, if it is no more than the limit.
+/// Returns the total length of the fields, if it is no more than the limit.
 #[inline]
 fn joined_len(fields: &[&[u8]], limit: usize) -> Option<usize>
     ensures fits { IsSome result ↔ (length (flat_map (λ field. field.now) fields.now) ≤ limit) }
@@ -87,7 +87,7 @@ pub fn write_fields(out: &mut [u8], fields: &[&[u8]]) -> Option<usize>
     Some(len)
 }
 
-/// The length of the bytes as the field before them, if four bytes can hold it.
+/// Returns the length of the bytes as the field before them, if four bytes can hold it.
 #[tactic(auto, unfolding(crate::specs::Field::u32_field))]
 #[inline]
 pub fn len_field(bytes: &[u8]) -> Option<[u8; 4]>

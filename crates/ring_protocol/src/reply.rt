@@ -40,7 +40,7 @@ impl Reply {
     ghost use Rattle.std.specs.Prelude.{◌≡◌, length};
     ghost use Rattle.ring_protocol.specs.Reply.{correlation_id_of, spelling_of, type_id_of};
 
-    /// The type id of the message that spells the reply.
+    /// Returns the type id of the message that spells the reply.
     pub fn type_id(&self) -> i32
         ensures { result ≡ type_id_of self.now }
     {
@@ -52,7 +52,7 @@ impl Reply {
         }
     }
 
-    /// The correlation id of the command that it replies to.
+    /// Returns the correlation id of the command that it replies to.
     pub fn correlation(&self) -> u64
         ensures { result ≡ correlation_id_of self.now }
     {

@@ -47,8 +47,8 @@ fn push_stop(text: &mut String, stop: Stop, blocked_ms: Option<u64>) -> Result<(
 }
 
 impl Report {
-    /// What this look says of the consumer of a ring. `None` if nothing stops a read, or if the positions changed while
-    /// the memory was read.
+    /// Returns what this look says of the consumer of a ring. `None` if nothing stops a read, or if the positions
+    /// changed while the memory was read.
     pub fn sight(&self) -> Option<Sight>
         ensures settled { IfSome result (λ _. self.now.is_settled ≡ true) }
         ensures stops { IfSome result (λ _. is_some self.now.stop ≡ true) }

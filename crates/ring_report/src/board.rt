@@ -98,8 +98,8 @@ fn list(
 }
 
 impl Report {
-    /// What is in the words of a broadcast buffer: the current lap, or what is listed from the position that is asked
-    /// for. Its findings are as those of `of_ring`.
+    /// Returns what is in the words of a broadcast buffer: the current lap, or what is listed from the position that is
+    /// asked for. Its findings are as those of `of_ring`.
     pub fn of_board(alloc: Global, words: &[u64], view: View) -> Result<Report, AllocError> {
         let mut report = Report::empty(alloc, "board", "records");
         report.add_board(alloc, words, view)?;

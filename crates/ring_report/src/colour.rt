@@ -13,7 +13,7 @@ pub enum Colour {
 }
 
 impl Colour {
-    /// What begins a text of this colour.
+    /// Returns what begins a text of this colour.
     fn start(self) -> &'static str {
         match self {
             Colour::Plain => "",
@@ -23,7 +23,7 @@ impl Colour {
         }
     }
 
-    /// What ends a text of this colour.
+    /// Returns what ends a text of this colour.
     fn end(self) -> &'static str {
         match self {
             Colour::Plain => "",
@@ -32,7 +32,7 @@ impl Colour {
     }
 }
 
-/// The colour of a row: that of its state.
+/// Returns the colour of a row: that of its state.
 pub fn row_colour(row: &[Cell]) -> Colour {
     for cell in row {
         if let Cell::State(state) = cell {
@@ -42,7 +42,7 @@ pub fn row_colour(row: &[Cell]) -> Colour {
     Colour::Plain
 }
 
-/// The colour of a piece of a buffer.
+/// Returns the colour of a piece of a buffer.
 fn piece_colour(piece: char) -> Colour {
     match piece {
         '=' => Colour::Green,

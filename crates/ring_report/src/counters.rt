@@ -55,7 +55,7 @@ fn state_of(state: CounterState) -> State {
     }
 }
 
-/// How many bytes there are up to the last one that is not 0.
+/// Returns how many bytes there are up to the last one that is not 0.
 fn used_len(bytes: &[u8]) -> usize {
     let mut len = 0;
     for (k, byte) in bytes.iter().enumerate() {
@@ -66,14 +66,14 @@ fn used_len(bytes: &[u8]) -> usize {
     len
 }
 
-/// A key without the zeros at its end: memory does not say how long it is.
+/// Returns a key without the zeros at its end: memory does not say how long it is.
 fn key_cell(alloc: Global, bodies: Bodies, key: Body<'_>) -> Result<Cell, AllocError> {
     let bytes: Vec<u8> = key.collect(alloc)?;
     let len = used_len(bytes.as_slice()).min(bytes.len());
     bodies::cell(alloc, bodies, &bytes[..len])
 }
 
-/// The moment from which an id may be given again, of one that was freed.
+/// Returns the moment from which an id may be given again, of one that was freed.
 fn deadline_cell(deadline: u64) -> Cell {
     if deadline == NOT_FREE_FOR_REUSE {
         Cell::Nothing
@@ -87,7 +87,8 @@ fn label_cell(alloc: Global, label: Body<'_>) -> Result<Cell, AllocError> {
     bodies::cell(alloc, Bodies::Text, bytes.as_slice())
 }
 
-/// The cells of its value record: its value, its registration id and its owner; nothing if the values are not known.
+/// Returns the cells of its value record: its value, its registration id and its owner; nothing if the values are not
+/// known.
 fn value_cells(counter: &Counter<'_>, has_values: bool) -> (Cell, Cell, Cell) {
     if !has_values {
         return (Cell::Nothing, Cell::Nothing, Cell::Nothing);
@@ -155,8 +156,8 @@ const PACKED_WORDS: usize = 3;
 /// The words of a counter's metadata.
 const METADATA_WORDS: usize = 64;
 
-/// The value records with the words that are always 0 added to each, if they are of a program that runs; otherwise as
-/// they are.
+/// Returns the value records with the words that are always 0 added to each, if they are of a program that runs;
+/// otherwise as they are.
 fn spread(alloc: Global, ids: usize, values: &[u64]) -> Result<Vec<u64>, AllocError> {
     if values.len() / PACKED_WORDS != ids || values.len() % PACKED_WORDS != 0 {
         return Vec::from_slice(alloc, values);
@@ -170,10 +171,10 @@ fn spread(alloc: Global, ids: usize, values: &[u64]) -> Result<Vec<u64>, AllocEr
 }
 
 impl Report {
-    /// What is in the words of counters, their metadata and their values, from the first id on, or from the one that
-    /// is asked for. The records of values have 16 words each, or the three that a program which runs keeps of each;
-    /// `None` if it is not known where they are. Words that are not those of counters, and ids with a record that no
-    /// counter has, are its findings.
+    /// Returns what is in the words of counters, their metadata and their values, from the first id on, or from the one
+    /// that is asked for. The records of values have 16 words each, or the three that a program which runs keeps of
+    /// each; `None` if it is not known where they are. Words that are not those of counters, and ids with a record that
+    /// no counter has, are its findings.
     pub fn of_counters(
         alloc: Global,
         metadata: &[u64],

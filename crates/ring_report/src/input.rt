@@ -100,7 +100,7 @@ fn read_bytes<R: Read>(
     }
 }
 
-/// The words of these bytes, little-endian. `NotWords` if the last one is not whole.
+/// Returns the words of these bytes, little-endian. `NotWords` if the last one is not whole.
 pub fn words_of_bytes(alloc: Global, bytes: &[u8]) -> Result<Vec<u64>, Cause> {
     if bytes.len() % 8 != 0 {
         return Err(Cause::NotWords);
@@ -160,7 +160,7 @@ fn read_input<R: AllocGlobal + Input>(
     read_bytes(bytes, &mut reader, section.length, limit)
 }
 
-/// The words of a section that has at most `limit` bytes, as those of `section_words`.
+/// Returns the words of a section that has at most `limit` bytes, as those of `section_words`.
 pub fn words_of<R: AllocGlobal + Files + Input>(
     rt: &R,
     section: Section<'_>,
@@ -175,7 +175,7 @@ pub fn words_of<R: AllocGlobal + Files + Input>(
     words_of_bytes(rt.alloc(), bytes.as_slice())
 }
 
-/// The words of a section of a file or of standard input, little-endian. A file that can seek is read from the
+/// Returns the words of a section of a file or of standard input, little-endian. A file that can seek is read from the
 /// section's begin on, so that `/proc/PID/mem` can be read.
 ///
 /// The fault names the file and the cause: `Unopened` if it cannot be opened, `Unread` if a read fails, `TooLarge` if

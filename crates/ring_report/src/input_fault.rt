@@ -27,7 +27,7 @@ pub struct InputFault<'a> {
     pub cause: Cause,
 }
 
-/// What the system said, as people say it.
+/// Returns what the system said, as people say it.
 pub fn reason(kind: ErrorKind) -> &'static str {
     match kind {
         ErrorKind::NotFound => "no such file",
@@ -39,7 +39,7 @@ pub fn reason(kind: ErrorKind) -> &'static str {
 }
 
 impl Cause {
-    /// What is said before the name of the file, and after it.
+    /// Returns what is said before the name of the file, and after it.
     fn around(self) -> (&'static str, &'static str) {
         match self {
             Cause::Unopened(kind) => ("cannot open ", reason(kind)),

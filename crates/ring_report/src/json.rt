@@ -69,14 +69,14 @@ fn add_fields(
     Ok(())
 }
 
-/// An object with the fields.
+/// Returns an object with the fields.
 fn object_of(alloc: Global, fields: &[Field]) -> Result<Value, AllocError> {
     let mut object = Map::new(alloc);
     add_fields(&mut object, alloc, fields)?;
     Ok(Value::from(object))
 }
 
-/// A number, or `null`.
+/// Returns a number, or `null`.
 fn number_value(number: Option<u64>) -> Value {
     number.map_or(Value::Null, Value::from)
 }
@@ -109,15 +109,16 @@ fn add_origin(
 }
 
 impl Report {
-    /// The report as an object of JSON, on lines of its own: what it is and from where, its fields and details, how
-    /// many of each kind there are, the list, how many rows were left out, and the findings.
+    /// Returns the report as an object of JSON, on lines of its own: what it is and from where, its fields and details,
+    /// how many of each kind there are, the list, how many rows were left out, and the findings.
     pub fn to_json(&self, alloc: Global, origin: Option<Origin<'_>>) -> Result<String, AllocError> {
         let mut text = self.object(alloc, origin)?.to_string_pretty(alloc)?;
         text.push('\n')?;
         Ok(text)
     }
 
-    /// The same object with members of a caller, which are texts, on one line: the form of one document of several.
+    /// Returns the same object with members of a caller, which are texts, on one line: the form of one document of
+    /// several.
     pub fn to_json_line(
         &self,
         alloc: Global,

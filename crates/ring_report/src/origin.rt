@@ -18,14 +18,14 @@ fn is_number(text: &str) -> bool {
     !text.is_empty() && text.bytes().all(|byte| byte.is_ascii_digit())
 }
 
-/// The number of the process whose memory a file is, if it is one's.
+/// Returns the number of the process whose memory a file is, if it is one's.
 pub fn process_of(file: &str) -> Option<&str> {
     let pid = file.strip_prefix("/proc/")?.strip_suffix("/mem")?;
     if is_number(pid) { Some(pid) } else { None }
 }
 
 impl<'a> Origin<'a> {
-    /// What the file is, `pid` or `file`, and its number or its name.
+    /// Returns what the file is, `pid` or `file`, and its number or its name.
     pub(crate) fn source(self) -> (&'static str, &'a str) {
         match process_of(self.file) {
             Some(pid) => ("pid", pid),
@@ -48,7 +48,7 @@ impl<'a> Origin<'a> {
     }
 }
 
-/// How a letter of a label's value is escaped, if it is.
+/// Returns how a letter of a label's value is escaped, if it is.
 fn escaped(letter: char) -> Option<&'static str> {
     match letter {
         '\\' => Some("\\\\"),

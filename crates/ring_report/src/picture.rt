@@ -40,7 +40,7 @@ pub struct Picture {
 }
 
 impl Picture {
-    /// A buffer with nothing in it, in at most `width` pieces.
+    /// Returns a buffer with nothing in it, in at most `width` pieces.
     pub fn new(capacity: u32, width: u32) -> Picture {
         Picture {
             capacity,
@@ -49,7 +49,7 @@ impl Picture {
         }
     }
 
-    /// The piece of a byte index.
+    /// Returns the piece of a byte index.
     fn piece(&self, index: u64) -> usize {
         let capacity = u64::from(self.capacity.max(1));
         (index.min(capacity) * u64::from(self.width) / capacity) as usize

@@ -122,14 +122,14 @@ static METRICS: [Metric; 11] = [
     },
 ];
 
-/// The bytes that are claimed and not yet read. `None` if the positions make no sense.
+/// Returns the bytes that are claimed and not yet read. `None` if the positions make no sense.
 fn used(report: &Report) -> Option<u64> {
     let capacity = report.number("capacity")?;
     let free = number(report.details.as_slice(), "free")?;
     Some(capacity.saturating_sub(free))
 }
 
-/// A number of a report.
+/// Returns a number of a report.
 fn number_of(report: &Report, wanted: Number) -> Option<u64> {
     match wanted {
         Number::Field(name) => report.number(name),
@@ -142,8 +142,8 @@ fn number_of(report: &Report, wanted: Number) -> Option<u64> {
 }
 
 impl Metric {
-    /// The number that a report has of this metric, if it has one. Memory that is not what it was said to be has no
-    /// number but that of its findings.
+    /// Returns the number that a report has of this metric, if it has one. Memory that is not what it was said to be
+    /// has no number but that of its findings.
     fn number_in(&self, report: &Report) -> Option<u64> {
         if self.of.is_empty() {
             return number_of(report, self.number);
@@ -154,7 +154,7 @@ impl Metric {
         number_of(report, self.number)
     }
 
-    /// The lines that come before the first sample.
+    /// Returns the lines that come before the first sample.
     fn push_head(&self, text: &mut String) -> Result<(), AllocError> {
         let Metric {
             name,
@@ -168,7 +168,7 @@ impl Metric {
         )
     }
 
-    /// The line of a sample. Times are in seconds.
+    /// Returns the line of a sample. Times are in seconds.
     fn push_sample(
         &self,
         text: &mut String,
@@ -187,7 +187,7 @@ impl Metric {
         }
     }
 
-    /// The lines of this metric in all reports that have it.
+    /// Returns the lines of this metric in all reports that have it.
     fn push_all(&self, text: &mut String, reports: &[Labelled<'_>]) -> Result<(), AllocError> {
         let mut is_first = true;
         for labelled in reports {
@@ -203,7 +203,7 @@ impl Metric {
     }
 }
 
-/// The line of a counter in use whose value is known.
+/// Returns the line of a counter in use whose value is known.
 fn push_counter(
     text: &mut String,
     origin: Option<Origin<'_>>,
@@ -233,7 +233,7 @@ fn push_counter(
     writeln!(text, "\",owner=\"{owner}\"}} {value}")
 }
 
-/// The lines of the counters in use of all reports that have counters.
+/// Returns the lines of the counters in use of all reports that have counters.
 fn push_counters(text: &mut String, reports: &[Labelled<'_>]) -> Result<(), AllocError> {
     text.push_str(
         "\

@@ -3,13 +3,14 @@ use crate::report::{Cell, Report, number};
 use std::alloc::{AllocError, Global};
 use std::fmt::Write;
 
-/// The change of a number in a second, if it changed so much in some milliseconds. A number that fell does not count.
+/// Returns the change of a number in a second, if it changed so much in some milliseconds. A number that fell does not
+/// count.
 fn per_second(before: Option<u64>, after: Option<u64>, millis: u64) -> u64 {
     let (before, after) = (before.unwrap_or(0), after.unwrap_or(0));
     after.saturating_sub(before).saturating_mul(1000) / millis.max(1)
 }
 
-/// The id and the value of a counter.
+/// Returns the id and the value of a counter.
 fn value_of(row: &[Cell]) -> Option<(u64, i64)> {
     match row {
         [Cell::Unsigned(id), _, _, Cell::Signed(value), ..] => Some((*id, *value)),
@@ -17,7 +18,7 @@ fn value_of(row: &[Cell]) -> Option<(u64, i64)> {
     }
 }
 
-/// The value that a counter had.
+/// Returns the value that a counter had.
 fn value_in(report: &Report, wanted: u64) -> Option<i64> {
     for row in report.rows.iter() {
         if let Some((id, value)) = value_of(row.as_slice()) {
@@ -64,8 +65,8 @@ fn push_rate(
     write!(text, "  {what} {rate}")
 }
 
-/// How many messages a report counts: of a ring the committed and the open ones, of a broadcast buffer the valid and
-/// the lapped ones.
+/// Returns how many messages a report counts: of a ring the committed and the open ones, of a broadcast buffer the
+/// valid and the lapped ones.
 fn messages(report: &Report) -> u64 {
     let counts = report.counts.as_slice();
     let whole = number(counts, "committed").or(number(counts, "valid"));
@@ -117,10 +118,10 @@ fn push_board(
 }
 
 impl Report {
-    /// How fast it changed since an earlier report of the same memory, some milliseconds before, in one line: the bytes
-    /// that were written and read in a second and the correlation ids that were drawn, the bytes that were transmitted,
-    /// or the change of each counter. Of a ring and a broadcast buffer also about how many messages that were: memory
-    /// counts none, so those that lie there are taken as a sample.
+    /// Returns how fast it changed since an earlier report of the same memory, some milliseconds before, in one line:
+    /// the bytes that were written and read in a second and the correlation ids that were drawn, the bytes that were
+    /// transmitted, or the change of each counter. Of a ring and a broadcast buffer also about how many messages that
+    /// were: memory counts none, so those that lie there are taken as a sample.
     pub fn rates_since(
         &self,
         alloc: Global,

@@ -223,7 +223,7 @@ impl Listed {
         Ok(())
     }
 
-    /// The number of records that were added.
+    /// Returns the number of records that were added.
     pub fn tally(&self) -> Tally {
         self.tally
     }

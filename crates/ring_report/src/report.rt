@@ -29,7 +29,7 @@ pub struct Field {
 }
 
 impl Field {
-    /// A number with this name.
+    /// Returns a number with this name.
     pub(crate) fn new(name: &'static str, value: u64) -> Field {
         Field {
             name,
@@ -84,12 +84,12 @@ pub struct Report {
 }
 
 impl Report {
-    /// The number of the whole with this name, if there is one.
+    /// Returns the number of the whole with this name, if there is one.
     pub fn number(&self, name: &str) -> Option<u64> {
         number(self.fields.as_slice(), name)
     }
 
-    /// A report of this kind with nothing in it, and with a list of this name.
+    /// Returns a report of this kind with nothing in it, and with a list of this name.
     pub(crate) fn empty(alloc: Global, kind: &'static str, list: &'static str) -> Report {
         Report {
             kind,
@@ -141,7 +141,7 @@ pub(crate) fn add_finding<F: Display + Drop>(
     Ok(())
 }
 
-/// The number with this name, if there is one.
+/// Returns the number with this name, if there is one.
 pub(crate) fn number(fields: &[Field], name: &str) -> Option<u64> {
     for field in fields {
         if field.name == name {

@@ -37,7 +37,7 @@ impl<'a> From<Record<'a>> for Shown<'a> {
     }
 }
 
-/// How many bytes are free: `None` if head and tail make no sense.
+/// Returns how many bytes are free: `None` if head and tail make no sense.
 fn free(ring: &RingSnapshot<'_>) -> Option<u64> {
     let used = ring.tail().checked_sub(ring.head())?;
     u64::from(ring.capacity()).checked_sub(used)
@@ -113,8 +113,8 @@ fn list(
 }
 
 impl Report {
-    /// What is in the words of a ring, from its head on, or from the position that is asked for. Words that are not
-    /// those of a ring, positions that make no sense, and what is wrong with the records are its findings.
+    /// Returns what is in the words of a ring, from its head on, or from the position that is asked for. Words that are
+    /// not those of a ring, positions that make no sense, and what is wrong with the records are its findings.
     pub fn of_ring(alloc: Global, words: &[u64], view: View) -> Result<Report, AllocError> {
         let mut report = Report::empty(alloc, "ring", "records");
         report.add_ring(alloc, words, view)?;

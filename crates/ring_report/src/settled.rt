@@ -21,7 +21,7 @@ pub struct Words {
     pub is_settled: bool,
 }
 
-/// The positions of a ring or a broadcast buffer, between which its records are. `None` for other words.
+/// Returns the positions of a ring or a broadcast buffer, between which its records are. `None` for other words.
 fn positions(words: &[u64], is_ring: bool) -> Option<(u64, u64)> {
     if is_ring {
         let ring = RingSnapshot::new(words).ok()?;
@@ -32,9 +32,9 @@ fn positions(words: &[u64], is_ring: bool) -> Option<(u64, u64)> {
     }
 }
 
-/// The words of a ring or a broadcast buffer. Each read ends with the trailer, so two in a row with the same positions
-/// show that these did not change during the second. It is read up to three times more until they do. Standard input is
-/// read once.
+/// Returns the words of a ring or a broadcast buffer. Each read ends with the trailer, so two in a row with the same
+/// positions show that these did not change during the second. It is read up to three times more until they do.
+/// Standard input is read once.
 pub fn settled_words<'a, R: AllocGlobal + Files + Input>(
     rt: &R,
     section: Section<'a>,
@@ -74,7 +74,7 @@ fn add_bodies<'a, R: AllocGlobal + Files + Input>(
     Ok(())
 }
 
-/// The positions of a ring that are now in a section.
+/// Returns the positions of a ring that are now in a section.
 fn positions_in<'a, R: AllocGlobal + Files + Input>(
     rt: &R,
     section: Section<'a>,
@@ -83,8 +83,8 @@ fn positions_in<'a, R: AllocGlobal + Files + Input>(
     Ok(positions(words.as_slice(), true))
 }
 
-/// The words of a ring whose bodies lie apart, as those of `settled_words`. Bodies are read after the words, so that
-/// what is shown as committed was whole, and both between two looks at the positions.
+/// Returns the words of a ring whose bodies lie apart, as those of `settled_words`. Bodies are read after the words, so
+/// that what is shown as committed was whole, and both between two looks at the positions.
 fn joined_words<'a, R: AllocGlobal + Files + Input>(
     rt: &R,
     section: Section<'a>,
@@ -106,7 +106,7 @@ fn joined_words<'a, R: AllocGlobal + Files + Input>(
     Ok(Words { words, is_settled })
 }
 
-/// The words of a ring, in the format: with its bodies, if these lie apart.
+/// Returns the words of a ring, in the format: with its bodies, if these lie apart.
 pub fn ring_words<'a, R: AllocGlobal + Files + Input>(
     rt: &R,
     section: Section<'a>,
@@ -118,8 +118,8 @@ pub fn ring_words<'a, R: AllocGlobal + Files + Input>(
     }
 }
 
-/// A report of words, and whether they are settled. Words that are not settled can be of different moments, so that
-/// what looks wrong with them is no finding.
+/// Returns a report of words, and whether they are settled. Words that are not settled can be of different moments, so
+/// that what looks wrong with them is no finding.
 pub fn note_settled(
     report: Result<Report, AllocError>,
     is_settled: bool,
@@ -135,8 +135,8 @@ pub fn note_settled(
     Ok(report)
 }
 
-/// The words of memory with each header as the format has it. A ring whose bodies lie apart is listed by these, without
-/// its bodies; and so is one whose bodies do not.
+/// Returns the words of memory with each header as the format has it. A ring whose bodies lie apart is listed by these,
+/// without its bodies; and so is one whose bodies do not.
 pub fn formatted_words(alloc: Global, words: &[u64]) -> Result<Vec<u64>, AllocError> {
     let mut formatted = Vec::new(alloc);
     for word in words {

@@ -56,7 +56,7 @@ impl State {
         }
     }
 
-    /// What a piece of the buffer is shown as that has a record of this state.
+    /// Returns what a piece of the buffer is shown as that has a record of this state.
     pub(crate) fn mark(self) -> Mark {
         match self {
             State::Open => Mark::Open,

@@ -4,12 +4,12 @@ use crate::report::{Cell, Column, Field, Report};
 use std::alloc::{AllocError, Global};
 use std::fmt::Write;
 
-/// How many characters a number has.
+/// Returns how many characters a number has.
 fn digits(value: u64) -> usize {
     value.checked_ilog10().unwrap_or(0) as usize + 1
 }
 
-/// How many characters a value has.
+/// Returns how many characters a value has.
 fn cell_len(cell: &Cell) -> usize {
     match cell {
         Cell::Nothing => 0,
@@ -39,7 +39,8 @@ fn push_spaces(text: &mut String, count: usize) -> Result<(), AllocError> {
     Ok(())
 }
 
-/// How many spaces are before and after a text of this many characters, with which its column and two spaces are full.
+/// Returns how many spaces are before and after a text of this many characters, with which its column and two spaces
+/// are full.
 fn spaces(column: &Column, len: usize, width: usize) -> (usize, usize) {
     let spaces = width.saturating_sub(len);
     if column.is_number {
@@ -80,7 +81,7 @@ fn push_field(text: &mut String, field: &Field) -> Result<(), AllocError> {
 }
 
 impl Report {
-    /// The width of a column: that of its name or of its longest value.
+    /// Returns the width of a column: that of its name or of its longest value.
     fn width(&self, column: usize, name: &str) -> usize {
         let mut width = name.len();
         for row in self.rows.iter() {
@@ -91,7 +92,7 @@ impl Report {
         width
     }
 
-    /// How wide each column is.
+    /// Returns how wide each column is.
     fn widths(&self, alloc: Global) -> Result<Vec<usize>, AllocError> {
         let mut widths = Vec::new(alloc);
         for (k, column) in self.columns.iter().enumerate() {
@@ -160,14 +161,14 @@ impl Report {
         text.push('\n')
     }
 
-    /// The report as a table: a line of what holds of the whole, the picture of a buffer, the list with the names of
-    /// its columns, how many rows were left out, and the summary. The findings are not in it.
+    /// Returns the report as a table: a line of what holds of the whole, the picture of a buffer, the list with the
+    /// names of its columns, how many rows were left out, and the summary. The findings are not in it.
     pub fn to_table(&self, alloc: Global) -> Result<String, AllocError> {
         self.table(alloc, false)
     }
 
-    /// The table with colours, for a terminal: open records and headers that are not yet stored in yellow, aborted and
-    /// lapped records and freed counters dimmed, and in the picture messages in green.
+    /// Returns the table with colours, for a terminal: open records and headers that are not yet stored in yellow,
+    /// aborted and lapped records and freed counters dimmed, and in the picture messages in green.
     pub fn to_colored_table(&self, alloc: Global) -> Result<String, AllocError> {
         self.table(alloc, true)
     }
@@ -216,7 +217,7 @@ impl Report {
         text.push('\n')
     }
 
-    /// The report as a table, with colours or without.
+    /// Returns the report as a table, with colours or without.
     fn table(&self, alloc: Global, is_colored: bool) -> Result<String, AllocError> {
         let mut text = String::new(alloc);
         self.push_table(alloc, &mut text, is_colored)?;

@@ -102,7 +102,7 @@ fn run_file<R: AllocGlobal + Files + Print + Eprint + Threads + Wait>(
     }
 }
 
-/// The words of the command line. Returns `None` if one of them is not UTF-8.
+/// Returns the words of the command line. Returns `None` if one of them is not UTF-8.
 fn words_of<R: AllocGlobal + Env>(rt: &R) -> Result<Option<Vec<String>>, RunFault> {
     match env::args(rt) {
         Ok(arguments) => Ok(Some(arguments.collect(rt.alloc())?)),

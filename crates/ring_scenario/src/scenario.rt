@@ -222,7 +222,7 @@ fn write_finished<O: Write>(alloc: Global, served: &Served, writer: &mut O) -> R
     write_text(writer, text.as_str())
 }
 
-/// The number of counters in use.
+/// Returns the number of counters in use.
 fn count_live(counters: &CountersManager) -> usize
     ensures { result ≡ length (live_of (registry_of counters.now)) }
 {

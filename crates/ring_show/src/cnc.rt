@@ -25,7 +25,7 @@ struct Lengths {
 }
 
 impl Lengths {
-    /// The bytes of the header and of all parts.
+    /// Returns the bytes of the header and of all parts.
     fn end(self) -> u64 {
         HEADER
             .saturating_add(self.ring)
@@ -35,7 +35,7 @@ impl Lengths {
     }
 }
 
-/// The lengths that a header has. `NotCnc` if the version is not understood.
+/// Returns the lengths that a header has. `NotCnc` if the version is not understood.
 fn lengths_of(header: &[u64]) -> Result<Lengths, ShowFault<'static>> {
     let [first, second, third, ..] = header else {
         return Err(ShowFault::NotCnc);
@@ -51,7 +51,7 @@ fn lengths_of(header: &[u64]) -> Result<Lengths, ShowFault<'static>> {
     })
 }
 
-/// The lengths of a file's parts. `NotCnc` if the file is shorter than they say.
+/// Returns the lengths of a file's parts. `NotCnc` if the file is shorter than they say.
 fn parts_of<'a, R: AllocGlobal + Files + Input>(
     rt: &R,
     file: &'a str,
@@ -71,7 +71,7 @@ fn parts_of<'a, R: AllocGlobal + Files + Input>(
     }
 }
 
-/// A part of a file.
+/// Returns a part of a file.
 fn part(file: &str, at: u64, length: u64) -> Section<'_> {
     Section {
         file,
@@ -87,7 +87,7 @@ struct Shown {
     at: u64,
 }
 
-/// The report of the ring, or of the broadcast buffer.
+/// Returns the report of the ring, or of the broadcast buffer.
 fn buffer_of<'a, R: AllocGlobal + Files + Input>(
     rt: &R,
     section: Section<'a>,
@@ -125,7 +125,7 @@ fn add_reports<'a, R: AllocGlobal + Files + Input>(
     Ok(())
 }
 
-/// The metrics of all reports.
+/// Returns the metrics of all reports.
 fn metrics(alloc: Global, file: &str, shown: &[Shown]) -> Result<String, AllocError> {
     let mut labelled = Vec::new(alloc);
     for it in shown {
@@ -134,7 +134,7 @@ fn metrics(alloc: Global, file: &str, shown: &[Shown]) -> Result<String, AllocEr
     to_prometheus(alloc, labelled.as_slice())
 }
 
-/// A report from its place in the file.
+/// Returns a report from its place in the file.
 fn labelled_of<'a>(file: &'a str, shown: &'a Shown) -> Labelled<'a> {
     Labelled {
         report: &shown.report,

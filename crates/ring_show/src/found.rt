@@ -23,7 +23,7 @@ impl Kind {
         }
     }
 
-    /// The bytes after the buffer.
+    /// Returns the bytes after the buffer.
     pub fn trailer(self) -> u64 {
         match self {
             Kind::Ring => 768,
@@ -63,7 +63,7 @@ pub struct Found {
 }
 
 impl Found {
-    /// The address after its buffer.
+    /// Returns the address after its buffer.
     pub fn end(self) -> u64 {
         self.address.saturating_add(self.capacity)
     }
@@ -82,7 +82,7 @@ impl Found {
         }
     }
 
-    /// How sure it is that this is what it is taken for, by its report.
+    /// Returns how sure it is that this is what it is taken for, by its report.
     pub fn sureness(self, report: &Report) -> &'static str {
         if self.is_known {
             return "sure";

@@ -29,7 +29,7 @@ pub struct Pieces<'a> {
 }
 
 impl<'a> Pieces<'a> {
-    /// The words at an address, if they can be read.
+    /// Returns the words at an address, if they can be read.
     fn words<R: AllocGlobal + Files + Input>(
         self,
         rt: &R,
@@ -58,7 +58,7 @@ fn is_trailer(kind: Kind, capacity: u64, words: &[u64]) -> bool {
     is_clear && first % 8 == 0 && second % 8 == 0 && first.abs_diff(second) <= capacity.min(MOST)
 }
 
-/// The ring or the broadcast buffer that a table names, if it is there.
+/// Returns the ring or the broadcast buffer that a table names, if it is there.
 fn known_at<R: AllocGlobal + Files + Input>(
     rt: &R,
     pieces: Pieces<'_>,
@@ -114,7 +114,7 @@ fn add_known<R: AllocGlobal + Files + Input>(
     Ok(())
 }
 
-/// The addresses after the buffers, in order.
+/// Returns the addresses after the buffers, in order.
 fn ends(alloc: Global, found: &[Found]) -> Result<Vec<u64>, AllocError> {
     let mut ends = Vec::new(alloc);
     for it in found {
@@ -130,7 +130,7 @@ fn has(ends: &[u64], address: u64) -> bool {
     ends.get(after).copied() == Some(address)
 }
 
-/// The counters that a program keeps, if these are of them.
+/// Returns the counters that a program keeps, if these are of them.
 fn counters_of(pieces: Pieces<'_>, registries: &[Registry], address: u64) -> Option<Found> {
     let after = registries.partition_point(|it| it.metadata <= address);
     let registry = registries.get(after.checked_sub(1)?)?;
@@ -174,7 +174,7 @@ fn add_counters(
     Ok(())
 }
 
-/// The buffers that end with the trailer after this many bytes of these words.
+/// Returns the buffers that end with the trailer after this many bytes of these words.
 fn fits_in(alloc: Global, kind: Kind, words: &[u64], before: u64) -> Option<Fits> {
     let index = (before / 8) as usize;
     if kind != Kind::Ring {
@@ -184,7 +184,7 @@ fn fits_in(alloc: Global, kind: Kind, words: &[u64], before: u64) -> Option<Fits
     Some(fits_at(kind, formatted.as_slice(), index))
 }
 
-/// The buffers that end with a trailer, by the memory as it is now.
+/// Returns the buffers that end with a trailer, by the memory as it is now.
 fn fits_now<R: AllocGlobal + Files + Input>(
     rt: &R,
     pieces: Pieces<'_>,
@@ -216,7 +216,7 @@ fn has_changed<R: AllocGlobal + Files + Input>(
     }
 }
 
-/// The buffer that ends with a trailer, looked for again and again.
+/// Returns the buffer that ends with a trailer, looked for again and again.
 fn look_again<R: AllocGlobal + Clock + Files + Input>(
     rt: &R,
     pieces: Pieces<'_>,

@@ -16,12 +16,12 @@ pub struct Look {
     pub end: Instant,
 }
 
-/// The time, by the clock that never goes back. `NoClock` if it cannot be read.
+/// Returns the time, by the clock that never goes back. `NoClock` if it cannot be read.
 pub fn now(rt: &impl Clock) -> Result<Instant, ShowFault<'static>> {
     Instant::now(rt).or(Err(ShowFault::NoClock))
 }
 
-/// A time in milliseconds.
+/// Returns a time in milliseconds.
 pub fn millis(time: Duration) -> u64 {
     u64::try_from(time.as_millis()).unwrap_or(u64::MAX)
 }

@@ -54,7 +54,7 @@ fn failed(rt: &impl Eprint, fault: ShowFault<'_>) -> ExitCode {
     ExitCode::from(FAULT)
 }
 
-/// The words of the command line.
+/// Returns the words of the command line.
 fn words_of<R: AllocGlobal + Env>(rt: &R) -> Result<Vec<String>, ShowFault<'static>> {
     match env::args(rt) {
         Ok(arguments) => Ok(arguments.collect(rt.alloc())?),

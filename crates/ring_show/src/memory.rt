@@ -17,7 +17,7 @@ pub struct Region {
     pub length: u64,
 }
 
-/// The piece that a line of `/proc/PID/maps` names, if the program can write it.
+/// Returns the piece that a line of `/proc/PID/maps` names, if the program can write it.
 fn mapped(line: &str) -> Option<Region> {
     let (range, rest) = line.split_once(' ')?;
     let (start, end) = range.split_once('-')?;
@@ -87,7 +87,7 @@ const HEADER: u64 = 64;
 /// The bytes of a program header.
 const PROGRAM_HEADER: u64 = 56;
 
-/// The piece of memory that a program header of a core file names, if it is one that the program could write.
+/// Returns the piece of memory that a program header of a core file names, if it is one that the program could write.
 fn loaded(header: &[u64]) -> Option<Region> {
     let [flags, at, address, _, length, ..] = header else {
         return None;
@@ -118,7 +118,7 @@ fn program_headers<'a>(file: &'a str, head: &[u64]) -> Option<Section<'a>> {
     })
 }
 
-/// The first words of a file.
+/// Returns the first words of a file.
 fn head_of<'a, R: AllocGlobal + Files + Input>(
     rt: &R,
     file: &'a str,
@@ -131,8 +131,8 @@ fn head_of<'a, R: AllocGlobal + Files + Input>(
     section_words(rt, section)
 }
 
-/// A piece of memory as far as the file goes. In a core file no byte of the file is in two pieces, so that all pieces
-/// together have at most as many bytes as the file: `left` of them are not in an earlier one.
+/// Returns a piece of memory as far as the file goes. In a core file no byte of the file is in two pieces, so that all
+/// pieces together have at most as many bytes as the file: `left` of them are not in an earlier one.
 fn bounded(region: Region, file: u64, left: u64) -> Region {
     Region {
         address: region.address,
@@ -157,7 +157,7 @@ fn add_loaded(regions: &mut Vec<Region>, headers: &[u64], file: u64) -> Result<(
     Ok(())
 }
 
-/// The bytes of a file, 0 if it does not say.
+/// Returns the bytes of a file, 0 if it does not say.
 fn length_of<R: AllocGlobal + Files>(rt: &R, file: &str) -> u64 {
     match fs::metadata(rt, file) {
         Ok(metadata) => metadata.len(),
@@ -184,7 +184,7 @@ fn add_file<'a, R: AllocGlobal + Files + Input>(
     Ok(add_loaded(regions, headers.as_slice(), length)?)
 }
 
-/// The number of the process that a name means: the number itself, or the name of the file with its memory.
+/// Returns the number of the process that a name means: the number itself, or the name of the file with its memory.
 pub fn pid_of(name: &str) -> Option<&str> {
     if !name.is_empty() && name.bytes().all(|byte| byte.is_ascii_digit()) {
         Some(name)
@@ -193,7 +193,7 @@ pub fn pid_of(name: &str) -> Option<&str> {
     }
 }
 
-/// The file that has the memory of a process, if the name means one, otherwise the one with this name.
+/// Returns the file that has the memory of a process, if the name means one, otherwise the one with this name.
 pub fn file_of(alloc: Global, name: &str) -> Result<String, AllocError> {
     match pid_of(name) {
         Some(pid) => format!(in alloc; "/proc/{pid}/mem"),

@@ -25,7 +25,7 @@ pub enum Subject<'a> {
 }
 
 impl<'a> Subject<'a> {
-    /// The section with its words, or with the metadata of counters.
+    /// Returns the section with its words, or with the metadata of counters.
     fn section(self) -> Section<'a> {
         match self {
             Subject::Ring { words, .. } => words,
@@ -80,7 +80,7 @@ pub struct Options<'a> {
 }
 
 impl<'a> Options<'a> {
-    /// The file and the place of it.
+    /// Returns the file and the place of it.
     pub fn origin(self) -> Origin<'a> {
         let Section { file, at, .. } = self.subject.section();
         Origin {
@@ -129,7 +129,7 @@ static SUBCOMMANDS: [(&str, &str); 6] = [
     ),
 ];
 
-/// A subcommand with its arguments.
+/// Returns a subcommand with its arguments.
 fn subcommand<'a>(alloc: Global, name: &'a str, about: &'a str) -> Result<Command<'a>, AllocError> {
     let mut command = Command::new(alloc, name).about(about);
     for argument in ARGUMENTS.iter() {
@@ -140,7 +140,7 @@ fn subcommand<'a>(alloc: Global, name: &'a str, about: &'a str) -> Result<Comman
     Ok(command)
 }
 
-/// The command without its subcommands.
+/// Returns the command without its subcommands.
 fn bare<'a>(alloc: Global) -> Result<Command<'a>, AllocError> {
     let command = Command::new(alloc, "ring-show").bin_name("ring-show")?;
     let command = command.version(help::VERSION).about(help::ABOUT);
@@ -156,7 +156,7 @@ fn command<'a>(alloc: Global) -> Result<Command<'a>, AllocError> {
     Ok(command)
 }
 
-/// The name of the subcommand, and its arguments, from the words of a command line, the program's name first.
+/// Returns the name of the subcommand, and its arguments, from the words of a command line, the program's name first.
 pub fn parse<'a>(alloc: Global, words: &'a [String]) -> Result<(&'a str, ArgMatches<'a>), Error> {
     let mut matches = command(alloc)?.try_get_matches_from(words)?;
     match matches.remove_subcommand() {
@@ -165,7 +165,7 @@ pub fn parse<'a>(alloc: Global, words: &'a [String]) -> Result<(&'a str, ArgMatc
     }
 }
 
-/// The number that a text spells, decimal or hexadecimal after `0x`.
+/// Returns the number that a text spells, decimal or hexadecimal after `0x`.
 fn bytes_of(text: &str) -> Option<u64> {
     let parsed = match text.strip_prefix("0x") {
         Some(digits) => u64::from_str_radix(digits, 16),
@@ -174,7 +174,7 @@ fn bytes_of(text: &str) -> Option<u64> {
     parsed.ok()
 }
 
-/// The number of bytes that an option has, if it is there.
+/// Returns the number of bytes that an option has, if it is there.
 fn bytes<'a>(matches: &ArgMatches<'a>, name: &'static str) -> Result<Option<u64>, ShowFault<'a>> {
     let Some(text) = matches.get_str(name) else {
         return Ok(None);
@@ -188,7 +188,7 @@ fn bytes<'a>(matches: &ArgMatches<'a>, name: &'static str) -> Result<Option<u64>
     }
 }
 
-/// The section that these three arguments name.
+/// Returns the section that these three arguments name.
 fn section<'a>(
     matches: &ArgMatches<'a>,
     file: &str,
@@ -202,7 +202,7 @@ fn section<'a>(
     })
 }
 
-/// The section of the values of counters, if their file is named.
+/// Returns the section of the values of counters, if their file is named.
 fn values_of<'a>(matches: &ArgMatches<'a>) -> Result<Option<Section<'a>>, ShowFault<'a>> {
     if matches.get_str("VALUES").is_none() {
         return Ok(None);
@@ -211,7 +211,7 @@ fn values_of<'a>(matches: &ArgMatches<'a>) -> Result<Option<Section<'a>>, ShowFa
     Ok(Some(values))
 }
 
-/// A ring as a subject. `BodiesOfInput` if its bodies lie apart and it is on standard input.
+/// Returns a ring as a subject. `BodiesOfInput` if its bodies lie apart and it is on standard input.
 fn ring_of<'a>(words: Section<'a>, bodies_at: Option<u64>) -> Result<Subject<'a>, ShowFault<'a>> {
     if bodies_at.is_some() && words.file == "-" {
         return Err(ShowFault::BodiesOfInput);
@@ -219,7 +219,7 @@ fn ring_of<'a>(words: Section<'a>, bodies_at: Option<u64>) -> Result<Subject<'a>
     Ok(Subject::Ring { words, bodies_at })
 }
 
-/// The source of what a subcommand shows. `NotBytes` and `BodiesOfInput` as for `task_of`.
+/// Returns the source of what a subcommand shows. `NotBytes` and `BodiesOfInput` as for `task_of`.
 fn subject_of<'a>(name: &str, matches: &ArgMatches<'a>) -> Result<Subject<'a>, ShowFault<'a>> {
     Ok(match name {
         "board" => Subject::Board(section(matches, "FILE", "at", "length")?),
@@ -234,7 +234,7 @@ fn subject_of<'a>(name: &str, matches: &ArgMatches<'a>) -> Result<Subject<'a>, S
     })
 }
 
-/// The most pieces in which a buffer is drawn.
+/// Returns the most pieces in which a buffer is drawn.
 fn width_of(matches: &ArgMatches<'_>, screen: Screen) -> u32 {
     let width: Option<u64> = matches.get_one("width");
     match width {
@@ -243,7 +243,7 @@ fn width_of(matches: &ArgMatches<'_>, screen: Screen) -> u32 {
     }
 }
 
-/// How it is to be shown.
+/// Returns how it is to be shown.
 fn view_of(matches: &ArgMatches<'_>, screen: Screen) -> View {
     View {
         from: matches.get_one("from"),
@@ -266,8 +266,8 @@ fn format_of(matches: &ArgMatches<'_>, screen: Screen) -> Format {
     }
 }
 
-/// How many looks there are at most, if the option does not say: one, or with more than one to be taken no bound.
-/// `NoLook` if it says none.
+/// Returns how many looks there are at most, if the option does not say: one, or with more than one to be taken no
+/// bound. `NoLook` if it says none.
 fn times_of<'a>(matches: &ArgMatches<'a>, is_again: bool) -> Result<u64, ShowFault<'a>> {
     let times: Option<u64> = matches.get_one("times");
     match times {
@@ -278,7 +278,7 @@ fn times_of<'a>(matches: &ArgMatches<'a>, is_again: bool) -> Result<u64, ShowFau
     }
 }
 
-/// What the arguments of a subcommand that shows a known place ask for. The faults are as for `task_of`.
+/// Returns what the arguments of a subcommand that shows a known place ask for. The faults are as for `task_of`.
 fn options_of<'a>(
     name: &str,
     matches: &ArgMatches<'a>,
@@ -296,7 +296,7 @@ fn options_of<'a>(
     })
 }
 
-/// What `find` asks for: one round of looks, which are listed by their summaries.
+/// Returns what `find` asks for: one round of looks, which are listed by their summaries.
 fn find_wanted(matches: &ArgMatches<'_>, screen: Screen) -> Wanted {
     Wanted {
         format: format_of(matches, screen),
@@ -308,7 +308,7 @@ fn find_wanted(matches: &ArgMatches<'_>, screen: Screen) -> Wanted {
     }
 }
 
-/// What `watch` asks for. `NoLook` if it asks for none.
+/// Returns what `watch` asks for. `NoLook` if it asks for none.
 fn watch_wanted<'a>(matches: &ArgMatches<'a>, screen: Screen) -> Result<Wanted, ShowFault<'a>> {
     let (every, limit): (Option<u64>, Option<u64>) = (
         matches.get_one("every"),
@@ -324,8 +324,8 @@ fn watch_wanted<'a>(matches: &ArgMatches<'a>, screen: Screen) -> Result<Wanted, 
     })
 }
 
-/// What a subcommand's arguments ask for. `NotBytes` if an offset or a length is no number, `BodiesOfInput` if bodies
-/// that lie apart are to be read from standard input, `NoLook` if there is to be no look.
+/// Returns what a subcommand's arguments ask for. `NotBytes` if an offset or a length is no number, `BodiesOfInput` if
+/// bodies that lie apart are to be read from standard input, `NoLook` if there is to be no look.
 pub fn task_of<'a>(
     name: &str,
     matches: &ArgMatches<'a>,

@@ -18,14 +18,14 @@ pub struct Screen {
     pub width: u32,
 }
 
-/// The pieces for which a terminal has room, by the variable COLUMNS.
+/// Returns the pieces for which a terminal has room, by the variable COLUMNS.
 fn width<R: AllocGlobal + Env>(rt: &R) -> Option<u32> {
     let columns = env::var(rt, "COLUMNS").ok()?;
     let columns: u32 = columns.as_str().parse().ok()?;
     Some(columns.saturating_sub(SIGNS).max(8))
 }
 
-/// Whether the variable NO_COLOR has a value.
+/// Returns whether the variable NO_COLOR has a value.
 fn has_no_color<R: AllocGlobal + Env>(rt: &R) -> bool {
     match env::var(rt, "NO_COLOR") {
         Ok(value) => !value.is_empty(),
@@ -33,7 +33,7 @@ fn has_no_color<R: AllocGlobal + Env>(rt: &R) -> bool {
     }
 }
 
-/// What standard output is. Only a terminal has colours and a width of its own.
+/// Returns what standard output is. Only a terminal has colours and a width of its own.
 pub fn screen_of<R: AllocGlobal + Env>(rt: &R, is_terminal: bool) -> Screen {
     Screen {
         is_terminal,

@@ -32,7 +32,7 @@ struct Window<'a> {
 }
 
 impl<'a> Window<'a> {
-    /// The bytes before a word.
+    /// Returns the bytes before a word.
     fn offset(self, index: usize) -> u64 {
         (index as u64).saturating_mul(8)
     }
@@ -62,7 +62,7 @@ pub struct Search {
 }
 
 impl Search {
-    /// A search that has not begun.
+    /// Returns a search that has not begun.
     pub fn new(alloc: Global) -> Search {
         Search {
             found: Vec::new(alloc),

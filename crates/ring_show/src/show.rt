@@ -75,7 +75,7 @@ pub fn print_text(rt: &impl Print, text: &str) -> Result<(), ShowFault<'static>>
     }
 }
 
-/// The text of a report. JSON is on one line if it is one document of several.
+/// Returns the text of a report. JSON is on one line if it is one document of several.
 fn text_of(
     alloc: Global,
     labelled: Labelled<'_>,
@@ -112,7 +112,7 @@ pub fn print_report<R: AllocGlobal + Print + Eprint>(
     Ok(print_findings(rt, labelled.report))
 }
 
-/// The status of memory in which nothing, or something, is wrong.
+/// Returns the status of memory in which nothing, or something, is wrong.
 pub fn status_of(is_sound: bool) -> ExitCode {
     if is_sound {
         ExitCode::SUCCESS

@@ -52,8 +52,8 @@ fn is_size(words: u64) -> bool {
     words.is_power_of_two() && words <= MOST
 }
 
-/// The table of a ring that begins with these words, if they are one: the addresses of its words and of its bodies, the
-/// number of all its words, and that of its bodies.
+/// Returns the table of a ring that begins with these words, if they are one: the addresses of its words and of its
+/// bodies, the number of all its words, and that of its bodies.
 pub fn ring_table(words: &[u64]) -> Option<Table> {
     let [words, bodies, all, count, ..] = words else {
         return None;
@@ -71,8 +71,8 @@ pub fn ring_table(words: &[u64]) -> Option<Table> {
     })
 }
 
-/// The table of a broadcast buffer that begins with these words, if they are one: as that of a ring, but with no words
-/// for bodies.
+/// Returns the table of a broadcast buffer that begins with these words, if they are one: as that of a ring, but with
+/// no words for bodies.
 pub fn board_table(words: &[u64]) -> Option<Table> {
     let [words, _, all, 0, ..] = words else {
         return None;
@@ -88,7 +88,7 @@ pub fn board_table(words: &[u64]) -> Option<Table> {
     })
 }
 
-/// The registry of counters that begins with these words, if they are one.
+/// Returns the registry of counters that begins with these words, if they are one.
 pub fn registry_in(words: &[u64]) -> Option<Registry> {
     let [metadata, ids, room, values, second, other, flags, third, ..] = words else {
         return None;
@@ -108,12 +108,12 @@ pub fn registry_in(words: &[u64]) -> Option<Registry> {
 }
 
 impl Registry {
-    /// The bytes of the metadata.
+    /// Returns the bytes of the metadata.
     pub fn metadata_length(self) -> u64 {
         self.ids.saturating_mul(METADATA)
     }
 
-    /// The bytes of the value records.
+    /// Returns the bytes of the value records.
     pub fn values_length(self) -> u64 {
         self.ids.saturating_mul(VALUES)
     }

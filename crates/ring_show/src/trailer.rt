@@ -82,7 +82,7 @@ fn is_board(words: &[u64]) -> bool {
         && has_clear_board(words)
 }
 
-/// What ends with the trailer with which the words begin, if they begin with one.
+/// Returns what ends with the trailer with which the words begin, if they begin with one.
 pub fn kind_of(words: &[u64]) -> Option<Kind> {
     if is_ring(words) {
         Some(Kind::Ring)
@@ -119,7 +119,7 @@ fn is_one(kind: Kind, words: &[u64], index: usize, capacity: u32) -> bool {
     }
 }
 
-/// The capacities of the buffers that end with the trailer at an index. The words of rings are in the format.
+/// Returns the capacities of the buffers that end with the trailer at an index. The words of rings are in the format.
 pub fn fits_at(kind: Kind, words: &[u64], index: usize) -> Fits {
     let mut fits = Fits { largest: 0, all: 0 };
     // (capacities are powers of two, up to 2^24)
@@ -136,7 +136,7 @@ pub fn fits_at(kind: Kind, words: &[u64], index: usize) -> Fits {
 }
 
 impl Trailer {
-    /// The buffer that ends here, if one of these capacities does.
+    /// Returns the buffer that ends here, if one of these capacities does.
     pub fn found(self, fits: Fits) -> Option<Found> {
         let capacity = u64::from(fits.largest);
         if capacity == 0 {

@@ -40,7 +40,7 @@ pub struct Watched {
     before: Option<Look>,
 }
 
-/// The bytes of a file that something has.
+/// Returns the bytes of a file that something has.
 fn section(file: &str, at: u64, length: u64) -> Section<'_> {
     Section {
         file,
@@ -83,7 +83,7 @@ fn report_of<'a, R: AllocGlobal + Files + Input>(
     }
 }
 
-/// A report as an object of JSON on one line, with the command that shows it and how sure it is.
+/// Returns a report as an object of JSON on one line, with the command that shows it and how sure it is.
 fn json_line<'a>(
     alloc: Global,
     report: &Report,
@@ -95,7 +95,7 @@ fn json_line<'a>(
     report.to_json_line(alloc, origin, &members)
 }
 
-/// How something is listed: counters with the first ones, a buffer by its summary, if no limit is given.
+/// Returns how something is listed: counters with the first ones, a buffer by its summary, if no limit is given.
 fn view_of(wanted: Wanted, kind: Kind) -> View {
     let few = if kind == Kind::Counters { 8 } else { 0 };
     View {
@@ -107,7 +107,7 @@ fn view_of(wanted: Wanted, kind: Kind) -> View {
 }
 
 impl Watched {
-    /// What was found, not yet looked at.
+    /// Returns what was found, not yet looked at.
     pub fn new(found: Found) -> Watched {
         Watched {
             found,
@@ -145,7 +145,7 @@ impl Watched {
         }
     }
 
-    /// The last look, from its memory.
+    /// Returns the last look, from its memory.
     fn labelled<'a>(&'a self, file: &'a str) -> Option<Labelled<'a>> {
         let look = self.look.as_ref()?;
         Some(Labelled {
@@ -286,7 +286,7 @@ impl<'a> Round<'a> {
         Ok(())
     }
 
-    /// The text of Prometheus of all.
+    /// Returns the text of Prometheus of all.
     fn metrics(&self, alloc: Global) -> Result<String, AllocError> {
         let mut reports = Vec::new(alloc);
         for it in self.watched.iter() {
@@ -297,7 +297,7 @@ impl<'a> Round<'a> {
         to_prometheus(alloc, reports.as_slice())
     }
 
-    /// The text of all.
+    /// Returns the text of all.
     fn text(&self, alloc: Global) -> Result<String, AllocError> {
         if matches!(self.wanted.format, Format::Prometheus) {
             return self.metrics(alloc);

@@ -56,7 +56,7 @@ impl<'a> BoardSnapshot<'a> {
         Ok(BoardSnapshot { capacity, words })
     }
 
-    /// The bytes of its buffer.
+    /// Returns the bytes of its buffer.
     pub fn capacity(&self) -> u32
         ensures capacity { result ≡ self.now.capacity }
         ensures lawful { IsBoardCapacity result }
@@ -178,7 +178,7 @@ impl<'a> BoardSnapshot<'a> {
             at == latest && span == tail - at
         }
     }
-    /// What is at a position before the tail, with this intent and this place of the last record.
+    /// Returns what is at a position before the tail, with this intent and this place of the last record.
     fn entry_with(
         &self,
         intent: u64,

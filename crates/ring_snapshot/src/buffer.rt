@@ -20,7 +20,7 @@ pub trait Buffer: Drop {
     /// What is at a position, if the records end at a tail.
     ghost entry: { Self → ℕ → ℕ → Result Self.Record Self.Finding };
 
-    /// What is at a position before the tail.
+    /// Returns what is at a position before the tail.
     fn entry_at(&self, tail: u64, at: u64) -> Result<Self::Record, Self::Finding>
         requires aligned { (at % 8 ≡ 0) × (tail % 8 ≡ 0) }
         requires before { at < tail }
@@ -28,7 +28,7 @@ pub trait Buffer: Drop {
         ensures entry { result ≡ entry self.now tail at }
         ensures inside { IfOk result (λ r. at + up_to_eight (size r) < 2 ^ 64) };
 
-    /// The bytes of a record, header included.
+    /// Returns the bytes of a record, header included.
     fn length_of(own: &Self::Record) -> u32
         ensures { result ≡ size own.now };
 }

@@ -66,7 +66,7 @@ impl<'a> CountersSnapshot<'a> {
         })
     }
 
-    /// The number of ids.
+    /// Returns the number of ids.
     pub fn count(&self) -> u32
         ensures { HaveIds self.now.metadata.now self.now.values.now result }
     {
@@ -97,7 +97,7 @@ impl<'a> CountersSnapshot<'a> {
         }
     }
 
-    /// The state of a record of an id that was used. `None` if no record has it.
+    /// Returns the state of a record of an id that was used. `None` if no record has it.
     fn state_of(state: i32) -> Option<CounterState>
         ensures { result ≡ state_from state }
     {
@@ -110,7 +110,7 @@ impl<'a> CountersSnapshot<'a> {
         }
     }
 
-    /// What is in the two records of an id. `None` if the id was never used.
+    /// Returns what is in the two records of an id. `None` if the id was never used.
     fn entry(&self, id: u32) -> Option<Result<Counter<'a>, CountersFinding>>
         requires { id < self.now.ids }
         ensures { result ≡ entry_of id (drop (64 * id) self.now.metadata.now) (drop (16 * id) self.now.values.now) }
@@ -120,7 +120,7 @@ impl<'a> CountersSnapshot<'a> {
         Self::entry_in(id, metadata, values)
     }
 
-    /// What the two records of an id say, which begin with these words.
+    /// Returns what the two records of an id say, which begin with these words.
     fn entry_in(
         id: u32,
         metadata: &'a [u64],
@@ -140,7 +140,7 @@ impl<'a> CountersSnapshot<'a> {
         })
     }
 
-    /// The counter of an id whose records begin with these words, and are in this state.
+    /// Returns the counter of an id whose records begin with these words, and are in this state.
     fn counter_in(
         id: u32,
         metadata: &'a [u64],

@@ -20,7 +20,7 @@ impl<B: Buffer> Listing<B> {
     ghost use Rattle.ring_snapshot.specs.Listing.{left_of, listed_by};
     ghost use Rattle.ring_snapshot.specs.Search.{all_ok};
 
-    /// The records from a position on.
+    /// Returns the records from a position on.
     pub(crate) fn new(buffer: B, at: u64, tail: u64) -> Self
         requires aligned { (at % 8 ≡ 0) × (tail % 8 ≡ 0) }
         requires order { at ≤ tail }

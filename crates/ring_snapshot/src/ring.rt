@@ -59,7 +59,7 @@ impl<'a> RingSnapshot<'a> {
         Ok(RingSnapshot { capacity, words })
     }
 
-    /// The bytes of its buffer.
+    /// Returns the bytes of its buffer.
     pub fn capacity(&self) -> u32
         ensures capacity { result ≡ self.now.capacity }
         ensures lawful { IsCapacity result }
@@ -160,7 +160,7 @@ impl<'a> RingSnapshot<'a> {
         lies_inside(self.capacity, at, length) && align8(u64::from(length)) <= tail - at
     }
 
-    /// The state of a passed record: it may be padding if it ends with the buffer.
+    /// Returns the state of a passed record: it may be padding if it ends with the buffer.
     fn passed_state(&self, at: u64, length: u32) -> RecordState
         requires { length ≤ 2 ^ 25 }
         ensures { result
@@ -173,7 +173,7 @@ impl<'a> RingSnapshot<'a> {
         }
     }
 
-    /// A record whose message is not shown.
+    /// Returns a record whose message is not shown.
     fn without_body(&self, at: u64, state: RecordState, type_id: i32, length: u32) -> Record<'a>
         ensures { result ≡ record {
           place = at;

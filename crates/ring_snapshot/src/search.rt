@@ -16,7 +16,7 @@ pub(crate) fn are_zero(words: &[u64], from: usize, count: usize) -> bool
     true
 }
 
-/// The first index from `from` on at which a test holds, of those at which a run of `size` words begins.
+/// Returns the first index from `from` on at which a test holds, of those at which a run of `size` words begins.
 pub(crate) fn first_index<F: Fn(usize) -> bool>(
     words: &[u64],
     size: usize,

@@ -16,7 +16,7 @@ use std::io::{self, ErrorKind, Write};
 pub trait Words {
     ghost words: { Self → List ℕ };
 
-    /// The word at an index, `None` after the last one.
+    /// Returns the word at an index, `None` after the last one.
     fn word_at(&self, index: usize) -> Option<u64>
         ensures { result ≡ slice_get (words self.now) index };
 }

@@ -22,7 +22,7 @@ impl<T> Numbered<T> {
         }
     }
 
-    /// The number of numbers that were drawn, which is the last one.
+    /// Returns the number of numbers that were drawn, which is the last one.
     pub fn drawn(&self) -> usize
         ensures { result ≡ length (held_in self.now) }
     {

@@ -20,7 +20,7 @@ use ring_service::{Client, Polled, Request};
 /// The type of the clients' counters.
 const COUNTER_TYPE: i32 = 1;
 
-/// The label of a client's counter, and its length: `c` and the client's number, which is below 100.
+/// Returns the label of a client's counter, and its length: `c` and the client's number, which is below 100.
 fn label_of(client: u32) -> ([u8; 3], usize)
     requires { client < 100 }
     ensures length { result.1 ≤ 3 }
@@ -35,8 +35,8 @@ fn label_of(client: u32) -> ([u8; 3], usize)
     }
 }
 
-/// What a client asks by its command with this number: the first one allocates a counter with the label, each further
-/// one sets that counter to the command's number.
+/// Returns what a client asks by its command with this number: the first one allocates a counter with the label, each
+/// further one sets that counter to the command's number.
 fn request_of(label: &[u8], counter: u32, number: u32) -> Request<&[u8]>
     ensures { content_of_request result ≡ numbered label.now counter number }
 {

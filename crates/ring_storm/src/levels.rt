@@ -19,8 +19,8 @@ use std::alloc::Global;
 use std::snapshot::Snapshot;
 use std::thread::{Scope, Threads};
 
-/// The stack of a thread that is to start. If the gate refuses the thread, the stack is larger than any system gives,
-/// so that it cannot be started.
+/// Returns the stack of a thread that is to start. If the gate refuses the thread, the stack is larger than any system
+/// gives, so that it cannot be started.
 fn stack_of<G: Gate>(gate: &G, thread: u32) -> Stack {
     if gate.may_start(thread) {
         Stack::new()
@@ -29,7 +29,7 @@ fn stack_of<G: Gate>(gate: &G, thread: u32) -> Stack {
     }
 }
 
-/// A level that goes no deeper, since memory ran out or a thread could not be started.
+/// Returns a level that goes no deeper, since memory ran out or a thread could not be started.
 fn give_up(endpoints: Endpoints) -> LevelEnd
     ensures endpoints { result.endpoints ≡ endpoints }
     ensures seen { result.seen ≡ 0 }
@@ -42,7 +42,7 @@ fn give_up(endpoints: Endpoints) -> LevelEnd
     }
 }
 
-/// The innermost level: the conductor, on a thread of its own.
+/// Returns the innermost level: the conductor, on a thread of its own.
 fn conduct<'s, E, R: Threads, G: Gate + Sync, B: Bodies + Sync>(
     scope: &'s Scope<'s, E>,
     rt: &'s R,

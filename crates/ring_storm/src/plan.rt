@@ -52,7 +52,7 @@ pub enum StormFault {
 }
 
 impl StormFault {
-    /// The number of the refusal.
+    /// Returns the number of the refusal.
     pub fn code(self) -> i32
         ensures { result ≡ storm_code self }
     {
@@ -65,7 +65,7 @@ impl StormFault {
 }
 
 impl StormPlan {
-    /// Whether each number is allowed.
+    /// Returns whether each number is allowed.
     pub(crate) fn is_lawful(&self) -> bool
         ensures { IsTrue result ↔ IsPlan self.now }
     {
@@ -79,7 +79,7 @@ impl StormPlan {
             && 1 <= self.turns
     }
 
-    /// The number of commands of all clients.
+    /// Returns the number of commands of all clients.
     pub(crate) fn all_commands(&self) -> u32
         requires { IsPlan self.now }
         ensures { result ≡ self.now.clients * self.now.commands }
@@ -87,7 +87,7 @@ impl StormPlan {
         self.clients * self.commands
     }
 
-    /// The capacity of a broadcast buffer on which no reply of all is overtaken.
+    /// Returns the capacity of a broadcast buffer on which no reply of all is overtaken.
     pub(crate) fn board_capacity(&self) -> u32
         requires { IsPlan self.now }
         ensures { IsBoardFor self.now result }

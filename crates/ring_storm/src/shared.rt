@@ -20,7 +20,7 @@ pub(crate) struct Shared<'a, G, B: Bodies> {
 }
 
 impl<G, B: Bodies> Shared<'_, G, B> {
-    /// Whether a thread gave up.
+    /// Returns whether a thread gave up.
     pub(crate) fn is_stopped(&self) -> bool {
         self.stopped.load(SeqCst)
     }

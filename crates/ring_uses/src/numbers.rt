@@ -22,7 +22,7 @@ pub struct Summed {
     pub closed: Closed,
 }
 
-/// The number in a body: its first eight bytes, or 0 if it has fewer.
+/// Returns the number in a body: its first eight bytes, or 0 if it has fewer.
 pub fn number_of(body: &[u8]) -> u64
     ensures { result ≡ number_of body.now }
 {

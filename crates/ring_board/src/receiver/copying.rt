@@ -99,7 +99,7 @@ impl CopyReceiver {
         self.receiver.copy_next(board, self.scratch.as_mut_slice())
     }
 
-    /// The copy at the front of the scratch.
+    /// Returns the copy at the front of the scratch.
     fn front(&self, front: CopiedMessage) -> Copied<'_>
         requires { front.len ≤ vec_len self.now.scratch }
         ensures { (result.place ≡ front.place) × (result.type_id ≡ front.type_id)

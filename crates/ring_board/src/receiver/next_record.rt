@@ -17,14 +17,14 @@ use crate::shared::steps::BoardSeat;
 use ring_layout::put_word;
 use ring_layout::record_descriptor::{HEADER_LENGTH, unpack_header};
 
-/// The bytes that a header announces, its own among them.
+/// Returns the bytes that a header announces, its own among them.
 fn announced(header: u64) -> u64
     ensures { (result ≡ announced header) × (result < 2 ^ 32) }
 {
     header & 0xffff_ffff
 }
 
-/// The type id that a header announces.
+/// Returns the type id that a header announces.
 fn announced_type(header: u64) -> i32
     ensures { result ≡ cast_signed w32 (header / 2 ^ 32) }
 {

@@ -19,14 +19,14 @@ pub type BoardTable = Table<(), View, Shape, BoardRule, Global>;
 pub type BoardSeat = Seat<(), View>;
 
 impl Board {
-    /// The index of the word at a position.
+    /// Returns the index of the word at a position.
     pub(crate) fn index(&self, position: u64) -> usize
         ensures { (result ≡ index self.now.capacity position) × (result < self.now.capacity / 8) }
     {
         word_index(self.capacity, position)
     }
 
-    /// The index of a word of the trailer.
+    /// Returns the index of a word of the trailer.
     pub(crate) fn trailer_index(&self, word: usize) -> usize
         requires { word < 16 }
         ensures lies { result ≡ self.now.table.shared.key.capacity / 8 + word }

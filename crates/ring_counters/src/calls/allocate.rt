@@ -18,7 +18,7 @@ use crate::values::seats::CounterValues;
 use ring_layout::counter_descriptor::{MAX_COUNTERS, MAX_KEY_LENGTH, MAX_LABEL_LENGTH};
 use std::alloc::Global;
 
-/// Whether each byte is below 128.
+/// Returns whether each byte is below 128.
 fn is_ascii(label: &[u8]) -> bool
     ensures { result ≡ list_all (λ b. nat_lt b 128) label.now }
 {

@@ -30,14 +30,14 @@ impl<'a> Model for LiveCounter<'a> {
 }
 
 impl<'a> LiveCounter<'a> {
-    /// The counter's id.
+    /// Returns the counter's id.
     pub fn id(&self) -> u32
         ensures { result ≡ self.now.0 }
     {
         self.id
     }
 
-    /// The type that it was allocated with.
+    /// Returns the type that it was allocated with.
     pub fn type_id(&self) -> i32
         ensures { result ≡ self.now.1.metadata.type_id }
     {
@@ -51,7 +51,7 @@ impl<'a> LiveCounter<'a> {
         self.values.value()
     }
 
-    /// The registration id that it was allocated with.
+    /// Returns the registration id that it was allocated with.
     pub fn registration(&self) -> u64
         ensures { result ≡ self.now.1.values.registration }
     {

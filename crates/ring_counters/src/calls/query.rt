@@ -19,7 +19,7 @@ use ring_layout::counter_descriptor::{MAX_KEY_LENGTH, MAX_LABEL_LENGTH};
 use std::alloc::Global;
 
 impl CountersManager {
-    /// The number of counters that it was made with. An id is in range if it is below this.
+    /// Returns the number of counters that it was made with. An id is in range if it is below this.
     pub fn count(&self) -> u32
         ensures { result ≡ count_of (registry_of self.now) }
     {
@@ -170,7 +170,7 @@ impl CountersManager {
         values.join(&mut self.writer, reader);
     }
 
-    /// The shares that are not with readers: 65,536 at first.
+    /// Returns the shares that are not with readers: 65,536 at first.
     pub fn value_shares(&self) -> u32
         ensures { result ≡ shares_of self.now }
     {

@@ -33,7 +33,7 @@ fn take_freed(freed: &mut VecDeque<u32>, at: usize) -> u32
     id
 }
 
-/// Whether the deadlines along the queue still never fall after one more with this deadline.
+/// Returns whether the deadlines along the queue still never fall after one more with this deadline.
 fn stays_in_order(
     in_order: bool,
     freed: &VecDeque<u32>,
@@ -68,8 +68,8 @@ fn fill(metadata: &mut MetadataRecord, values: &mut ValueRecord, wanted: Wanted<
 }
 
 impl Records {
-    /// How far the queue must be searched for an id that is due: if the deadlines never fall, no further than its
-    /// first.
+    /// Returns how far the queue must be searched for an id that is due: if the deadlines never fall, no further than
+    /// its first.
     fn reach(&self) -> usize
         ensures most { result ≤ length self.now.freed }
         ensures some { 0 < length self.now.freed → 0 < result }
@@ -84,7 +84,7 @@ impl Records {
         }
     }
 
-    /// The index in the queue of the first freed id that is due.
+    /// Returns the index in the queue of the first freed id that is due.
     fn first_due(&self, now: u64) -> Option<usize>
         ensures { result ≡ position (λ id. is_due now (status_at self.now id)) self.now.freed }
     {
@@ -96,7 +96,7 @@ impl Records {
         None
     }
 
-    /// The lowest id that was never used.
+    /// Returns the lowest id that was never used.
     fn first_unused(&self) -> Option<u32>
         ensures id { result ≡ unused_id self.now }
         ensures inside { IfSome result (λ id. id < count_of self.now) }
@@ -173,7 +173,7 @@ impl Records {
         self.freed.push_back_reserved(id);
     }
 
-    /// Whether the counter is in use and has this owner.
+    /// Returns whether the counter is in use and has this owner.
     fn is_owned(&self, id: u32, owner: u64) -> bool
         requires { id < count_of self.now }
         ensures { result ≡ is_owned owner (counter_at self.now id) }

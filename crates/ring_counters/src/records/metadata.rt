@@ -29,7 +29,7 @@ impl Model for MetadataRecord {
     ghost invariant = { λ r. SomeMetadata r.words };
 }
 
-/// The word of a state, its low half, and a type id, its high half.
+/// Returns the word of a state, its low half, and a type id, its high half.
 fn pack_state(state: i32, type_id: i32) -> u64
     ensures { result ≡ state_word state type_id }
 {

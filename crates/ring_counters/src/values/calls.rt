@@ -20,7 +20,7 @@ use ring_layout::{ALL_SHARES, NoShares, has_spare_share};
 use std::alloc::{AllocError, Global};
 
 impl CounterValues {
-    /// The values of `count` ids, all 0, and their writer.
+    /// Returns the values of `count` ids, all 0, and their writer.
     pub(crate) fn new(
         alloc: Global,
         count: usize,

@@ -156,7 +156,7 @@ fn work_stop_name(stop: WorkStop) -> &'static str
     }
 }
 
-/// A line for each counter, and one with their number.
+/// Returns a line for each counter, and one with their number.
 fn counters_text(alloc: Global, infos: &[CounterInfo]) -> Result<String, AllocError>
     ensures { IfOk result (λ text. string_bytes text ≡ counters_text infos.now) }
 {

@@ -78,7 +78,7 @@ impl Conductor {
         }
     }
 
-    /// The counters.
+    /// Returns the counters.
     pub fn counters(&self) -> &CountersManager
         ensures { result.now ≡ manager_in self.now }
     {
@@ -190,7 +190,7 @@ struct Wanted<'a> {
     label: &'a [u8],
 }
 
-/// The reply to a command that was refused.
+/// Returns the reply to a command that was refused.
 fn refused(correlation: u64, code: i32) -> Reply
     ensures { result ≡ Refused correlation code }
 {

@@ -24,7 +24,7 @@ pub enum FinishFault {
 }
 
 impl FinishFault {
-    /// The number of the refusal.
+    /// Returns the number of the refusal.
     pub fn code(self) -> i32
         ensures { result ≡ finish_code self }
     {

@@ -38,9 +38,9 @@ impl<'a> BoardSnapshot<'a> {
     }
 }
 
-/// The first index from `from` on at which a broadcast buffer of this capacity begins among words of memory: one that
-/// was used, as [`BoardSnapshot::looks_like_one`] tests. `None` if there is none, or no broadcast buffer has this
-/// capacity.
+/// Returns the first index from `from` on at which a broadcast buffer of this capacity begins among words of memory:
+/// one that was used, as [`BoardSnapshot::looks_like_one`] tests. `None` if there is none, or no broadcast buffer has
+/// this capacity.
 pub fn next_board(words: &[u64], from: usize, capacity: u32) -> Option<usize>
     ensures found { IfSome result (λ at. (from ≤ at) × (at + board_words capacity ≤ length words.now)
         × (is_board_at capacity words.now at ≡ true)) }

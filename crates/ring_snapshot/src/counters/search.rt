@@ -23,8 +23,8 @@ fn looks_like_counter(metadata: &[u64]) -> bool
     state == RECORD_ALLOCATED && metadata[FREE_FOR_REUSE_DEADLINE_WORD] == NOT_FREE_FOR_REUSE
 }
 
-/// The first index from `from` on at which the metadata of a counter in use begin among words of memory. `None` if there
-/// is none. Its values are elsewhere, and memory does not say where.
+/// Returns the first index from `from` on at which the metadata of a counter in use begin among words of memory. `None`
+/// if there is none. Its values are elsewhere, and memory does not say where.
 pub fn next_counter(words: &[u64], from: usize) -> Option<usize>
     ensures found { IfSome result (λ at. (from ≤ at) × (at + 64 ≤ length words.now)
         × (is_counter_at words.now at ≡ true)) }

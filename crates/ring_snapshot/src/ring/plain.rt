@@ -15,8 +15,8 @@ use ring_layout::{align8, unpack_header, word_index};
 /// The type id of padding in words without bodies, as the high half of a header.
 const PADDING_MARK: u64 = 0xffff_fffe;
 
-/// A header as the format has it. Words without bodies give padding the type id -2, where the format has that of an
-/// aborted record; every other header is the same.
+/// Returns a header as the format has it. Words without bodies give padding the type id -2, where the format has that
+/// of an aborted record; every other header is the same.
 pub fn formatted_header(header: u64) -> u64
     ensures { result ≡ formatted header }
 {
@@ -31,7 +31,7 @@ impl<'a> RingSnapshot<'a> {
     ghost use Rattle.std.specs.Prelude.{◌≡◌, ◌+◌, ◌≤◌};
     ghost use Rattle.ring_snapshot.specs.PlainWords.{span_at};
 
-    /// The bytes that a record with this header takes at a position, 0 if none has it.
+    /// Returns the bytes that a record with this header takes at a position, 0 if none has it.
     fn span_at(&self, tail: u64, at: u64, header: u64) -> u64
         requires { at ≤ tail }
         ensures span { result ≡ span_at self.now.capacity tail at header }

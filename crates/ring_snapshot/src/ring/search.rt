@@ -64,8 +64,8 @@ impl<'a> RingSnapshot<'a> {
     }
 }
 
-/// The first index from `from` on at which a ring of this capacity begins among words of memory: one that was used, as
-/// [`RingSnapshot::looks_like_one`] tests. `None` if there is none, or no ring has this capacity.
+/// Returns the first index from `from` on at which a ring of this capacity begins among words of memory: one that was
+/// used, as [`RingSnapshot::looks_like_one`] tests. `None` if there is none, or no ring has this capacity.
 pub fn next_ring(words: &[u64], from: usize, capacity: u32) -> Option<usize>
     ensures found { IfSome result (λ at. (from ≤ at) × (at + ring_words capacity ≤ length words.now)
         × (is_ring_at capacity words.now at ≡ true)) }
