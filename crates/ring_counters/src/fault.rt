@@ -1,4 +1,4 @@
-//! Why a call refuses.
+//! The reasons why calls refuse.
 ghost use Rattle.std.specs.Prelude.{◌≡◌, pos};
 ghost use Rattle.ring_counters.specs.Codes.{allocate_code, id_code, make_code};
 
@@ -8,7 +8,7 @@ use ring_layout::refusal_codes::{
 };
 use thiserror::Error;
 
-/// Why no counters could be made.
+/// The reason why no counters could be made.
 #[derive(Clone, Copy, Debug, PartialEq, Eq, Error)]
 pub enum MakeFault {
     /// The number of counters is 0 or above 4,096.
@@ -31,7 +31,7 @@ impl MakeFault {
     }
 }
 
-/// Why no counter was allocated.
+/// The reason why no counter was allocated.
 #[derive(Clone, Copy, Debug, PartialEq, Eq, Error)]
 pub enum AllocateRefused {
     /// The key has more than 112 bytes.
@@ -43,7 +43,7 @@ pub enum AllocateRefused {
     /// The label has a byte of 128 or more.
     #[error("{} LabelNotAscii", self.code())]
     LabelNotAscii,
-    /// Every id was used, and no freed one is due.
+    /// Every id was used, and the deadline of no freed id has passed.
     #[error("{} NoFreeCounter", self.code())]
     NoFreeCounter,
 }
@@ -62,7 +62,7 @@ impl AllocateRefused {
     }
 }
 
-/// Why an id is refused.
+/// The reason why an id is refused.
 #[derive(Clone, Copy, Debug, PartialEq, Eq, Error)]
 pub enum IdFault {
     /// The id is not below the number of counters.
@@ -99,7 +99,7 @@ impl BadId {
     }
 }
 
-/// The owner is 0, which means none.
+/// The owner is 0, which means that there is no owner.
 #[derive(Clone, Copy, Debug, PartialEq, Eq, Error)]
 #[error("{} BadOwner", self.code())]
 pub struct BadOwner;

@@ -1,6 +1,6 @@
-//! The values that threads share: what each seat knows (`view`), the rule between any two steps, what each kind of step
-//! says (`plays`), the writer and the readers (`seats`), the calls with their steps (`calls`), and those
-//! that change a value and return what it was (`changes`).
+//! The values that threads share. `view` has what each seat knows, `rule` has the rule between any two steps, `plays`
+//! has what each kind of step says, and `seats` has the writer and the readers. `calls` has the calls with their steps,
+//! and `changes` has the calls that change a value and return the value before.
 pub(crate) mod calls;
 pub(crate) mod changes;
 pub(crate) mod plays;

@@ -1,4 +1,4 @@
-//! One small function for each kind of step of receivers and seats. Each is one load or store of one word.
+//! One small function for each kind of step of receivers and of seats. Each step is one load or one store of one word.
 pub(crate) mod receiver;
 pub(crate) mod seats;
 
@@ -15,7 +15,7 @@ use std::alloc::Global;
 /// The words of a broadcast buffer, as threads share them.
 pub type BoardTable = Table<(), View, Shape, BoardRule, Global>;
 
-/// A seat at the table: the transmitter's or a receiver's. It has no bytes.
+/// A seat at the table, of the transmitter or of a receiver. A seat has no bytes.
 pub type BoardSeat = Seat<(), View>;
 
 impl Board {

@@ -1,11 +1,11 @@
-//! How many ids can be given.
+//! The count of the ids that can be given.
 ghost use Rattle.std.specs.Prelude.{◌≡◌, ◌≤◌};
 ghost use Rattle.ring_counters.specs.Available.{available_in, due_count, unused_count};
 
 use crate::records::Records;
 
 impl Records {
-    /// Returns the number of freed ids that are due. It looks at each freed id.
+    /// Returns the number of freed ids whose deadline has passed. The function looks at each freed id.
     fn due_count(&self, now: u64) -> u32
         ensures count { result ≡ due_count self.now now }
         ensures most { result ≤ 4096 }
