@@ -2,7 +2,7 @@
 use ring_layout::get_byte_word;
 use std::marker::Model;
 
-/// The bytes of a message, read in place out of words. As an iterator it gives them in order.
+/// The bytes of a message, which are read in place from words. As an iterator it returns the bytes in order.
 #[derive(Debug, Drop)]
 pub struct Body<'a> {
     words: &'a [u64],

@@ -1,10 +1,11 @@
-//! The records of a ring or a broadcast buffer, one after the other.
+//! An iterator over the records of a ring or a broadcast buffer.
 ghost use Rattle.std.specs.Prelude.{◌≡◌, ◌+◌, ◌%◌, ◌^◌, ◌≤◌};
 
 use crate::buffer::Buffer;
 use ring_layout::align8;
 
-/// The records of a buffer from a position on, in order. It ends at the tail, and after a finding.
+/// An iterator over the records of a buffer from a position on, in order. The iterator ends at the tail, and after a
+/// finding.
 #[derive(Debug, Drop)]
 pub struct Listing<B> {
     buffer: B,
@@ -36,7 +37,7 @@ impl<B: Buffer> Listing<B> {
         }
     }
 
-    /// Tests whether all that are left are records.
+    /// Tests whether all entries that are left are records.
     #[tactic(auto, using(crate::proofs::SearchLemmas::yielded_ok, crate::proofs::SearchLemmas::yielded_err, crate::proofs::SearchLemmas::yielded_none))]
     pub(crate) fn are_records(self) -> bool
         ensures { result ≡ all_ok (left_of B.size B.entry self) }
