@@ -1,10 +1,10 @@
-//! Why nothing was judged.
+//! The reasons why nothing was judged.
 use ring_judge::{BadLine, LineFault};
 use std::alloc::{AllocError, AllocFailed};
 use std::io::ErrorKind;
 use thiserror::Error;
 
-/// Why nothing was judged.
+/// The reason why nothing was judged.
 #[derive(Clone, Copy, Debug, Error)]
 pub enum CheckFault<'a> {
     /// The file cannot be read.
@@ -32,7 +32,7 @@ pub enum CheckFault<'a> {
 }
 
 impl<'a> CheckFault<'a> {
-    /// Returns the fault of a line. Out of memory is no fault of a line.
+    /// Returns the fault of a line. Out of memory is not a fault of a line.
     pub fn of_line(file: &'a str, bad: BadLine) -> Self {
         let BadLine { line, fault } = bad;
         match fault {

@@ -1,4 +1,4 @@
-//! Why a line cannot be, in words.
+//! The reasons, in words, why a line cannot be.
 use ring_judge::{Message, QueueLine};
 use std::alloc::{AllocError, Global};
 
@@ -44,7 +44,7 @@ fn first_left(lines: &[QueueLine]) -> Option<Message> {
     None
 }
 
-/// Why the line at this index cannot be.
+/// Returns the reason why the line at this index cannot be.
 pub fn reason(alloc: Global, lines: &[QueueLine], at: usize) -> Result<String, AllocError> {
     let before = lines.get(..at).unwrap_or(lines);
     match lines.get(at) {
