@@ -1,4 +1,4 @@
-//! A report as a table that a person reads.
+//! Writes a report as a table for people to read.
 use crate::colour::{Colour, push_colored, push_picture, row_colour};
 use crate::report::{Cell, Column, Field, Report};
 use std::alloc::{AllocError, Global};
@@ -39,8 +39,8 @@ fn push_spaces(text: &mut String, count: usize) -> Result<(), AllocError> {
     Ok(())
 }
 
-/// Returns how many spaces are before and after a text of this many characters, with which its column and two spaces
-/// are full.
+/// Returns how many spaces come before and after a text of this many characters. With these spaces the column and two
+/// spaces are full.
 fn spaces(column: &Column, len: usize, width: usize) -> (usize, usize) {
     let spaces = width.saturating_sub(len);
     if column.is_number {
@@ -71,7 +71,7 @@ fn push_word(
     push_spaces(line, after)
 }
 
-/// Pushes a number of the whole with its name.
+/// Pushes a number of the report with its name.
 fn push_field(text: &mut String, field: &Field) -> Result<(), AllocError> {
     write!(text, "  {}", field.name)?;
     match field.value {
@@ -81,7 +81,7 @@ fn push_field(text: &mut String, field: &Field) -> Result<(), AllocError> {
 }
 
 impl Report {
-    /// Returns the width of a column: that of its name or of its longest value.
+    /// Returns the width of a column, which is the width of its name or of its longest value.
     fn width(&self, column: usize, name: &str) -> usize {
         let mut width = name.len();
         for row in self.rows.iter() {
@@ -115,7 +115,7 @@ impl Report {
         push_colored(text, Colour::Plain, line.as_str().trim_end())
     }
 
-    /// Pushes the line of a row, each value in its column.
+    /// Pushes the line of a row, with each value in its column.
     fn push_row(
         &self,
         text: &mut String,
@@ -152,7 +152,7 @@ impl Report {
         Ok(())
     }
 
-    /// Pushes the line of what holds of the whole.
+    /// Pushes the line of the numbers of the whole.
     fn push_whole(&self, text: &mut String) -> Result<(), AllocError> {
         text.push_str(self.kind)?;
         for field in self.fields.iter() {
@@ -161,14 +161,14 @@ impl Report {
         text.push('\n')
     }
 
-    /// Returns the report as a table: a line of what holds of the whole, the picture of a buffer, the list with the
-    /// names of its columns, how many rows were left out, and the summary. The findings are not in it.
+    /// Returns the report as a table. The table has a line with the numbers of the whole, the picture of a buffer, the
+    /// list with the names of its columns, how many rows were left out, and the summary. The findings are not in it.
     pub fn to_table(&self, alloc: Global) -> Result<String, AllocError> {
         self.table(alloc, false)
     }
 
-    /// Returns the table with colours, for a terminal: open records and headers that are not yet stored in yellow,
-    /// aborted and lapped records and freed counters dimmed, and in the picture messages in green.
+    /// Returns the table with colours, for a terminal. Open records and headers that are not yet stored are yellow.
+    /// Aborted and lapped records and freed counters are dimmed. Messages are green in the picture.
     pub fn to_colored_table(&self, alloc: Global) -> Result<String, AllocError> {
         self.table(alloc, true)
     }
@@ -186,7 +186,7 @@ impl Report {
         text.push('\n')
     }
 
-    /// Pushes the lines of the list. Those of rows are in the colour of their state, if there are colours.
+    /// Pushes the lines of the list. If there are colours, the line of each row has the colour of its state.
     fn push_list(
         &self,
         alloc: Global,
