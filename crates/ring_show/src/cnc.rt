@@ -1,4 +1,4 @@
-//! Aeron's command-and-control file: a ring of commands, a broadcast buffer of replies, and counters.
+//! Shows Aeron's command-and-control file, which has a ring of commands, a broadcast buffer of replies, and counters.
 use crate::fault::ShowFault;
 use crate::options::Format;
 use crate::show::{print_findings, print_report, print_text, report_of_counters, status_of};
@@ -9,10 +9,10 @@ use std::io::Input;
 use std::process::ExitCode;
 use std::rt::Files;
 
-/// The bytes of the file's header, of which the first 24 are six numbers of 32 bits.
+/// The number of bytes of the file's header. The first 24 bytes are six numbers of 32 bits.
 const HEADER: u64 = 128;
 
-/// The versions that are understood: 0.1.0 and 0.2.0, as major, minor and patch in a byte each.
+/// The versions that are understood, which are 0.1.0 and 0.2.0. Major, minor and patch have a byte each.
 const VERSIONS: [u64; 2] = [0x0100, 0x0200];
 
 /// The lengths of the parts, in their order in the file.
@@ -25,7 +25,7 @@ struct Lengths {
 }
 
 impl Lengths {
-    /// Returns the bytes of the header and of all parts.
+    /// Returns the number of bytes of the header and of all parts.
     fn end(self) -> u64 {
         HEADER
             .saturating_add(self.ring)
@@ -35,7 +35,7 @@ impl Lengths {
     }
 }
 
-/// Returns the lengths that a header has. `NotCnc` if the version is not understood.
+/// Returns the lengths that a header has. Returns `NotCnc` if the version is not understood.
 fn lengths_of(header: &[u64]) -> Result<Lengths, ShowFault<'static>> {
     let [first, second, third, ..] = header else {
         return Err(ShowFault::NotCnc);
@@ -51,7 +51,7 @@ fn lengths_of(header: &[u64]) -> Result<Lengths, ShowFault<'static>> {
     })
 }
 
-/// Returns the lengths of a file's parts. `NotCnc` if the file is shorter than they say.
+/// Returns the lengths of a file's parts. Returns `NotCnc` if the file is shorter than its lengths say.
 fn parts_of<'a, R: AllocGlobal + Files + Input>(
     rt: &R,
     file: &'a str,
@@ -80,7 +80,7 @@ fn part(file: &str, at: u64, length: u64) -> Section<'_> {
     }
 }
 
-/// A report, and where it begins in the file.
+/// A report, and the place in the file at which its memory begins.
 #[derive(Drop)]
 struct Shown {
     report: Report,
@@ -146,7 +146,7 @@ fn labelled_of<'a>(file: &'a str, shown: &'a Shown) -> Labelled<'a> {
     }
 }
 
-/// Prints all reports, and their findings on standard error. Returns whether there are none.
+/// Prints all reports. Prints their findings on standard error. Returns whether there are no findings.
 fn print_all<R: AllocGlobal + Print + Eprint>(
     rt: &R,
     file: &str,
@@ -168,8 +168,8 @@ fn print_all<R: AllocGlobal + Print + Eprint>(
     Ok(is_sound)
 }
 
-/// Shows the ring, the broadcast buffer and the counters, one after another; JSON is one document a line. The status is
-/// 1 if one has a finding.
+/// Shows the ring, the broadcast buffer and the counters, one after another. JSON has one document on each line. The
+/// status is 1 if a report has a finding.
 pub fn show_cnc<'a, R: AllocGlobal + Files + Input + Print + Eprint>(
     rt: &R,
     file: &'a str,
