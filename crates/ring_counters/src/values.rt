@@ -1,6 +1,10 @@
-//! The values that threads share. `view` has what each seat knows, `rule` has the rule between any two steps, `plays`
-//! has what each kind of step says, and `seats` has the writer and the readers. `calls` has the calls with their steps,
-//! and `changes` has the calls that change a value and return the value before.
+//! The values that threads share.
+//! - `view`: what each seat knows
+//! - `rule`: the rule between any two steps
+//! - `plays`: what each kind of step says
+//! - `seats`: the writer and the readers
+//! - `calls`: the calls, with their steps
+//! - `changes`: the calls that change a value and return the value before
 pub(crate) mod calls;
 pub(crate) mod changes;
 pub(crate) mod plays;

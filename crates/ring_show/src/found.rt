@@ -82,7 +82,7 @@ impl Found {
         }
     }
 
-    /// Returns a text for how sure it is that this is what it is taken for. It follows from the report.
+    /// Returns a text that says how certain the kind of this object is. The text follows from the report.
     pub fn sureness(self, report: &Report) -> &'static str {
         if self.is_known {
             return "sure";

@@ -18,7 +18,7 @@ pub struct Screen {
     pub width: u32,
 }
 
-/// Returns the number of pieces for which a terminal has room, by the variable COLUMNS.
+/// Returns the number of pieces for which a terminal has room. The variable COLUMNS says how wide the terminal is.
 fn width<R: AllocGlobal + Env>(rt: &R) -> Option<u32> {
     let columns = env::var(rt, "COLUMNS").ok()?;
     let columns: u32 = columns.as_str().parse().ok()?;

@@ -26,7 +26,7 @@ impl<'a> BoardSnapshot<'a> {
         }
     }
 
-    /// Tests whether the words are those of a broadcast buffer that was used. These must all be so:
+    /// Tests whether the words are those of a broadcast buffer that was used. All of these must hold:
     /// - A record is before the tail.
     /// - The words of the trailer without a name are 0.
     /// - The positions make sense.

@@ -54,7 +54,7 @@ impl<'a> RingSnapshot<'a> {
         Listing::new(*self, head, tail).are_records() && self.is_clear(tail, rest as usize)
     }
 
-    /// Tests whether the words are those of a ring that was used. These must all be so:
+    /// Tests whether the words are those of a ring that was used. All of these must hold:
     /// - Something was claimed.
     /// - The words of the trailer without a name are 0.
     /// - The head and the tail make sense.
