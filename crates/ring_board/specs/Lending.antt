@@ -1,4 +1,4 @@
--- What a receiver is once the copy that borrows it is gone.
+-- The receiver after the copy that borrows it is gone.
 use Rattle.std.specs.Prelude.{⊤}
 use Rattle.std.specs.Borrow.{follows_so, MutBor, Fml}
 use mathlib.Core.Option.{none}
