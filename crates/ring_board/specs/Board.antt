@@ -39,7 +39,7 @@ raw_place_in r = r.seat.me.0.at
 abbrev pub raw_lapped_count_of : Receiver → ℕ
 raw_lapped_count_of r = r.seat.me.0.count
 
--- the place at which a copying receiver subscribed, which has a raw receiver inside
+-- the place at which a copying receiver subscribed, by the raw receiver inside it
 abbrev pub subscribed_at : CopyReceiver → ℕ
 subscribed_at r = raw_subscribed_at r.receiver
 
