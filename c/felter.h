@@ -9,12 +9,12 @@
  * Handles. A handle owns an endpoint (a producer, a consumer, ..) together with its ring. The ring lives as long as one
  * of its handles does. Handles may be freed in any order. These are the rules for callers:
  *   1. Begin each handle as FELTER_EMPTY, and free it by felter_free at the end. Never use two copies of a handle,
- *      since both would free the same object. Never read or write what is in a handle. A call with an empty or freed
- *      handle returns FELTER_NO_HANDLE.
+ *      since both would free the same object. Never read or write the contents of a handle. A call with an empty or
+ *      freed handle returns FELTER_NO_HANDLE.
  *   2. One call at a time uses a handle. A handle may go to another thread if its last call is ordered before the first
  *      call of that thread. The start or the join of a thread, a lock or a seq_cst atomic can order the two calls. A
  *      message of a ring orders them too, if it was written after the last call and read before the first one.
- *      Otherwise the two calls race. Different handles may be used at the same time, also handles of one ring.
+ *      Otherwise the two calls race. Different handles may be used at the same time, even if they are of one ring.
  *   3. The handles of one call must be different handles. The buffers, numbers and handles of a call must not overlap.
  *      A buffer that the call reads must be readable for its length. A buffer that the call writes must be writable for
  *      its room, and the room must be at most 2^63 - 1 bytes. No other thread may touch a buffer during the call.
@@ -24,7 +24,8 @@
  *      x86-64-v2.
  *   6. No two rings, boards, conductors or sets of counters that exist at the same time may have the same number. Calls
  *      that take no number draw one from a single count, and so keep this rule. A program must keep the rule itself if
- *      it calls a function whose name ends in _numbered, or if it has two such counts.
+ *      it calls a function whose name ends in _numbered. It must also do so if it has two such counts, for example
+ *      since dlopen loaded a library that includes this header.
  *
  * Messages. A write copies a body into the ring, and a read copies the body out of the ring. The stores that a thread
  * made before its felter_write or felter_commit are visible to the consumer after the read that returned the message.
@@ -68,7 +69,7 @@
  * To compile and link a program, use one of these:
  *   - cc program.c -Iinclude lib/libfelter.a
  *   - cc program.c $(pkg-config --cflags --libs felter)
- *   - in CMake find_package(felter) and target_link_libraries(program felter::felter)
+ *   - in CMake: find_package(felter) and target_link_libraries(program felter::felter)
  *
  * C++ programs can include felter.hpp.
  */

@@ -97,7 +97,7 @@ def call(name: str, *given: typing.Any) -> typing.Any:
 
 
 def take_bytes(given: typing.Any) -> typing.Tuple[typing.Any, ...]:
-    """Returns the bytes of an object, which its buffer has, and their number. The object's own `__len__` is not
+    """Returns the bytes of an object's buffer, and their number. The object's own `__len__` is not
     used."""
     if type(given) is bytes:
         return given, len(given)

@@ -252,8 +252,8 @@ class Client(Owner):
         changes nothing: it frees an id that no counter has. Replies to one client come in the order of its commands. So
         the reply to the second command shows that the conductor took the first one before.
 
-        The call raises Full or Contended if the command was not sent in time, Unanswered if no reply came, and
-        Disconnected if the conductor is gone."""
+        The call raises Full or Contended if the command was not sent in time. It raises Unanswered if no reply came,
+        and Disconnected if the conductor is gone."""
         end = None if timeout is None else time.monotonic() + timeout
         correlation = self._sent(lambda: send(*parameters), timeout)
         return self._reply_to(correlation, end)

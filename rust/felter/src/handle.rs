@@ -47,7 +47,7 @@ impl Handle {
         Ok(number)
     }
 
-    /// Returns the pointer that a call uses, only during the call.
+    /// Returns the pointer for a call of the library, which does not use it after the call.
     pub(crate) fn raw(&mut self) -> *mut Raw {
         &mut self.raw
     }

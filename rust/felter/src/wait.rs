@@ -147,9 +147,11 @@ impl Consumer {
 impl Consumer {
     /// Waits for a message as a task, and reads it into a buffer. A write wakes the task.
     ///
-    /// Errors: [`WaitError::Disconnected`] if every producer was dropped and all messages were read.
-    /// [`WaitError::Refused`] for the errors of [`read`](Consumer::read). If the future is dropped before it is ready,
-    /// no message was taken.
+    /// These are the errors:
+    /// - [`WaitError::Disconnected`] if every producer was dropped and all messages were read;
+    /// - [`WaitError::Refused`] for the errors of [`read`](Consumer::read).
+    ///
+    /// If the future is dropped before it is ready, no message was taken.
     ///
     /// ```
     /// # use std::{future::Future, pin::pin, sync::Arc, task::{Context, Poll, Wake}, thread};
