@@ -357,9 +357,9 @@ int32_t felter_lapped_count(felter_receiver *receiver, uint64_t *count);
 
 /* Writes the position at which the next call looks for a message. */
 int32_t felter_receiver_place(felter_receiver *receiver, uint64_t *place);
-/* Writes the place of the receiver when it was lapped last, and the intent that showed the lap. The intent is the
- * position up to which the transmitter had begun to write. Right after the lap, felter_receiver_place minus this place
- * is the number of bytes that the receiver missed. Codes: FELTER_NO_MESSAGE if the receiver was never lapped. */
+/* Writes the place of the receiver when it was lapped last, and the intent that showed this. The intent is the position
+ * up to which the transmitter had begun to write. Right after FELTER_LAPPED, felter_receiver_place minus this place is
+ * the number of bytes that the receiver missed. Codes: FELTER_NO_MESSAGE if the receiver was never lapped. */
 int32_t felter_receiver_lap(felter_receiver *receiver, uint64_t *place, uint64_t *intent);
 
 /* Makes a raw receiver, which returns each record without its body. Otherwise the call is the same as

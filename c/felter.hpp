@@ -207,7 +207,7 @@ inline result<ring> one_to_one(std::uint32_t capacity, std::uint64_t start = 0) 
     return detail::ring_by(felter_one_to_one_new_at, capacity, start);
 }
 
-// The place of a receiver when it was lapped, and the intent that showed the lap.
+// The place of a receiver when it was lapped, and the intent that showed this.
 struct lap {
     std::uint64_t place, intent;
 };
@@ -218,7 +218,7 @@ public:
     result<std::uint64_t> place() {
         return detail::out<std::uint64_t>([&](std::uint64_t *it) { return felter_receiver_place(raw(), it); });
     }
-    // Returns the last lap of the receiver.
+    // Returns the place at which the receiver was lapped last, and the intent.
     result<felter::lap> lap() {
         return detail::out<felter::lap>(
             [&](felter::lap *it) { return felter_receiver_lap(raw(), &it->place, &it->intent); });

@@ -54,7 +54,7 @@ RANGES = {
     "usize": (0, 2**64),
 }
 
-# The calls whose last number is how often a receiver was lapped. Each has the calls that return more about the lap.
+# The calls whose last number is how often a receiver was lapped. Each has the calls that return how it was lapped.
 LAPPING: typing.Dict[str, typing.Tuple[str, ...]] = {
     "felter_receive": ("felter_receiver_lap", "felter_receiver_place"),
     "felter_receive_next": ("felter_raw_receiver_lap", "felter_raw_receiver_place"),
@@ -151,7 +151,8 @@ class Function:
         self.outs = [OUTS[it] for it in words if it in OUTS]
         self.has_room = "*u8" in words
         self.given = len(self.takes) + self.has_room
-        # The position of the number of bytes that were put into the buffer, and of the number of laps.
+        # The position of the number of bytes that were put into the buffer, and of the number of times that the
+        # receiver was lapped.
         has_length = self.has_room and ctypes.c_size_t in self.outs
         self.length = self.outs.index(ctypes.c_size_t) if has_length else None
         lapped = len(self.outs) - 1 if name in LAPPING else None
