@@ -7,7 +7,7 @@
 //     std::array<std::uint8_t, 64> room;
 //     if (auto message = ring.consumer.read(room)) use(message->type_id, message->body);
 //
-// The rules of felter.h hold here too: for example, one thread at a time uses a handle. This header is tested and not
+// The rules of felter.h apply here too. For example, one thread at a time uses a handle. This header is tested and not
 // proved.
 #ifndef FELTER_HPP
 #define FELTER_HPP

@@ -1,6 +1,6 @@
 """Handles and calls of the library through ctypes, for a Python without the extension in C.
 
-A call releases the interpreter's lock, so each handle has a lock of its own.
+A call releases the interpreter's lock, so each handle has a lock.
 """
 
 import ctypes
@@ -144,7 +144,7 @@ class Function:
         function.argtypes = [TYPES[it] for it in words]
         function.restype = None if name == "felter_free" else ctypes.c_int32
         self.call, self.lap = function, LAPPING.get(name)
-        # (the length of bytes or of a buffer follows it as a parameter of its own)
+        # (the length of bytes or of a buffer follows it as another parameter)
         words = [it for before, it in zip(["", *words], words) if before not in ("bytes", "*u8")]
         self.takes = [TAKES[it] for it in words if it in TAKES]
         self.handles = [i for i, it in enumerate(words) if it == "*handle"]

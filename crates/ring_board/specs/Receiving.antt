@@ -67,7 +67,7 @@ FailedBody x m m' = (loads : List Load)
     × (m' ≡ (record m.0 { stage = Behind; log = m.0.log ++ (loads ++ Intent x ∷ []) }, m.1))
     × (m.0.at + m.0.capacity ≤ x)
 
--- a tail that was loaded is not beyond the place, and nothing else changed
+-- a tail that was loaded is not beyond the place, and no other part changed
 abbrev pub GotNothing : Sat → Sat → Type 0
 GotNothing m m' = (t : ℕ) × (m' ≡ (record m.0 { stage = Resting; log = m.0.log ++ Tail t ∷ [] }, m.1)) × (t ≤ m.0.at)
 

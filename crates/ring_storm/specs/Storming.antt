@@ -234,7 +234,7 @@ pub record HasSeatsBack (old new : Endpoints) : Type 0 where
   pub receivers : board_shares_of new.conductor ≡ board_shares_of old.conductor
   pub open_claims : open_claims_of new.producer ≡ open_claims_of old.producer
 
--- one share of the ring and one of the board are lent, and nothing else that is counted has changed
+-- one share of the ring and one of the board are lent, and no other count has changed
 pub record LendsSeats (old new : Endpoints) : Type 0 where
   pub producers : shares_of new.producer + 1 ≡ shares_of old.producer
   pub receivers : board_shares_of new.conductor + 1 ≡ board_shares_of old.conductor

@@ -20,7 +20,7 @@ use std::snapshot::Snapshot;
 use std::thread::{Scope, Threads};
 
 /// Returns the stack of a thread that is to start. If the gate refuses the thread, the stack is larger than any system
-/// gives, so that it cannot be started.
+/// gives, so the thread cannot be started.
 fn stack_of<G: Gate>(gate: &G, thread: u32) -> Stack {
     if gate.may_start(thread) {
         Stack::new()

@@ -125,8 +125,8 @@ impl Transmitter {
         joined.map_err(|reason| Refused { reason, back: receiver })
     }
 
-    /// Ends a board whose receivers of both kinds were all taken back or dropped. Returns the tail: the position at
-    /// which the last transmission ended.
+    /// Ends a board whose receivers of both kinds were all taken back or dropped. Returns the tail, which is the
+    /// position at which the last transmission ended.
     ///
     /// Errors: [`Error::ReceiversOut`] while a receiver exists. The error gives the transmitter back, which can go on,
     /// and can be closed later.
