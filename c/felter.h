@@ -492,7 +492,7 @@ enum felter_stop {
     FELTER_STOP_LIMIT = 0,       /* `limit` commands were taken */
     FELTER_STOP_BLOCK = 1,       /* the end of the ring's buffer was reached, and the next call goes on after it */
     FELTER_STOP_UNPUBLISHED = 2, /* no further command was there */
-    FELTER_STOP_BOARD_END = 3    /* a reply might end above 2^62 on the board, so the command stays and is not applied */
+    FELTER_STOP_BOARD_END = 3    /* a reply might end above 2^62 on the board; the command stays and is not applied */
 };
 
 /* Takes up to `limit` commands, applies each at the moment `now`, and transmits its reply. Writes how many commands
