@@ -34,7 +34,7 @@ pub enum SendFault {
 /// The result of a poll for a reply.
 #[derive(Clone, Copy, Debug, PartialEq, Eq)]
 pub enum Polled {
-    /// The reply to the command that was asked about.
+    /// The reply to the command for which the caller polls.
     Answered(Reply),
     /// The reply to another command, of this client or of another client.
     Another(Reply),

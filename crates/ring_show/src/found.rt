@@ -100,7 +100,7 @@ impl Found {
         }
     }
 
-    /// Adds the command that shows this.
+    /// Adds the command that shows this object.
     pub fn push_command(self, text: &mut String, file: &str) -> Result<(), AllocError> {
         let (kind, at, length) = (self.kind.name(), self.at, self.length());
         write!(text, "ring-show {kind} {}", Quoted(file))?;

@@ -273,7 +273,7 @@ IsEndAt s clients end = IsEndOf s.plan s.ring.now s.board.now s.values.now clien
 
 -- The end of a storm, whether all is done or some threads gave up. The endpoints have all seats of this ring, this
 -- board and these values, with no more claims than all commands. The conductor finished with them. The headline is true
--- of them, and all that they hand on is handed on.
+-- of these, and the result has all parts that a conductor hands on.
 pub record HasFinished {K B : Type 0} {G : Ghosts B} (p : StormPlan) (ring : Ring K B G) (board : Board) (values : CounterValues)
     (e : StormEnd) : Type 0 where
   pub endpoints : Endpoints

@@ -114,7 +114,7 @@ fn conduct<'s, E, R: Threads, G: Gate + Sync, B: Bodies + Sync>(
             }
         }
         Err(closure) => {
-            // The closure ends at once, since all threads are stopped, and it returns the conductor.
+            // The closure ends at once, since all threads are stopped. It returns the conductor.
             shared.stop();
             let ConductorEnd { conductor, .. } = (closure.value)();
             give_up(Endpoints {
@@ -188,7 +188,7 @@ pub(crate) fn level<'s, E, R: Threads, G: Gate + Sync, B: Bodies + Sync>(
             (end, child.join(rt))
         }
         Err(closure) => {
-            // The closure ends at once, since all threads are stopped, and it returns the seats.
+            // The closure ends at once, since all threads are stopped. It returns the seats.
             shared.stop();
             let client = (closure.value)();
             (give_up(endpoints), client)
