@@ -304,8 +304,8 @@ static inline int32_t felter_standing(felter_producer *producer, felter_consumer
                                       uint64_t *head);
 
 /* Writes messages, one after another, by felter_write. The messages are laid out in the buffer as felter_read_batch
- * leaves them. The call stops at the first refusal, and returns its code. The call writes how many messages were
- * written, also after a refusal. If the batch has no bytes, the call only tests the handle. The call is a loop of this
+ * leaves them. The call stops at the first refusal, and returns its code. Even then it sets `written` to the number of
+ * messages that were written. If the batch has no bytes, the call only tests the handle. The call is a loop of this
  * header, so it is not proved. Codes: those of felter_write, and FELTER_PUT_RANGE if a record is not inside the
  * bytes. */
 static inline int32_t felter_write_batch(felter_producer *producer, const void *records, size_t bytes,

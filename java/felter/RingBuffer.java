@@ -62,7 +62,11 @@ public abstract class RingBuffer extends Owner {
         return isWritten(Native.write(producer().handle(), msgTypeId, addressOf(buffer, index, length), length));
     }
 
-    /** Writes a part of an array. The result is the same as that of the other form. */
+    /**
+     * Writes a part of an array.
+     *
+     * @return false if the ring is full, or another producer was faster. Then try again.
+     */
     public final boolean write(final int msgTypeId, final byte[] body, final int index, final int length) {
         if (index < 0 || length < 0 || index > body.length - length) {
             throw new IndexOutOfBoundsException("index " + index + ", length " + length);

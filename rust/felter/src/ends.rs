@@ -109,7 +109,7 @@ impl Bed {
 }
 
 impl Bed {
-    /// Notes the waker of a task, and then looks once more. Returns what was found.
+    /// Notes the waker of a task, and then calls `look`. Returns the result of `look`.
     pub(crate) fn note<T>(&self, waker: &Waker, look: impl FnOnce() -> Option<T>) -> Option<T> {
         let mut bed = self.counts.bed.lock().unwrap_or_else(PoisonError::into_inner);
         // (a task that is polled again is noted only once)

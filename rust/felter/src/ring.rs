@@ -127,8 +127,8 @@ impl Producer {
     /// Tries once to claim room for a message of `len` bytes. Each byte is 0 until [`put`](Claim::put) stores it. The
     /// consumer does not pass an open claim.
     ///
-    /// Errors: those of [`write`](Producer::write). [`Error::OutOfMemory`] if there is no memory for one more claim.
-    /// After this error nothing was tried.
+    /// Errors: those of [`write`](Producer::write). The call also returns [`Error::OutOfMemory`] if there is no memory
+    /// for one more claim. In this case the call did not try to make the claim.
     ///
     /// ```
     /// let (mut producer, mut consumer) = felter::many_to_one(128)?;
