@@ -40,11 +40,12 @@
  * 2^62, and the Python module from 2^63.
  *
  * Results. Each call except felter_free and felter_version returns a code of enum felter_code. FELTER_OK is 0, and
- * felter_text(code) says in words what a code means. A call that refuses leaves every handle as it was. FELTER_LAPPED
- * and FELTER_OTHER_REPLY are not refusals, since the receiver or the client has moved on. A call writes numbers to the
- * caller's variables only if it returns FELTER_OK, unless its comment says otherwise. No call waits. After
- * FELTER_INSUFFICIENT_CAPACITY, FELTER_CONTENDED or FELTER_NO_MESSAGE the caller may pause and try again. Compilers
- * warn if a result is not used.
+ * felter_text(code) says in words what a code means. A refused call writes no message, settles no claim, changes no
+ * counter and empties no handle, unless its comment says otherwise. It may have loaded positions, passed padding and
+ * aborted records, or drawn a correlation id. FELTER_LAPPED and FELTER_OTHER_REPLY are not refusals, since the receiver
+ * or the client has moved on. A call writes numbers to the caller's variables only if it returns FELTER_OK, unless its
+ * comment says otherwise. No call waits. After FELTER_INSUFFICIENT_CAPACITY, FELTER_CONTENDED or FELTER_NO_MESSAGE the
+ * caller may pause and try again. Compilers warn if a result is not used.
  *
  * Codes. The comment of a call lists after "Codes:" the codes other than FELTER_OK that it can return. Every call of a
  * handle can also return:
