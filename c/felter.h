@@ -373,8 +373,8 @@ int32_t felter_receive_next(felter_raw_receiver *receiver, int32_t *type_id, siz
  * to be those of this record only if felter_validate then returns FELTER_OK. Codes: FELTER_NO_MESSAGE if no record was
  * returned yet, FELTER_SHORT_BUFFER if the body is longer than the room. */
 int32_t felter_load_body(felter_raw_receiver *receiver, void *buffer, size_t room);
-/* Tests that the record which felter_receive_next returned last is not yet overwritten. If the call returns FELTER_OK,
- * each copy of the body that was made before is the body that was transmitted. Codes: FELTER_LAPPED if the record may
+/* Tests whether the record that felter_receive_next returned last was overwritten. If the call returns FELTER_OK, each
+ * copy of the body that was made before is the body that was transmitted. Codes: FELTER_LAPPED if the record may
  * be overwritten, FELTER_NO_MESSAGE if no record was returned yet. */
 int32_t felter_validate(felter_raw_receiver *receiver);
 /* Writes how often felter_receive_next returned FELTER_LAPPED. */

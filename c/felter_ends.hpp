@@ -63,8 +63,8 @@ struct with_end {
     end end_;
 };
 
-// A handle that is an end of a structure. The end is counted until its object is freed. The free can settle claims.
-// When the count falls, the other side must find these claims settled.
+// A handle that is an end of a structure. To free the object of a handle can settle claims. So the count of ends falls
+// only after the object was freed, and the other side then finds these claims settled.
 template <class Raw>
 class end_of : private with_end, public owner<Raw> {
 public:

@@ -196,7 +196,7 @@ impl Conductor {
     /// - [`Error::ReceiversOut`] if a receiver was not taken back;
     /// - [`Error::InUse`] otherwise.
     ///
-    /// The error gives the conductor back, which can go on, and can finish later.
+    /// The error gives the conductor back. The caller can go on using the conductor, and can finish it later.
     ///
     /// ```
     /// use felter::{Conductor, Error, Finished};

@@ -349,7 +349,7 @@ impl Consumer {
     /// messages were left unread.
     ///
     /// Errors: [`Error::ProducersOut`] if the ring was not closed and a producer still exists. The error gives the
-    /// consumer back, which can go on.
+    /// consumer back, and the caller can go on using the consumer.
     ///
     /// ```
     /// let (producer, mut consumer) = felter::one_to_one(128)?;
