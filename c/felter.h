@@ -238,8 +238,8 @@ int32_t felter_set_heartbeat(felter_consumer *consumer, uint64_t value);
 int32_t felter_shares(felter_producer *producer, uint32_t *shares);
 
 /* Reads the next message into a buffer, and takes it from the ring. Codes: FELTER_NO_MESSAGE, and FELTER_SHORT_BUFFER
- * if the message is longer than the buffer. After FELTER_SHORT_BUFFER, *len is the length of the message and *type_id
- * its type id, and the message stays in the ring. A buffer of an eighth of the capacity is always long enough. */
+ * if the message is longer than the buffer. After FELTER_SHORT_BUFFER, *len is the length of the message, and *type_id
+ * is its type id. The message stays in the ring. A buffer of an eighth of the capacity is always long enough. */
 int32_t felter_read(felter_consumer *consumer, int32_t *type_id, size_t *len, void *buffer, size_t room);
 
 /* Copies the next message into a buffer as felter_read does, with the same codes, but leaves the message in the ring.

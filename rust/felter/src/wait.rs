@@ -62,7 +62,7 @@ impl Backoff {
         self.turns <= 10
     }
 
-    /// Pauses, and returns false. If the deadline has come, returns true at once.
+    /// Returns true if the deadline has come. Otherwise the call pauses, and returns false.
     pub(crate) fn is_over(&mut self) -> bool {
         let left = match self.deadline.map(|it| it.saturating_duration_since(Instant::now())) {
             Some(Duration::ZERO) => return true,
