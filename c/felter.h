@@ -277,8 +277,8 @@ typedef struct felter_record {
  * of the message before it, whose length is len. The call writes the number of messages, and how many bytes they take.
  * The call stops when the buffer has no room for the next message, which stays in the ring. Before it stops, the call
  * copies the body of this message into a buffer of the consumer. The copy takes time in proportion to the length of the
- * message. The call can return fewer messages than are in the ring. When it returns, the producers have the room of the
- * messages that it read.
+ * message. The call can return fewer messages than are in the ring. After the call returns, producers can reuse the
+ * room of the messages that were read.
  *
  * Codes: FELTER_NO_MESSAGE, also if the limit is 0, and FELTER_SHORT_BUFFER if the buffer has no room for the first
  * message. After FELTER_SHORT_BUFFER, felter_read reports the length of that message. A buffer of FELTER_SPAN(capacity
@@ -474,7 +474,7 @@ int32_t felter_counters_join(felter_counters *counters, felter_reader *reader);
  * of the command.
  *
  * These calls make a conductor. The ring for commands has `capacity` bytes, and the board for replies has `replies`
- * bytes. The counters have the ids below `counters`. A freed id is not allocated again for `reuse_ms` milliseconds.
+ * bytes. The ids of the counters are below `counters`. A freed id is not allocated again for `reuse_ms` milliseconds.
  * Codes, in this order: FELTER_HANDLE_IN_USE, FELTER_BAD_CAPACITY for the ring, FELTER_BAD_CAPACITY for the board,
  * FELTER_BAD_COUNT, FELTER_OUT_OF_MEMORY. */
 int32_t felter_conductor_new_numbered(uint64_t number, uint32_t capacity, uint32_t replies, uint32_t counters,

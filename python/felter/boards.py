@@ -60,8 +60,8 @@ class Transmitter(Owner):
 
     def close(self) -> int:
         """Ends a board whose receivers were all taken back or freed, and frees the transmitter. Returns the position at
-        which the last transmission ended. The call raises RECEIVERS_OUT while a receiver exists. The transmitter is
-        then as before."""
+        which the last transmission ended. The call raises RECEIVERS_OUT while a receiver exists. In this case
+        the transmitter is unchanged."""
         return self._do("felter_board_close")
 
 

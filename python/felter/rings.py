@@ -36,8 +36,8 @@ class Found(enum.IntEnum):
 
 
 class Standing(typing.NamedTuple):
-    """The kind of thing that is next in a ring, and the head, in bytes. If a claim is next, the head is the position of
-    this claim."""
+    """Says what is next in a ring, and gives the head, in bytes. If a claim is next, the head is the position of this
+    claim."""
 
     found: Found
     head: int

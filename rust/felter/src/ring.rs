@@ -191,7 +191,7 @@ impl Producer {
         Ok(Positions { head, tail })
     }
 
-    /// Returns how many bytes of the ring are claimed and not yet read. Loads the positions once.
+    /// Returns how many bytes of the ring are claimed and not yet read. The call loads the positions once.
     ///
     /// ```
     /// let (mut producer, mut consumer) = felter::one_to_one(128)?;
