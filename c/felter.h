@@ -16,8 +16,9 @@
  *      message of a ring orders them too, if it was written after the last call and read before the first one.
  *      Otherwise the two calls race. Different handles may be used at the same time, even if they are of one ring.
  *   3. The handles of one call must be different handles. The buffers, numbers and handles of a call must not overlap.
- *      A buffer that the call reads must be readable for its length. A buffer that the call writes must be writable for
- *      its room, and the room must be at most 2^63 - 1 bytes. No other thread may touch a buffer during the call.
+ *      If a call reads a buffer, all bytes of its length must be readable. If a call writes a buffer, all bytes of its
+ *      room must be writable, and the room must be at most 2^63 - 1 bytes. No other thread may touch a buffer during
+ *      the call.
  *   4. No call may come from a signal handler, or from a forked child of a process with threads. No thread may be
  *      cancelled asynchronously during a call, since the handle of that call would be empty afterwards.
  *   5. malloc, realloc and free must belong to one allocator, and must align to 16 bytes. The processor must have
@@ -175,10 +176,10 @@ int32_t felter_capacity(felter_handle *handle, uint32_t *capacity, uint32_t *lon
 
 /* Rings ---------------------------------------------------------------------------------------------------------- */
 
-/* Makes a ring with this capacity, its first producer, and its consumer. A ring has 65,536 shares, and each producer
- * holds at least one of them. The first producer holds all shares. Positions begin at `start`, or at 0 if the call
- * takes no start. Codes: FELTER_HANDLE_IN_USE if a handle is not empty, FELTER_BAD_CAPACITY, FELTER_BAD_START,
- * FELTER_OUT_OF_MEMORY. */
+/* Makes a ring with this capacity, its first producer, and its consumer. The capacity is a number of bytes, and a power
+ * of two from 128 to 2^24. A ring has 65,536 shares, and each producer holds at least one of them. The first producer
+ * holds all shares. Positions begin at `start`, or at 0 if the call takes no start. Codes: FELTER_HANDLE_IN_USE if a
+ * handle is not empty, FELTER_BAD_CAPACITY, FELTER_BAD_START, FELTER_OUT_OF_MEMORY. */
 int32_t felter_many_to_one_new_numbered(uint64_t number, uint32_t capacity, felter_producer *producer,
                                         felter_consumer *consumer);
 int32_t felter_many_to_one_new_at_numbered(uint64_t number, uint32_t capacity, uint64_t start,
@@ -195,8 +196,9 @@ static inline int32_t felter_one_to_one_new(uint32_t capacity, felter_producer *
 static inline int32_t felter_one_to_one_new_at(uint32_t capacity, uint64_t start, felter_producer *producer,
                                                felter_consumer *consumer);
 
-/* Tries once to write a message. Codes: FELTER_BAD_TYPE, FELTER_TOO_LONG, FELTER_POSITION_LIMIT,
- * FELTER_INSUFFICIENT_CAPACITY, and FELTER_CONTENDED for a many-to-one ring. */
+/* Tries once to write a message. The type id must be at least 1, and `len` must be at most an eighth of the capacity.
+ * Codes: FELTER_BAD_TYPE, FELTER_TOO_LONG, FELTER_POSITION_LIMIT, FELTER_INSUFFICIENT_CAPACITY, and FELTER_CONTENDED
+ * for a many-to-one ring. */
 int32_t felter_write(felter_producer *producer, int32_t type_id, const void *body, size_t len);
 
 /* Tries once to claim room for a message of `len` bytes. Each byte is 0 until felter_put stores it. Writes the number
@@ -273,9 +275,9 @@ typedef struct felter_record {
 #endif
 
 /* Reads up to `limit` messages into a buffer, one after another. Each message is a felter_record followed by its bytes.
- * The first message begins at the front of the buffer. Each later one begins FELTER_SPAN(len) bytes after the beginning
- * of the message before it, whose length is len. The call writes the number of messages, and how many bytes they take.
- * The call stops when the buffer has no room for the next message, which stays in the ring. Before it stops, the call
+ * The first message begins at the front of the buffer. If a message has the length len, the next message begins
+ * FELTER_SPAN(len) bytes after its beginning. The call writes the number of messages, and how many bytes they take. The
+ * call stops when the buffer has no room for the next message, which stays in the ring. Before it stops, the call
  * copies the body of this message into a buffer of the consumer. The copy takes time in proportion to the length of the
  * message. The call can return fewer messages than are in the ring. After the call returns, producers can reuse the
  * room of the messages that were read.
@@ -287,7 +289,7 @@ typedef struct felter_record {
 int32_t felter_read_batch(felter_consumer *consumer, uint32_t limit, uint32_t *count, size_t *used, void *buffer,
                           size_t room);
 
-/* The kind of thing that a consumer finds next in its ring. */
+/* What a consumer finds next in its ring. */
 enum felter_found {
     FELTER_FOUND_MESSAGE = 0, /* a message, which felter_read takes */
     FELTER_FOUND_NONE = 1,    /* nothing is claimed after the head */
@@ -397,8 +399,8 @@ int32_t felter_board_close(felter_transmitter *transmitter, uint64_t *tail);
 
 /* Counters ------------------------------------------------------------------------------------------------------- */
 
-/* Makes counters with the ids below `count`. A freed id is not allocated again for `reuse_ms` milliseconds. Codes:
- * FELTER_BAD_COUNT, FELTER_OUT_OF_MEMORY, FELTER_HANDLE_IN_USE. */
+/* Makes counters with the ids below `count`, which must be from 1 to 4,096. A freed id is not allocated again for
+ * `reuse_ms` milliseconds. Codes: FELTER_BAD_COUNT, FELTER_OUT_OF_MEMORY, FELTER_HANDLE_IN_USE. */
 int32_t felter_counters_new_numbered(uint64_t number, uint32_t count, uint32_t reuse_ms, felter_counters *counters);
 static inline int32_t felter_counters_new(uint32_t count, uint32_t reuse_ms, felter_counters *counters);
 /* Allocates a counter with the value 0 at the moment `now`, and writes its id. Codes: FELTER_KEY_TOO_LONG,
