@@ -475,10 +475,11 @@ int32_t felter_counters_join(felter_counters *counters, felter_reader *reader);
  * conductor applies each command to the counters, and transmits one reply on a board. The reply has the correlation id
  * of the command.
  *
- * These calls make a conductor. The ring for commands has `capacity` bytes, and the board for replies has `replies`
- * bytes. The ids of the counters are below `counters`. A freed id is not allocated again for `reuse_ms` milliseconds.
- * Codes, in this order: FELTER_HANDLE_IN_USE, FELTER_BAD_CAPACITY for the ring, FELTER_BAD_CAPACITY for the board,
- * FELTER_BAD_COUNT, FELTER_OUT_OF_MEMORY. */
+ * These calls make a conductor. The ring for commands has `capacity` bytes, which must be a power of two from 128 to
+ * 2^24. The board for replies has `replies` bytes, which must be a power of two from 256 to 2^24. The ids of the
+ * counters are below `counters`, which must be from 1 to 4,096. A freed id is not allocated again for `reuse_ms`
+ * milliseconds. Codes, in this order: FELTER_HANDLE_IN_USE, FELTER_BAD_CAPACITY for the ring, FELTER_BAD_CAPACITY for
+ * the board, FELTER_BAD_COUNT, FELTER_OUT_OF_MEMORY. */
 int32_t felter_conductor_new_numbered(uint64_t number, uint32_t capacity, uint32_t replies, uint32_t counters,
                                       uint32_t reuse_ms, felter_conductor *conductor);
 static inline int32_t felter_conductor_new(uint32_t capacity, uint32_t replies, uint32_t counters, uint32_t reuse_ms,
@@ -573,7 +574,7 @@ enum felter_reply {
     FELTER_REPLY_DONE = 102,      /* the counter was freed or set, and the number is 0 */
     FELTER_REPLY_REFUSED = 103,   /* nothing was done, and the number is a code of enum felter_code, or 22 if the
                                    * command could not be read, or 23 if no command has its type id */
-    FELTER_REPLY_CLOSED = 104     /* the owner's counters were freed, and the number says how many they were */
+    FELTER_REPLY_CLOSED = 104     /* the owner's counters were freed, and the number says how many were freed */
 };
 
 /* Takes the next message of the board, for a caller that waits for the reply to the command with this correlation id.
