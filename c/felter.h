@@ -308,8 +308,8 @@ static inline int32_t felter_standing(felter_producer *producer, felter_consumer
 /* Writes messages, one after another, by felter_write. The messages are laid out in the buffer as felter_read_batch
  * leaves them. The call stops at the first refusal, and returns its code. The call writes how many messages were
  * written, also after a refusal. If the batch has no bytes, the call only tests the handle. The call is a loop of this
- * header, so it is not proved. Codes: those of felter_write, and FELTER_PUT_RANGE if a record is not inside the
- * bytes. */
+ * header, so it is not proved. Codes: those of felter_write, and FELTER_PUT_RANGE if a record is not
+ * completely inside the bytes. */
 static inline int32_t felter_write_batch(felter_producer *producer, const void *records, size_t bytes,
                                          uint32_t *written);
 
@@ -386,7 +386,7 @@ int32_t felter_raw_lapped_count(felter_raw_receiver *receiver, uint64_t *count);
 int32_t felter_raw_receiver_place(felter_raw_receiver *receiver, uint64_t *place);
 int32_t felter_raw_receiver_lap(felter_raw_receiver *receiver, uint64_t *place, uint64_t *intent);
 
-/* These calls take back a receiver or a raw receiver of this board, with its share. They empty the receiver's handle.
+/* These calls take back a receiver or a raw receiver of this board, with its share, and empty the receiver's handle.
  * Codes: FELTER_OTHER_RING if the receiver is of another board, or if felter_conductor_subscribe made it. */
 int32_t felter_board_join(felter_transmitter *transmitter, felter_receiver *receiver);
 int32_t felter_board_join_raw(felter_transmitter *transmitter, felter_raw_receiver *receiver);
@@ -528,7 +528,7 @@ int32_t felter_conductor_subscribe(felter_conductor *conductor, felter_receiver 
  * felter_counters_reader. */
 int32_t felter_conductor_reader(felter_conductor *conductor, felter_reader *reader);
 
-/* These calls take back a client, a receiver or a reader of this conductor, with its shares. They empty its handle. A
+/* These calls take back a client, a receiver or a reader of this conductor, with its shares, and empty its handle. A
  * client that was taken back never receives the replies that it had not received by then. Codes: FELTER_OTHER_RING if
  * the handle is of another conductor, or if felter_subscribe or felter_counters_reader made it. */
 int32_t felter_conductor_join(felter_conductor *conductor, felter_client *client);
