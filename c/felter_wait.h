@@ -235,11 +235,11 @@ FELTER_GUARD int32_t felter_await(felter_client *client, int32_t sent, felter_pa
             continue;
         }
         if (code != FELTER_NO_MESSAGE && code != FELTER_OTHER_REPLY) return code;
-        /* (while other replies come the call does not sleep, but looks at the time now and then) */
+        /* While replies to other commands come, the call does not sleep. It looks at the time once in 64 replies. */
         if (code == FELTER_OTHER_REPLY) pause->turns = 0;
         if (code == FELTER_OTHER_REPLY && ++others % 64 != 0) continue;
         if (!felter_pauses(pause)) return is_lapped ? FELTER_LAPPED : FELTER_NO_MESSAGE;
-        /* (the reply may still come, so the call waits for it first) */
+        /* The reply may still come, so the call first waits for the reply. */
         if (is_lapped && !has_after && ++waits > 16)
             has_after = felter_send_free(client, FELTER_NO_COUNTER, &after) == FELTER_OK;
     }
