@@ -90,8 +90,8 @@ public:
         return true;
     }
     const end &its_end() const noexcept { return end_; }
-    // If a call that takes this handle has succeeded, this end is no longer counted. Both functions return the result of
-    // the call.
+    // If a call that takes this handle has succeeded, this end is no longer counted. Both functions return the result
+    // of the call.
     felter::code given(felter::code why) noexcept {
         if (why) end_.leave();
         return why;
