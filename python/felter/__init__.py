@@ -8,8 +8,8 @@
 Calls. A read returns None if no message is there. With a timeout a call waits. A refused call raises an `Error`, and
 its `number` says why. "Raises OTHER_RING" means an Error with the number OTHER_RING. If the ring is full, the Error is
 a `Full`. If another producer was faster, the Error is a `Contended`. In both cases `is_passing` is True, and the same
-call may succeed later. `is_abandoned` returns whether the other side is gone. A `Doorbell` wakes event loops. Capacities, lengths and positions are in bytes. Moments
-are in milliseconds of a clock that the caller chooses.
+call may succeed later. `is_abandoned` returns whether the other side is gone. A `Doorbell` wakes event loops.
+Capacities, lengths and positions are in bytes. Moments are in milliseconds of a clock that the caller chooses.
 
 Layouts. The bodies of messages are stored separately from the words of headers and positions. So rings do not have the
 memory layout of Agrona's rings.
