@@ -251,7 +251,7 @@ int32_t felter_peek(felter_consumer *consumer, int32_t *type_id, size_t *len, vo
  * body into a buffer of the consumer, so it takes time in proportion to the length of the message. Codes:
  * FELTER_NO_MESSAGE.
  *
- * The two calls together are a controlled read: peek, look at the message, and then do what one of Agrona's actions
+ * The two calls together are a controlled read. Peek, look at the message, and then do what one of Agrona's actions
  * does:
  *   - ABORT: stop. The message stays.
  *   - BREAK: take the message, and stop.

@@ -81,8 +81,8 @@ public:
     // result is also true if this end is empty.
     bool is_abandoned() const noexcept { return end_.is_abandoned(); }
 
-    // felter.hpp calls begin for the first end of a new structure, and follow for one more end of it. Both return
-    // whether there was memory.
+    // felter.hpp calls begin() for the first end of a new structure, and follow() for each other end of this structure.
+    // Both return whether there was memory.
     bool begin(bool writes) noexcept { return end_.begin(writes); }
     template <class Other>
     bool follow(const end_of<Other> &other, bool writes) noexcept {
@@ -90,7 +90,8 @@ public:
         return true;
     }
     const end &its_end() const noexcept { return end_; }
-    // Returns the result of a call that takes this handle if the call succeeds.
+    // If a call that takes this handle has succeeded, this end is no longer counted. Both functions return the result
+    // of the call.
     felter::code given(felter::code why) noexcept {
         if (why) end_.leave();
         return why;

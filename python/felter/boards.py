@@ -149,8 +149,9 @@ class RawReceiver(Owner):
         return found and RawRecord(*found)
 
     def load_body(self, length: int) -> bytes:
-        """Copies the body of the record that was returned last. `length` is the length that this record has. The bytes
-        are certain to be those of this record only if `validate` then returns True."""
+        """Copies the body of the record that was returned last. `length` is the length of the body, which
+        `receive_next` returned. The bytes are certain to be those of this record only if `validate` then returns
+        True."""
         return self._do("felter_load_body", length)
 
     def validate(self) -> bool:

@@ -46,7 +46,7 @@ pub struct Conductor {
 /// The result of one call of [`Conductor::work`].
 #[derive(Clone, Copy, Debug, PartialEq, Eq)]
 pub struct Work {
-    /// How many commands were taken (possibly 0).
+    /// The number of commands that were taken. It may be 0.
     pub messages: u64,
     /// The reason why the call stopped.
     pub stopped: WorkStop,
@@ -81,9 +81,9 @@ impl WorkStop {
 /// The counts of commands at the end of a conductor.
 #[derive(Clone, Copy, Debug, PartialEq, Eq)]
 pub struct Finished {
-    /// How many commands the conductor received in all.
+    /// The number of commands that the conductor received in all.
     pub received: u64,
-    /// How many commands were still in the ring. These commands get no reply.
+    /// The number of commands that were still in the ring. These commands get no reply.
     pub left: u64,
 }
 

@@ -18,7 +18,7 @@ pub enum Found {
 /// What is next in a ring, and the head.
 #[derive(Clone, Copy, Debug, PartialEq, Eq)]
 pub struct Standing {
-    /// What is next.
+    /// The kind of thing that is next.
     pub found: Found,
     /// The head, in bytes. If a claim is next, the head is the position of this claim.
     pub head: u64,
