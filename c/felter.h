@@ -16,8 +16,9 @@
  *      message of a ring orders them too, if it was written after the last call and read before the first one.
  *      Otherwise the two calls race. Different handles may be used at the same time, even if they are of one ring.
  *   3. The handles of one call must be different handles. The buffers, numbers and handles of a call must not overlap.
- *      A buffer that the call reads must be readable for its length. A buffer that the call writes must be writable for
- *      its room, and the room must be at most 2^63 - 1 bytes. No other thread may touch a buffer during the call.
+ *      If a call reads a buffer, all bytes of its length must be readable. If a call writes a buffer, all bytes of its
+ *      room must be writable, and the room must be at most 2^63 - 1 bytes. No other thread may touch a buffer during
+ *      the call.
  *   4. No call may come from a signal handler, or from a forked child of a process with threads. No thread may be
  *      cancelled asynchronously during a call, since the handle of that call would be empty afterwards.
  *   5. malloc, realloc and free must belong to one allocator, and must align to 16 bytes. The processor must have
@@ -176,10 +177,10 @@ int32_t felter_capacity(felter_handle *handle, uint32_t *capacity, uint32_t *lon
 
 /* Rings ---------------------------------------------------------------------------------------------------------- */
 
-/* Makes a ring with this capacity, its first producer, and its consumer. A ring has 65,536 shares, and each producer
- * holds at least one of them. The first producer holds all shares. Positions begin at `start`, or at 0 if the call
- * takes no start. Codes: FELTER_HANDLE_IN_USE if a handle is not empty, FELTER_BAD_CAPACITY, FELTER_BAD_START,
- * FELTER_OUT_OF_MEMORY. */
+/* Makes a ring with this capacity, its first producer, and its consumer. The capacity is a number of bytes, and a power
+ * of two from 128 to 2^24. A ring has 65,536 shares, and each producer holds at least one of them. The first producer
+ * holds all shares. Positions begin at `start`, or at 0 if the call takes no start. Codes: FELTER_HANDLE_IN_USE if a
+ * handle is not empty, FELTER_BAD_CAPACITY, FELTER_BAD_START, FELTER_OUT_OF_MEMORY. */
 int32_t felter_many_to_one_new_numbered(uint64_t number, uint32_t capacity, felter_producer *producer,
                                         felter_consumer *consumer);
 int32_t felter_many_to_one_new_at_numbered(uint64_t number, uint32_t capacity, uint64_t start,
@@ -196,8 +197,9 @@ static inline int32_t felter_one_to_one_new(uint32_t capacity, felter_producer *
 static inline int32_t felter_one_to_one_new_at(uint32_t capacity, uint64_t start, felter_producer *producer,
                                                felter_consumer *consumer);
 
-/* Tries once to write a message. Codes: FELTER_BAD_TYPE, FELTER_TOO_LONG, FELTER_POSITION_LIMIT,
- * FELTER_INSUFFICIENT_CAPACITY, and FELTER_CONTENDED for a many-to-one ring. */
+/* Tries once to write a message. The type id must be at least 1, and `len` must be at most an eighth of the capacity.
+ * Codes: FELTER_BAD_TYPE, FELTER_TOO_LONG, FELTER_POSITION_LIMIT, FELTER_INSUFFICIENT_CAPACITY, and FELTER_CONTENDED
+ * for a many-to-one ring. */
 int32_t felter_write(felter_producer *producer, int32_t type_id, const void *body, size_t len);
 
 /* Tries once to claim room for a message of `len` bytes. Each byte is 0 until felter_put stores it. Writes the number
@@ -239,8 +241,8 @@ int32_t felter_set_heartbeat(felter_consumer *consumer, uint64_t value);
 int32_t felter_shares(felter_producer *producer, uint32_t *shares);
 
 /* Reads the next message into a buffer, and takes it from the ring. Codes: FELTER_NO_MESSAGE, and FELTER_SHORT_BUFFER
- * if the message is longer than the buffer. After FELTER_SHORT_BUFFER, *len is the length of the message and *type_id
- * its type id, and the message stays in the ring. A buffer of an eighth of the capacity is always long enough. */
+ * if the message is longer than the buffer. After FELTER_SHORT_BUFFER, *len is the length of the message, and *type_id
+ * is its type id. The message stays in the ring. A buffer of an eighth of the capacity is always long enough. */
 int32_t felter_read(felter_consumer *consumer, int32_t *type_id, size_t *len, void *buffer, size_t room);
 
 /* Copies the next message into a buffer as felter_read does, with the same codes, but leaves the message in the ring.
@@ -250,7 +252,7 @@ int32_t felter_peek(felter_consumer *consumer, int32_t *type_id, size_t *len, vo
  * body into a buffer of the consumer, so it takes time in proportion to the length of the message. Codes:
  * FELTER_NO_MESSAGE.
  *
- * The two calls together are a controlled read: peek, look at the message, and then do what one of Agrona's actions
+ * The two calls together are a controlled read. Peek, look at the message, and then do what one of Agrona's actions
  * does:
  *   - ABORT: stop. The message stays.
  *   - BREAK: take the message, and stop.
@@ -274,12 +276,12 @@ typedef struct felter_record {
 #endif
 
 /* Reads up to `limit` messages into a buffer, one after another. Each message is a felter_record followed by its bytes.
- * The first message begins at the front of the buffer. Each later one begins FELTER_SPAN(len) bytes after the beginning
- * of the message before it, whose length is len. The call writes the number of messages, and how many bytes they take.
- * The call stops when the buffer has no room for the next message, which stays in the ring. Before it stops, the call
+ * The first message begins at the front of the buffer. If a message has the length len, the next message begins
+ * FELTER_SPAN(len) bytes after its beginning. The call writes the number of messages, and how many bytes they take. The
+ * call stops when the buffer has no room for the next message, which stays in the ring. Before it stops, the call
  * copies the body of this message into a buffer of the consumer. The copy takes time in proportion to the length of the
- * message. The call can return fewer messages than are in the ring. When it returns, the producers have the room of the
- * messages that it read.
+ * message. The call can return fewer messages than are in the ring. After the call returns, producers can reuse the
+ * room of the messages that were read.
  *
  * Codes: FELTER_NO_MESSAGE, also if the limit is 0, and FELTER_SHORT_BUFFER if the buffer has no room for the first
  * message. After FELTER_SHORT_BUFFER, felter_read reports the length of that message. A buffer of FELTER_SPAN(capacity
@@ -288,7 +290,7 @@ typedef struct felter_record {
 int32_t felter_read_batch(felter_consumer *consumer, uint32_t limit, uint32_t *count, size_t *used, void *buffer,
                           size_t room);
 
-/* The kind of thing that a consumer finds next in its ring. */
+/* What a consumer finds next in its ring. */
 enum felter_found {
     FELTER_FOUND_MESSAGE = 0, /* a message, which felter_read takes */
     FELTER_FOUND_NONE = 1,    /* nothing is claimed after the head */
@@ -307,8 +309,8 @@ static inline int32_t felter_standing(felter_producer *producer, felter_consumer
 /* Writes messages, one after another, by felter_write. The messages are laid out in the buffer as felter_read_batch
  * leaves them. The call stops at the first refusal, and returns its code. Even then it sets `written` to the number of
  * messages that were written. If the batch has no bytes, the call only tests the handle. The call is a loop of this
- * header, so it is not proved. Codes: those of felter_write, and FELTER_PUT_RANGE if a record is not inside the
- * bytes. */
+ * header, so it is not proved. Codes: those of felter_write, and FELTER_PUT_RANGE if a record is not
+ * completely inside the bytes. */
 static inline int32_t felter_write_batch(felter_producer *producer, const void *records, size_t bytes,
                                          uint32_t *written);
 
@@ -374,8 +376,8 @@ int32_t felter_receive_next(felter_raw_receiver *receiver, int32_t *type_id, siz
  * to be those of this record only if felter_validate then returns FELTER_OK. Codes: FELTER_NO_MESSAGE if no record was
  * returned yet, FELTER_SHORT_BUFFER if the body is longer than the room. */
 int32_t felter_load_body(felter_raw_receiver *receiver, void *buffer, size_t room);
-/* Tests that the record which felter_receive_next returned last is not yet overwritten. If the call returns FELTER_OK,
- * each copy of the body that was made before is the body that was transmitted. Codes: FELTER_LAPPED if the record may
+/* Tests whether the record that felter_receive_next returned last was overwritten. If the call returns FELTER_OK, each
+ * copy of the body that was made before is the body that was transmitted. Codes: FELTER_LAPPED if the record may
  * be overwritten, FELTER_NO_MESSAGE if no record was returned yet. */
 int32_t felter_validate(felter_raw_receiver *receiver);
 /* Writes how often felter_receive_next returned FELTER_LAPPED. */
@@ -385,7 +387,7 @@ int32_t felter_raw_lapped_count(felter_raw_receiver *receiver, uint64_t *count);
 int32_t felter_raw_receiver_place(felter_raw_receiver *receiver, uint64_t *place);
 int32_t felter_raw_receiver_lap(felter_raw_receiver *receiver, uint64_t *place, uint64_t *intent);
 
-/* These calls take back a receiver or a raw receiver of this board, with its share. They empty the receiver's handle.
+/* These calls take back a receiver or a raw receiver of this board, with its share, and empty the receiver's handle.
  * Codes: FELTER_OTHER_RING if the receiver is of another board, or if felter_conductor_subscribe made it. */
 int32_t felter_board_join(felter_transmitter *transmitter, felter_receiver *receiver);
 int32_t felter_board_join_raw(felter_transmitter *transmitter, felter_raw_receiver *receiver);
@@ -398,8 +400,8 @@ int32_t felter_board_close(felter_transmitter *transmitter, uint64_t *tail);
 
 /* Counters ------------------------------------------------------------------------------------------------------- */
 
-/* Makes counters with the ids below `count`. A freed id is not allocated again for `reuse_ms` milliseconds. Codes:
- * FELTER_BAD_COUNT, FELTER_OUT_OF_MEMORY, FELTER_HANDLE_IN_USE. */
+/* Makes counters with the ids below `count`, which must be from 1 to 4,096. A freed id is not allocated again for
+ * `reuse_ms` milliseconds. Codes: FELTER_BAD_COUNT, FELTER_OUT_OF_MEMORY, FELTER_HANDLE_IN_USE. */
 int32_t felter_counters_new_numbered(uint64_t number, uint32_t count, uint32_t reuse_ms, felter_counters *counters);
 static inline int32_t felter_counters_new(uint32_t count, uint32_t reuse_ms, felter_counters *counters);
 /* Allocates a counter with the value 0 at the moment `now`, and writes its id. Codes: FELTER_KEY_TOO_LONG,
@@ -474,10 +476,11 @@ int32_t felter_counters_join(felter_counters *counters, felter_reader *reader);
  * conductor applies each command to the counters, and transmits one reply on a board. The reply has the correlation id
  * of the command.
  *
- * These calls make a conductor. The ring for commands has `capacity` bytes, and the board for replies has `replies`
- * bytes. The counters have the ids below `counters`. A freed id is not allocated again for `reuse_ms` milliseconds.
- * Codes, in this order: FELTER_HANDLE_IN_USE, FELTER_BAD_CAPACITY for the ring, FELTER_BAD_CAPACITY for the board,
- * FELTER_BAD_COUNT, FELTER_OUT_OF_MEMORY. */
+ * These calls make a conductor. The ring for commands has `capacity` bytes, which must be a power of two from 128 to
+ * 2^24. The board for replies has `replies` bytes, which must be a power of two from 256 to 2^24. The ids of the
+ * counters are below `counters`, which must be from 1 to 4,096. A freed id is not allocated again for `reuse_ms`
+ * milliseconds. Codes, in this order: FELTER_HANDLE_IN_USE, FELTER_BAD_CAPACITY for the ring, FELTER_BAD_CAPACITY for
+ * the board, FELTER_BAD_COUNT, FELTER_OUT_OF_MEMORY. */
 int32_t felter_conductor_new_numbered(uint64_t number, uint32_t capacity, uint32_t replies, uint32_t counters,
                                       uint32_t reuse_ms, felter_conductor *conductor);
 static inline int32_t felter_conductor_new(uint32_t capacity, uint32_t replies, uint32_t counters, uint32_t reuse_ms,
@@ -526,7 +529,7 @@ int32_t felter_conductor_subscribe(felter_conductor *conductor, felter_receiver 
  * felter_counters_reader. */
 int32_t felter_conductor_reader(felter_conductor *conductor, felter_reader *reader);
 
-/* These calls take back a client, a receiver or a reader of this conductor, with its shares. They empty its handle. A
+/* These calls take back a client, a receiver or a reader of this conductor, with its shares, and empty its handle. A
  * client that was taken back never receives the replies that it had not received by then. Codes: FELTER_OTHER_RING if
  * the handle is of another conductor, or if felter_subscribe or felter_counters_reader made it. */
 int32_t felter_conductor_join(felter_conductor *conductor, felter_client *client);
@@ -572,7 +575,7 @@ enum felter_reply {
     FELTER_REPLY_DONE = 102,      /* the counter was freed or set, and the number is 0 */
     FELTER_REPLY_REFUSED = 103,   /* nothing was done, and the number is a code of enum felter_code, or 22 if the
                                    * command could not be read, or 23 if no command has its type id */
-    FELTER_REPLY_CLOSED = 104     /* the owner's counters were freed, and the number says how many they were */
+    FELTER_REPLY_CLOSED = 104     /* the owner's counters were freed, and the number says how many were freed */
 };
 
 /* Takes the next message of the board, for a caller that waits for the reply to the command with this correlation id.

@@ -5,7 +5,7 @@
  * A timeout is in milliseconds. With the timeout 0 a call tries once, and with a negative timeout it waits for ever.
  *
  * To wait for a message, use felter_read_asleep or felter_receive_asleep, and call felter_wake after each write. The
- * reader then wakes after some tens of microseconds. A write costs one load more while no reader sleeps.
+ * reader then wakes after some tens of microseconds. A write costs one more load while no reader sleeps.
  *
  * felter_read_wait and felter_receive_wait are for rings and boards whose writers do not call felter_wake. They try
  * again and again with pauses, so they find a message up to about a millisecond late. */
@@ -235,11 +235,11 @@ FELTER_GUARD int32_t felter_await(felter_client *client, int32_t sent, felter_pa
             continue;
         }
         if (code != FELTER_NO_MESSAGE && code != FELTER_OTHER_REPLY) return code;
-        /* (while other replies come the call does not sleep, but looks at the time now and then) */
+        /* While replies to other commands come, the call does not sleep. It looks at the time once in 64 replies. */
         if (code == FELTER_OTHER_REPLY) pause->turns = 0;
         if (code == FELTER_OTHER_REPLY && ++others % 64 != 0) continue;
         if (!felter_pauses(pause)) return is_lapped ? FELTER_LAPPED : FELTER_NO_MESSAGE;
-        /* (the reply may still come, so the call waits for it first) */
+        /* The reply may still come, so the call first waits for the reply. */
         if (is_lapped && !has_after && ++waits > 16)
             has_after = felter_send_free(client, FELTER_NO_COUNTER, &after) == FELTER_OK;
     }

@@ -102,7 +102,7 @@ public final class CountersManager extends Owner {
         return out.getLong(0);
     }
 
-    /** Sets a counter's value if the value before is the expected one. Returns whether the value was set. */
+    /** Sets a counter's value if the counter has the expected value. Returns whether the value was set. */
     public boolean compareAndSet(final int counterId, final long expectedValue, final long updateValue) {
         Native.must(Native.counterCompareAndSet(handle(0), counterId, expectedValue, updateValue, outAddress));
         return out.getInt(0) == 1;

@@ -79,7 +79,7 @@ abstract class Owner implements AutoCloseable {
         return ByteBuffer.allocateDirect(capacity).order(ByteOrder.nativeOrder());
     }
 
-    /** Returns the address of an index in a direct buffer. */
+    /** Returns the address of the byte at an index of a direct buffer. */
     static long addressOf(final ByteBuffer buffer, final int index, final int length) {
         if (index < 0 || length < 0 || index > buffer.capacity() - length) {
             throw new IndexOutOfBoundsException("index " + index + ", length " + length);

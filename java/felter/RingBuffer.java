@@ -138,8 +138,8 @@ public abstract class RingBuffer extends Owner {
     }
 
     /**
-     * Calls the handler with one message after another. What the handler returns says whether the message is taken, and
-     * whether the read goes on. Returns how many messages were taken.
+     * Calls the handler with one message after another. The result of the handler says whether the message is taken,
+     * and whether the read goes on. Returns how many messages were taken.
      */
     public final int controlledRead(final ControlledMessageHandler handler) {
         return controlledRead(handler, Integer.MAX_VALUE);

@@ -7,9 +7,9 @@
 
 Calls. A read returns None if no message is there. With a timeout a call waits. A refused call raises an `Error`, and
 its `number` says why. "Raises OTHER_RING" means an Error with the number OTHER_RING. If the ring is full, the Error is
-a `Full`. If another producer was faster, it is a `Contended`. Both have a true `is_passing`. `is_abandoned` returns
-whether the other side is gone. A `Doorbell` wakes event loops. Capacities, lengths and positions are in bytes. Moments
-are in milliseconds of a clock that the caller chooses.
+a `Full`. If another producer was faster, the Error is a `Contended`. In both cases `is_passing` is True, and the same
+call may succeed later. `is_abandoned` returns whether the other side is gone. A `Doorbell` wakes event loops.
+Capacities, lengths and positions are in bytes. Moments are in milliseconds of a clock that the caller chooses.
 
 Layouts. The bodies of messages are stored separately from the words of headers and positions. So rings do not have the
 memory layout of Agrona's rings.
@@ -27,14 +27,14 @@ call at a time works on it. Handles are context managers, and free what they own
 The library. If FELTER_DIR names a folder, the library is libfelter.so in that folder. Otherwise the library is in this
 package, or in the repository's c/out, which c/build fills. `implementation` says how calls reach the library:
 
-- "extension": Calls go through an extension in C beside the library. The extension keeps the global interpreter lock,
-  since no call waits.
-- "ctypes": Calls go through ctypes if FELTER_PURE is 1. They also do so, with an ImportWarning, if there is no
+- "extension": The calls use an extension in C, which is in the folder of the library. The extension keeps the global
+  interpreter lock, since no call waits.
+- "ctypes": The calls use ctypes if FELTER_PURE is 1. They also use ctypes, with an ImportWarning, if there is no
   extension for this Python, or if another copy of this package in the process has the extension. Such a copy can be in
   another interpreter.
 
-Before Python 3.10, a Ctrl-C during a call through ctypes can leave its handle locked. Later calls of that handle are
-then refused.
+Before Python 3.10, a Ctrl-C during a call through ctypes can leave the handle of this call locked. Later calls of the
+handle are then refused.
 
 The library is proved. This module is tested and not proved.
 """

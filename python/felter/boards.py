@@ -31,7 +31,7 @@ class Transmitter(Owner):
 
     @direct
     def transmit(self, type_id: int, body: Buffer) -> None:
-        """Transmits a message. The body is any object with bytes."""
+        """Transmits a message. The body is any object that has a buffer of bytes."""
         self._do("felter_transmit", type_id, body)
         self._wake()
 
@@ -60,8 +60,8 @@ class Transmitter(Owner):
 
     def close(self) -> int:
         """Ends a board whose receivers were all taken back or freed, and frees the transmitter. Returns the position at
-        which the last transmission ended. The call raises RECEIVERS_OUT while a receiver exists. The transmitter is
-        then as before."""
+        which the last transmission ended. The call raises RECEIVERS_OUT while a receiver exists. In this case
+        the transmitter is unchanged."""
         return self._do("felter_board_close")
 
 
@@ -149,13 +149,15 @@ class RawReceiver(Owner):
         return found and RawRecord(*found)
 
     def load_body(self, length: int) -> bytes:
-        """Copies the body of the record that was returned last. `length` is the length that this record has. The bytes
-        are certain to be those of this record only if `validate` then returns True."""
+        """Copies the body of the record that was returned last. `length` is the length of the body, which
+        `receive_next` returned. The bytes are certain to be those of this record only if `validate` then returns
+        True."""
         return self._do("felter_load_body", length)
 
     def validate(self) -> bool:
-        """Tests that the record which was returned last is not yet overwritten. If the result is True, each copy of the
-        body that was made before is the body that was transmitted."""
+        """Returns True if the record that was returned last was not overwritten, and False if it may have been
+        overwritten. If the result is True, each copy of the body that was made before is the body that was
+        transmitted."""
         try:
             self._do("felter_validate")
         except Error as refused:

@@ -192,8 +192,13 @@ class Conductor(Owner):
 
     def finish(self) -> Finished:
         """Ends a conductor whose clients, receivers and readers were all taken back or freed. While a client, a
-        receiver or a reader exists, the call raises an Error. The number is PRODUCERS_OUT if a client was not taken
-        back, then RECEIVERS_OUT if a receiver was not, and otherwise IN_USE. The conductor is then as before."""
+        receiver or a reader exists, the call raises an Error, and leaves the conductor as it was. The number of the
+        Error is the first of these that applies:
+
+        - PRODUCERS_OUT if a client was not taken back;
+        - RECEIVERS_OUT if a receiver was not taken back;
+        - IN_USE otherwise.
+        """
         return Finished(*self._do("felter_conductor_finish"))
 
 

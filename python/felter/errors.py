@@ -67,8 +67,8 @@ class Lapped(Error):
 
 
 class Disconnected(Exception):
-    """The other side is gone, and nothing is left to read. Either every producer was freed, or the consumer, the
-    transmitter or the conductor was. Calls that wait raise this exception."""
+    """The other side is gone, and nothing is left to read. This is so if every producer was freed. It is also so
+    if the consumer, the transmitter or the conductor was freed. Calls that wait raise this exception."""
 
 
 CAUSES: typing.Dict[int, typing.Type[Error]] = {

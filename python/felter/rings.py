@@ -36,8 +36,8 @@ class Found(enum.IntEnum):
 
 
 class Standing(typing.NamedTuple):
-    """The kind of thing that is next in a ring, and the head, in bytes. If a claim is next, the head is the position of
-    this claim."""
+    """Says what is next in a ring, and gives the head, in bytes. If a claim is next, the head is the position of this
+    claim."""
 
     found: Found
     head: int
@@ -164,10 +164,10 @@ class Producer(Settling):
 
     @direct
     def write(self, type_id: int, body: Buffer, timeout: typing.Optional[float] = 0) -> None:
-        """Writes a message. The body is any object with bytes, such as bytes, a bytearray or an array. While the ring
-        is full, or another producer is faster, the call tries again for `timeout` seconds. After that it raises Full or
-        Contended. With the timeout 0 the call tries once. With None it tries for ever. The call raises Disconnected if
-        it would have to wait and the consumer is gone."""
+        """Writes a message. The body is any object that has a buffer of bytes, such as a `bytes`, a `bytearray` or an
+        `array`. While the ring is full, or another producer is faster, the call tries again for `timeout` seconds.
+        After that it raises Full or Contended. With the timeout 0 the call tries once. With None it tries for ever. The
+        call raises Disconnected if it would have to wait and the consumer is gone."""
         if timeout == 0:
             self._do("felter_write", type_id, body)
             self._wake()

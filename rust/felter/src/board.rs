@@ -128,8 +128,8 @@ impl Transmitter {
     /// Ends a board whose receivers of both kinds were all taken back or dropped. Returns the tail, which is the
     /// position at which the last transmission ended.
     ///
-    /// Errors: [`Error::ReceiversOut`] while a receiver exists. The error gives the transmitter back, which can go on,
-    /// and can be closed later.
+    /// Errors: [`Error::ReceiversOut`] while a receiver exists. The error gives the transmitter back. The caller can go
+    /// on using the transmitter, and can close it later.
     ///
     /// ```
     /// use felter::{Error, Transmitter};
@@ -321,8 +321,8 @@ impl RawReceiver {
         done(unsafe { raw::felter_load_body(self.handle.raw(), buffer.as_mut_ptr(), buffer.len()) })
     }
 
-    /// Tests that the record which was returned last is not yet overwritten. If the result is true, each copy of the
-    /// body that was made before is the body that was transmitted.
+    /// Returns true if the record that was returned last was not overwritten, and false if it may have been
+    /// overwritten. If the result is true, each copy of the body that was made before is the body that was transmitted.
     ///
     /// Errors: [`Error::NoMessage`] if no record was returned yet.
     pub fn validate(&mut self) -> Result<bool, Error> {

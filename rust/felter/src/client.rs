@@ -43,7 +43,7 @@ pub enum Reply {
     },
     /// The owner's counters were freed.
     Closed {
-        /// How many counters were freed.
+        /// The number of counters that were freed.
         freed: u32,
     },
 }

@@ -46,7 +46,7 @@ pub struct Conductor {
 /// The result of one call of [`Conductor::work`].
 #[derive(Clone, Copy, Debug, PartialEq, Eq)]
 pub struct Work {
-    /// How many commands were taken (possibly 0).
+    /// The number of commands that were taken. It may be 0.
     pub messages: u64,
     /// The reason why the call stopped.
     pub stopped: WorkStop,
@@ -81,9 +81,9 @@ impl WorkStop {
 /// The counts of commands at the end of a conductor.
 #[derive(Clone, Copy, Debug, PartialEq, Eq)]
 pub struct Finished {
-    /// How many commands the conductor received in all.
+    /// The number of commands that the conductor received in all.
     pub received: u64,
-    /// How many commands were still in the ring. These commands get no reply.
+    /// The number of commands that were still in the ring. These commands get no reply.
     pub left: u64,
 }
 
@@ -92,8 +92,8 @@ impl Conductor {
     ///
     /// - The ring for commands has `capacity` bytes, which must be a power of two from 128 to 2^24.
     /// - The board for replies has `replies` bytes, which must be a power of two from 256 to 2^24.
-    /// - The counters have the ids below `counters`, which must be at most 4096. A freed id is not allocated again for
-    ///   `reuse_ms` milliseconds.
+    /// - The ids of the counters are below `counters`, which must be at most 4096. A freed id is not allocated again
+    ///   for `reuse_ms` milliseconds.
     ///
     /// Errors: [`Error::BadCapacity`], [`Error::BadCount`], [`Error::OutOfMemory`].
     pub fn new(capacity: u32, replies: u32, counters: u32, reuse_ms: u32) -> Result<Conductor, Error> {
@@ -196,7 +196,7 @@ impl Conductor {
     /// - [`Error::ReceiversOut`] if a receiver was not taken back;
     /// - [`Error::InUse`] otherwise.
     ///
-    /// The error gives the conductor back, which can go on, and can finish later.
+    /// The error gives the conductor back. The caller can go on using the conductor, and can finish it later.
     ///
     /// ```
     /// use felter::{Conductor, Error, Finished};

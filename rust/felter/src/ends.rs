@@ -10,8 +10,8 @@ use std::time::Instant;
 struct Counts {
     writers: AtomicUsize,
     readers: AtomicUsize,
-    /// How many ends sleep, or are about to. A writer loads this number first. So a write costs one load more if no end
-    /// sleeps.
+    /// The number of ends that sleep, or are about to sleep. A writer loads this number first. So a write costs one
+    /// more load if no end sleeps.
     sleepers: AtomicUsize,
     /// The wakers of the tasks that wait. Each task is counted as a sleeper until its waker is taken out.
     bed: Mutex<Vec<Waker>>,

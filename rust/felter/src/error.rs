@@ -61,9 +61,9 @@ errors! {
     NoShares = 12,
     /// The transmitter overtook the receiver.
     Lapped {
-        /// How often the receiver was lapped by now.
+        /// The number of times that the receiver was lapped by now.
         count: u64,
-        /// How many bytes the receiver missed. This number is 0 for a client, because a client does not know it.
+        /// The number of bytes that the receiver missed. For a client it is 0, because a client does not know it.
         missed_bytes: u64
     } = 13,
     /// A receiver was neither taken back nor dropped.
@@ -145,7 +145,7 @@ impl std::error::Error for Error {}
 /// A message of a batch was refused, and the messages after it were not tried.
 #[derive(Clone, Copy, Debug, PartialEq, Eq)]
 pub struct BatchRefused {
-    /// How many messages were written before the refused one.
+    /// The number of messages that were written before the refused one.
     pub written: usize,
     /// The reason why the message was refused.
     pub reason: Error,

@@ -13,8 +13,8 @@
 //! # Ok::<(), felter::Error>(())
 //! ```
 //!
-//! The calls of the proved library never wait. A full ring, a faster producer and an empty ring are results. After such
-//! a result the caller may try again. Other calls wait or wake:
+//! The calls of the proved library never wait. If the ring is full or empty, or if another producer was
+//! faster, the result of a call says so. The caller may then try again. Other calls wait or wake:
 //! - [`Producer::send`] and [`Consumer::recv`] try until a deadline.
 //! - `is_abandoned` returns whether the other side is gone.
 //! - A [`Doorbell`] wakes event loops.

@@ -107,7 +107,7 @@ impl std::error::Error for RequestError {
 /// An id that no counter has.
 const NO_COUNTER: u32 = u32::MAX;
 
-/// How often a client that was lapped looks for its reply before it sends another command.
+/// The number of times that a lapped client looks for its reply before it sends another command.
 const LOOKS: u32 = 16;
 
 impl Client {

@@ -191,7 +191,7 @@ impl Producer {
         Ok(Positions { head, tail })
     }
 
-    /// Returns how many bytes of the ring are claimed and not yet read. Loads the positions once.
+    /// Returns how many bytes of the ring are claimed and not yet read. The call loads the positions once.
     ///
     /// ```
     /// let (mut producer, mut consumer) = felter::one_to_one(128)?;
@@ -349,7 +349,7 @@ impl Consumer {
     /// messages were left unread.
     ///
     /// Errors: [`Error::ProducersOut`] if the ring was not closed and a producer still exists. The error gives the
-    /// consumer back, which can go on.
+    /// consumer back, and the caller can go on using the consumer.
     ///
     /// ```
     /// let (producer, mut consumer) = felter::one_to_one(128)?;

@@ -2,7 +2,7 @@
 use crate::error::Error;
 use crate::ring::{Consumer, Producer};
 
-/// The kind of thing that is next in a ring.
+/// What is next in a ring.
 #[derive(Clone, Copy, Debug, PartialEq, Eq)]
 pub enum Found {
     /// A message, which the consumer reads next.
@@ -15,10 +15,10 @@ pub enum Found {
     Change,
 }
 
-/// The kind of thing that is next in a ring, and its position.
+/// What is next in a ring, and the head.
 #[derive(Clone, Copy, Debug, PartialEq, Eq)]
 pub struct Standing {
-    /// What is next.
+    /// The kind of thing that is next.
     pub found: Found,
     /// The head, in bytes. If a claim is next, the head is the position of this claim.
     pub head: u64,

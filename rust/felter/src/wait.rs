@@ -62,7 +62,7 @@ impl Backoff {
         self.turns <= 10
     }
 
-    /// Pauses, and returns false. If the deadline has come, returns true at once.
+    /// Returns true if the deadline has come. Otherwise the call pauses, and returns false.
     pub(crate) fn is_over(&mut self) -> bool {
         let left = match self.deadline.map(|it| it.saturating_duration_since(Instant::now())) {
             Some(Duration::ZERO) => return true,
@@ -236,7 +236,7 @@ fn tried(found: Result<Option<Message<'_>>, Error>, is_last: bool) -> Option<Res
     }
 }
 
-/// Looks each time that the task is polled, until something is found.
+/// Calls `look` each time that the task is polled, until `look` returns a result.
 async fn until_woken<T>(bed: &Bed, mut look: impl FnMut() -> Option<Result<T, WaitError>>) -> Result<T, WaitError> {
     future::poll_fn(|task| match look().or_else(|| bed.note(task.waker(), &mut look)) {
         Some(found) => Poll::Ready(found),
@@ -245,8 +245,8 @@ async fn until_woken<T>(bed: &Bed, mut look: impl FnMut() -> Option<Result<T, Wa
     .await
 }
 
-/// Looks until something is found. The call first looks a few times with short pauses, and then each time that the
-/// thread was woken.
+/// Calls `look` until it returns a result. There are short pauses between the first calls of `look`. Each later call
+/// comes after the thread was woken.
 fn until_found<T>(
     bed: &Bed,
     deadline: Option<Instant>,
