@@ -229,16 +229,15 @@ int32_t felter_set_heartbeat(felter_consumer *consumer, uint64_t value);
 int32_t felter_shares(felter_producer *producer, uint32_t *shares);
 
 /* Reads the next message into a buffer, and takes it from the ring. Codes: FELTER_NO_MESSAGE, and FELTER_SHORT_BUFFER
- * if the message is longer than the buffer. Then *len is its length and *type_id its type id, and the message stays. A
- * buffer of an eighth of the capacity is always long enough. */
+ * if the message is longer than the buffer. Then *len is its length and *type_id its type id, no byte of the message is
+ * copied, and the message stays. A buffer of an eighth of the capacity is always long enough. */
 int32_t felter_read(felter_consumer *consumer, int32_t *type_id, size_t *len, void *buffer, size_t room);
 
 /* Copies the next message into a buffer as felter_read does, with the same codes, but leaves the message in the ring.
  * The next call finds the message again. */
 int32_t felter_peek(felter_consumer *consumer, int32_t *type_id, size_t *len, void *buffer, size_t room);
-/* Takes the next message, which felter_peek showed. No byte of the message reaches the caller. But the call copies the
- * body into a buffer of the consumer, so it takes time in proportion to the length of the message. Codes:
- * FELTER_NO_MESSAGE.
+/* Takes the next message, which felter_peek showed. The call copies no byte of the message, so its time does not
+ * grow with the length of the message. Codes: FELTER_NO_MESSAGE.
  *
  * The two calls together are a controlled read: peek, look at the message, and then do what one of Agrona's actions
  * does:
@@ -266,9 +265,8 @@ typedef struct felter_record {
 /* Reads up to `limit` messages into a buffer, one after another. Each message is a felter_record followed by its bytes.
  * It begins at a multiple of 8 bytes, FELTER_SPAN bytes after the message before it. The call writes the number of
  * messages, and how many bytes they take. The call stops when the buffer has no room for the next message, which stays
- * in the ring. The call copies the body of this message into a buffer of the consumer before it stops, which takes time
- * in proportion to the length of the message. The call can return fewer messages than are in the ring. When it returns,
- * the producers have the room of the messages that it read.
+ * in the ring. No byte of this message is copied. The call can return fewer messages than are in the ring. When it
+ * returns, the producers have the room of the messages that it read.
  *
  * Codes: FELTER_NO_MESSAGE, also if the limit is 0, and FELTER_SHORT_BUFFER if the first message has no room.
  * felter_read then says its length. A buffer of FELTER_SPAN(capacity / 8) bytes is always long enough for one message.
@@ -286,8 +284,8 @@ enum felter_found {
 
 /* Writes what the consumer finds next, and the head. If a claim is next, the head is the place of that claim. The call
  * takes a producer and the consumer of one ring. It loads the positions, reads into a buffer of no bytes, and loads the
- * positions again. If a message is next, the call takes time in proportion to the length of the message, since the read
- * copies the body into a buffer of the consumer. The call is a function of this header, so it is not proved. */
+ * positions again. If a message is next, no byte of the message is copied. The call is a function of this header, so it
+ * is not proved. */
 static inline int32_t felter_standing(felter_producer *producer, felter_consumer *consumer, int32_t *found,
                                       uint64_t *head);
 
