@@ -1,5 +1,5 @@
 use Rattle.std.proofs.Common.{◌≡◌, ℕ, ◌≤◌, sym, ap, ◌∙◌, subst}
-use Rattle.ring_table.specs.Views.{View}
+use Rattle.ring_table.specs.declared.view.View.{View}
 use Rattle.ring_rings.proofs.slots.skip_slots.Goals as goal
 
 pub return_body-requires-clause-last : goal.return_body-requires-clause-last
