@@ -242,15 +242,15 @@ int32_t felter_shares(felter_producer *producer, uint32_t *shares);
 
 /* Reads the next message into a buffer, and takes it from the ring. Codes: FELTER_NO_MESSAGE, and FELTER_SHORT_BUFFER
  * if the message is longer than the buffer. After FELTER_SHORT_BUFFER, *len is the length of the message, and *type_id
- * is its type id. The message stays in the ring. A buffer of an eighth of the capacity is always long enough. */
+ * is its type id. No byte of the message is copied, and the message stays in the ring. A buffer of an eighth of the
+ * capacity is always long enough. */
 int32_t felter_read(felter_consumer *consumer, int32_t *type_id, size_t *len, void *buffer, size_t room);
 
 /* Copies the next message into a buffer as felter_read does, with the same codes, but leaves the message in the ring.
  * The next call finds the message again. */
 int32_t felter_peek(felter_consumer *consumer, int32_t *type_id, size_t *len, void *buffer, size_t room);
-/* Takes the next message, which felter_peek showed. No byte of the message reaches the caller. But the call copies the
- * body into a buffer of the consumer, so it takes time in proportion to the length of the message. Codes:
- * FELTER_NO_MESSAGE.
+/* Takes the next message, which felter_peek showed. The call copies no byte of the message, so its time does not
+ * grow with the length of the message. Codes: FELTER_NO_MESSAGE.
  *
  * The two calls together are a controlled read. Peek, look at the message, and then do what one of Agrona's actions
  * does:
@@ -278,10 +278,9 @@ typedef struct felter_record {
 /* Reads up to `limit` messages into a buffer, one after another. Each message is a felter_record followed by its bytes.
  * The first message begins at the front of the buffer. If a message has the length len, the next message begins
  * FELTER_SPAN(len) bytes after its beginning. The call writes the number of messages, and how many bytes they take. The
- * call stops when the buffer has no room for the next message, which stays in the ring. Before it stops, the call
- * copies the body of this message into a buffer of the consumer. The copy takes time in proportion to the length of the
- * message. The call can return fewer messages than are in the ring. After the call returns, producers can reuse the
- * room of the messages that were read.
+ * call stops when the buffer has no room for the next message, which stays in the ring. No byte of this message is
+ * copied. The call can return fewer messages than are in the ring. After the call returns, producers can reuse the room
+ * of the messages that were read.
  *
  * Codes: FELTER_NO_MESSAGE, also if the limit is 0, and FELTER_SHORT_BUFFER if the buffer has no room for the first
  * message. After FELTER_SHORT_BUFFER, felter_read reports the length of that message. A buffer of FELTER_SPAN(capacity
@@ -300,9 +299,8 @@ enum felter_found {
 
 /* Writes what the consumer finds next (enum felter_found), and the position of the head. If a claim is next, the head
  * is the place of that claim. The call takes a producer and the consumer of one ring. The call loads the positions,
- * reads into a buffer of 0 bytes, and loads the positions again. If a message is next, the read copies its body into a
- * buffer of the consumer. The call then takes time in proportion to the length of the message. The call is a function
- * of this header, so it is not proved. */
+ * reads into a buffer of 0 bytes, and loads the positions again. If a message is next, no byte of the message is copied.
+ * The call is a function of this header, so it is not proved. */
 static inline int32_t felter_standing(felter_producer *producer, felter_consumer *consumer, int32_t *found,
                                       uint64_t *head);
 

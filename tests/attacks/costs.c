@@ -1,6 +1,9 @@
 /* Whether work takes in proportion to what is done: costs [NAME]. Each row does some work, and then four times as much,
  * and says what each took of the processor. The status is 1 if a row took more than ten times as long for four times as
- * much: what grows with the square takes sixteen times as long, and caches that others fill do not make ten of four. */
+ * much: what grows with the square takes sixteen times as long, and caches that others fill do not make ten of four.
+ *
+ * The rows of the second table do the same work on messages with records of 2 KiB, and then of 2 MiB. None of their
+ * bytes is wanted. The status is 1 if the long messages took more than ten times as long as the short ones. */
 #include "felter.h"
 
 #include <stdio.h>
@@ -171,24 +174,75 @@ static double counters(uint32_t n) {
     return took;
 }
 
-/* Messages that are looked at and taken, by their bytes. */
-static double messages_taken(uint32_t n) {
-    static uint8_t body[1 << 21];
+/* Records of these lengths leave no padding at the end of the buffer, which a read would clear word by word. */
+#define SHORT_BODY ((1 << 11) - 8)
+#define LONG_BODY ((1 << 21) - 8)
+/* A ring of 16 MiB has room for so many of the long ones. */
+#define MESSAGES_AT_ONCE 6
+
+static void write_messages(size_t len) {
+    static uint8_t body[LONG_BODY];
+    for (int i = 0; i < MESSAGES_AT_ONCE; i++) MUST(felter_write(&producer, 1, body, len));
+}
+
+/* Each row of messages: 120 calls or more that want no byte of a message of this length. */
+static double messages_taken(size_t len) {
     double took = 0;
-    size_t len = (size_t)n;
     make();
-    for (int i = 0; i < 40; i++) {
-        int32_t found;
-        uint64_t head;
-        MUST(felter_write(&producer, 1, body, len));
+    for (int round = 0; round < 20; round++) {
+        write_messages(len);
         double began = clock_of_thread();
-        MUST(felter_standing(&producer, &consumer, &found, &head));
-        MUST(felter_take(&consumer));
+        for (int i = 0; i < MESSAGES_AT_ONCE; i++) MUST(felter_take(&consumer));
         took += clock_of_thread() - began;
     }
     end();
     return took;
 }
+
+static void look(size_t len) {
+    int32_t found;
+    uint64_t head;
+    MUST(felter_standing(&producer, &consumer, &found, &head));
+    if (found != FELTER_FOUND_MESSAGE || len == 0) exit(2);
+}
+
+static uint8_t short_buffer[1024];
+
+static void read_short(size_t len) {
+    int32_t type_id;
+    size_t its = 0;
+    if (felter_read(&consumer, &type_id, &its, short_buffer, sizeof short_buffer) != FELTER_SHORT_BUFFER) exit(2);
+    if (its != len) exit(2);
+}
+
+static void peek_short(size_t len) {
+    int32_t type_id;
+    size_t its = 0;
+    if (felter_peek(&consumer, &type_id, &its, short_buffer, sizeof short_buffer) != FELTER_SHORT_BUFFER) exit(2);
+    if (its != len) exit(2);
+}
+
+static void read_short_batch(size_t len) {
+    uint32_t count = 0;
+    size_t used = 0;
+    int32_t code = felter_read_batch(&consumer, 8, &count, &used, short_buffer, sizeof short_buffer);
+    if (code != FELTER_SHORT_BUFFER || len == 0) exit(2);
+}
+
+static double calls(void (*call)(size_t), size_t len) {
+    make();
+    write_messages(len);
+    double began = clock_of_thread();
+    for (int i = 0; i < 600; i++) call(len);
+    double took = clock_of_thread() - began;
+    end();
+    return took;
+}
+
+static double messages_looked_at(size_t len) { return calls(look, len); }
+static double reads_too_short(size_t len) { return calls(read_short, len); }
+static double peeks_too_short(size_t len) { return calls(peek_short, len); }
+static double batches_too_short(size_t len) { return calls(read_short_batch, len); }
 
 static const struct {
     const char *name;
@@ -204,26 +258,61 @@ static const struct {
     {"rings", rings, 10000},
     {"receivers", receivers, 15000},
     {"counters", counters, 8192},
-    {"bytes of messages that are taken", messages_taken, 1 << 19},
 };
+
+static const struct {
+    const char *name;
+    double (*work)(size_t);
+} MESSAGES[] = {
+    {"messages taken", messages_taken},
+    {"messages looked at", messages_looked_at},
+    {"reads with too little room", reads_too_short},
+    {"peeks with too little room", peeks_too_short},
+    {"batches with too little room", batches_too_short},
+};
+
+static int is_row(int count, char **words, const char *name) {
+    return count <= 1 || strcmp(words[1], name) == 0;
+}
+
+/* Says what a row took, and returns whether that is too much. */
+static int says(const char *name, double one, const char *more, double its, double shortest) {
+    int is_bad = its > MOST * one && its > shortest;
+    printf("%-34s %9.3f ms, of %s %9.3f ms%s\n", name, 1e3 * one, more, 1e3 * its, is_bad ? ": TOO MUCH" : "");
+    return is_bad;
+}
+
+static int grows_with_the_work(size_t row) {
+    double one = 1e9, four = 1e9;
+    for (int k = 0; k < 10; k++) {
+        double took = ROWS[row].work(ROWS[row].n);
+        if (took < one) one = took;
+        took = ROWS[row].work(4 * ROWS[row].n);
+        if (took < four) four = took;
+        if (k >= 1 && four <= MOST * one) break;
+    }
+    /* (what takes less than a millisecond is not measured well) */
+    return says(ROWS[row].name, one, "four times as much", four, 0.002);
+}
+
+static int grows_with_the_length(size_t row) {
+    double small = 1e9, large = 1e9;
+    for (int k = 0; k < 10; k++) {
+        double took = MESSAGES[row].work(SHORT_BODY);
+        if (took < small) small = took;
+        took = MESSAGES[row].work(LONG_BODY);
+        if (took < large) large = took;
+        if (k >= 1 && large <= MOST * small) break;
+    }
+    /* (if each long message is copied, this takes 40 ms or more) */
+    return says(MESSAGES[row].name, small, "1024 times as long", large, 0.001);
+}
 
 int main(int count, char **words) {
     int worst = 0;
-    for (size_t i = 0; i < sizeof ROWS / sizeof *ROWS; i++) {
-        double one = 1e9, four = 1e9;
-        if (count > 1 && strcmp(words[1], ROWS[i].name) != 0) continue;
-        for (int k = 0; k < 10; k++) {
-            double took = ROWS[i].work(ROWS[i].n);
-            if (took < one) one = took;
-            took = ROWS[i].work(4 * ROWS[i].n);
-            if (took < four) four = took;
-            if (k >= 1 && four <= MOST * one) break;
-        }
-        /* (what takes less than a millisecond is not measured well) */
-        int is_bad = four > MOST * one && four > 0.002;
-        worst |= is_bad;
-        printf("%-34s %9.3f ms, of four times as much %9.3f ms%s\n", ROWS[i].name, 1e3 * one, 1e3 * four,
-               is_bad ? ": TOO MUCH" : "");
-    }
+    for (size_t i = 0; i < sizeof ROWS / sizeof *ROWS; i++)
+        if (is_row(count, words, ROWS[i].name)) worst |= grows_with_the_work(i);
+    for (size_t i = 0; i < sizeof MESSAGES / sizeof *MESSAGES; i++)
+        if (is_row(count, words, MESSAGES[i].name)) worst |= grows_with_the_length(i);
     return worst;
 }

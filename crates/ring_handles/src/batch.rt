@@ -1,5 +1,5 @@
 //! Messages laid one after another into a buffer.
-ghost use Rattle.std.specs.Prelude.{◌≡◌, ◌≢◌, ◌+◌, ◌^◌, ◌<◌, ◌≤◌, false, length};
+ghost use Rattle.std.specs.Prelude.{◌≡◌, ◌≢◌, ◌+◌, ◌^◌, ◌<◌, ◌≤◌, true, false, length};
 ghost use Rattle.ring_layout.specs.declared.message.Message.{Message};
 ghost use Rattle.ring_rings.specs.Seats.{consumer_view, IsConsumerOf};
 ghost use Rattle.ring_handles.specs.Batch.{batch, placed, span_in, LaidNone, Lays, ReadBatch, ReadsBatch, TookBatch, TookSome};
@@ -37,6 +37,23 @@ fn place(buffer: &mut [u8], at: usize, type_id: i32, body: &[u8])
     copy_at(buffer, at + 16, body);
 }
 
+impl Laying<'_> {
+    /// Tests whether a message of this many bytes has room.
+    fn has_room(&self, len: usize) -> bool
+        ensures room { result ≡ true → self.now.used + span_in len ≤ length self.now.buffer.now }
+        ensures short { result ≡ false → length self.now.buffer.now < self.now.used + span_in len }
+    {
+        let room = self.buffer.len();
+        if len > room {
+            return false;
+        }
+        match self.used.checked_add(span_in(len)) {
+            Some(end) => end <= room,
+            None => false,
+        }
+    }
+}
+
 impl Handler for Laying<'_> {
     ghost step = { λ s m t a. Lays s m t a };
 
@@ -52,6 +69,14 @@ impl Handler for Laying<'_> {
                 Action::Abort
             }
         }
+    }
+
+    fn on_header(&mut self, _type_id: i32, len: usize) -> Option<Action> {
+        if self.has_room(len) {
+            return None;
+        }
+        self.is_full = true;
+        Some(Action::Abort)
     }
 }
 

@@ -43,4 +43,14 @@ impl Handler for Copying<'_> {
             Action::Abort
         }
     }
+
+    fn on_header(&mut self, type_id: i32, len: usize) -> Option<Action> {
+        if len <= self.buffer.len() {
+            return None;
+        }
+        self.type_id = type_id;
+        self.len = len;
+        self.code = SHORT_BUFFER;
+        Some(Action::Abort)
+    }
 }

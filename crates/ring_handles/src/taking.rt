@@ -22,6 +22,11 @@ impl Handler for Taking {
         self.code = DONE;
         Action::Break
     }
+
+    fn on_header(&mut self, _type_id: i32, _len: usize) -> Option<Action> {
+        self.code = DONE;
+        Some(Action::Break)
+    }
 }
 
 /// Takes up to one message, as far as the end of the ring's buffer, and reports why it stopped.

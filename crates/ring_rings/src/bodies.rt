@@ -20,7 +20,7 @@ ghost use Rattle.ring_table.specs.SlotSteps.{IsOpenOf};
 ghost use Rattle.ring_table.specs.Staged.{AreRising};
 ghost use Rattle.ring_table.specs.Views.{cleared_to, first_view, with_claims, with_consumer};
 ghost use Rattle.ring_rings.specs.Bodies.{HasPaddedLast, IsPaddedLast, PutsBytes};
-ghost use Rattle.ring_rings.specs.ReadingSteps.{CopiesBody, HasBodyAt, HasGotLast, HasLastAt, IsInBlock, IsReaderSeatOf, OnlyLoads};
+ghost use Rattle.ring_rings.specs.ReadingSteps.{CopiesBody, HasBodyAt, HasGotLast, HasLastAt, IsInBlock, IsReaderSeatOf, LoadsWholeBody, OnlyLoads};
 
 use atomic_table::Closed;
 use ring_table::{Key, Mode, RingSeat, RingTable, SharedRing, Unsettled, Wanted};
@@ -112,6 +112,16 @@ pub trait Bodies: Mode {
         ensures rest { OnlyLoads seat.old.me.0 seat.new.me.0 }
         ensures copies { (m : PlacedMessage) → HasGotLast m seat.old.me.0 → m.place ≡ place
             → length m.message.body ≡ len → CopiesBody capacity m seat.old.me.0 scratch.new seat.new.me.0 };
+
+    /// Skips the body of the message that the read got last, and copies no byte of it.
+    fn skip_body(words: &SharedRing<Self>, seat: &mut RingSeat, capacity: u32, place: u64, len: usize)
+        requires seat { IsReaderSeatOf words.now.table_id words.now.key capacity seat.old }
+        requires body { HasBodyAt capacity seat.old.me.0.consumer.cleared place len }
+        requires last { HasLastAt place len seat.old.me.0 }
+        ensures seat { IsSameSeat seat.old seat.new }
+        ensures rest { OnlyLoads seat.old.me.0 seat.new.me.0 }
+        ensures loads { (m : PlacedMessage) → HasGotLast m seat.old.me.0 → m.place ≡ place
+            → length m.message.body ≡ len → LoadsWholeBody capacity m seat.old.me.0 seat.new.me.0 };
 
     /// Clears the words that the read has passed, from the head up to the position `to`.
     fn clear_up(words: &SharedRing<Self>, seat: &mut RingSeat, capacity: u32, head: u64, to: u64)

@@ -1,17 +1,19 @@
 //! The steps of a ring whose bodies are in slots. One seat at a time reads and writes a slot as plain memory. Headers
 //! and the trailer are words.
-ghost use Rattle.std.specs.Prelude.{◌≡◌, ◌+◌, ◌/◌, ◌%◌, ◌≤◌, ◌<◌};
+ghost use Rattle.std.specs.Prelude.{◌≡◌, ◌+◌, ◌/◌, ◌%◌, ◌≤◌, ◌<◌, List, [], ◌∷◌, ◌++◌};
+ghost use Rattle.ring_table.specs.declared.claim.PlacedMessage.{PlacedMessage};
 ghost use Rattle.ring_table.specs.Seats.{IsSameSeat};
+ghost use Rattle.ring_table.specs.SlotSteps.{HasLast};
 ghost use Rattle.ring_table.specs.Views.{cleared_to, with_consumer};
-ghost use Rattle.ring_rings.specs.ReadingSteps.{IsReaderSeatOf};
+ghost use Rattle.ring_rings.specs.ReadingSteps.{IsReaderSeatOf, LoadsWholeBody};
 
 use crate::bodies::Bodies;
 use atomic_table::Closed;
 use ring_layout::{align8, word_index};
 use ring_table::{
     InSlots, Key, RingSeat, RingTable, SharedRing, Unsettled, Wanted, clear_record, clear_word,
-    load_passed_header, open_slots, put_slots, read_slots, rescue_slots, show_slots,
-    store_claimed_slots, write_slots,
+    lend_body, load_passed_header, open_slots, put_slots, read_slots, rescue_slots, return_body,
+    show_slots, store_claimed_slots, write_slots,
 };
 use std::alloc::{AllocError, Global};
 
@@ -48,6 +50,20 @@ fn clear_next(
     }
     clear_word(slots, seat, capacity, at, target);
     at + 8
+}
+
+/// Skips the body of the message that the read got last: takes its slots and gives them back, unread. The log gets its
+/// words as if each was loaded.
+#[inline(always)]
+fn skip_slots(slots: &SharedRing<InSlots>, seat: &mut RingSeat, capacity: u32, place: u64)
+    requires seat { IsReaderSeatOf slots.now.table_id slots.now.key capacity seat.old }
+    requires last { HasLast place seat.old.me.0 }
+    ensures seat { IsSameSeat seat.old seat.new }
+    ensures view { (m : PlacedMessage) (front : List PlacedMessage) → seat.old.me.0.consumer.got ≡ front ++ m ∷ []
+        → LoadsWholeBody capacity m seat.old.me.0 seat.new.me.0 }
+{
+    lend_body(slots, seat, capacity, place);
+    return_body(slots, seat, capacity, place);
 }
 
 impl Bodies for InSlots {
@@ -105,6 +121,17 @@ impl Bodies for InSlots {
         scratch: &mut [u8],
     ) {
         read_slots(slots, seat, capacity, place, len, scratch);
+    }
+
+    #[inline(always)]
+    fn skip_body(
+        slots: &SharedRing<Self>,
+        seat: &mut RingSeat,
+        capacity: u32,
+        place: u64,
+        _len: usize,
+    ) {
+        skip_slots(slots, seat, capacity, place);
     }
 
     #[inline(always)]

@@ -6,7 +6,7 @@ ghost use Rattle.ring_table.specs.ConsumerSteps.{ClearsWord};
 ghost use Rattle.ring_table.specs.Seats.{IsSameSeat, IsSeatOf};
 ghost use Rattle.ring_table.specs.Views.{with_claims};
 ghost use Rattle.ring_rings.specs.Bodies.{loaded, put_at, IsFreshClaim, MergesWord};
-ghost use Rattle.ring_rings.specs.ReadingSteps.{CopiesWord, IsReaderSeatOf, OnlyLoads};
+ghost use Rattle.ring_rings.specs.ReadingSteps.{CopiesWord, IsReaderSeatOf, LoadsWord, OnlyLoads};
 
 use crate::bodies::Bodies;
 use atomic_table::Closed;
@@ -103,6 +103,28 @@ fn load_word(
     let position = place + HEADER_LENGTH as u64 + 8 * k as u64;
     let word = load_body_word(ring, seat, capacity, position, first + k);
     put_word(scratch, 8 * k, word);
+}
+
+/// Loads the word number `k` of the body at `place`, and copies it nowhere. Its first word has the index `first`.
+#[inline(always)]
+fn skip_word(
+    ring: &SharedRing<InWords>,
+    seat: &mut RingSeat,
+    capacity: u32,
+    place: u64,
+    first: usize,
+    k: usize,
+)
+    requires seat { IsReaderSeatOf ring.now.table_id ring.now.key capacity seat.old }
+    requires place { (seat.old.me.0.consumer.cleared ≤ place) × (place ≤ max_position)
+        × (place % capacity + 8 + 8 * k < capacity) }
+    requires first { first ≡ index capacity place + 1 }
+    ensures seat { IsSameSeat seat.old seat.new }
+    ensures rest { OnlyLoads seat.old.me.0 seat.new.me.0 }
+    ensures loads { LoadsWord capacity place k seat.old.me.0 seat.new.me.0 }
+{
+    let position = place + HEADER_LENGTH as u64 + 8 * k as u64;
+    load_body_word(ring, seat, capacity, position, first + k);
 }
 
 /// Clears the next word that the read has passed. The index of this word in the buffer is `target`.
@@ -204,6 +226,21 @@ impl Bodies for InWords {
         }
         for j in count / 4 * 4..count {
             load_word(words, seat, capacity, place, first, j, scratch);
+        }
+    }
+
+    #[inline(always)]
+    fn skip_body(
+        words: &SharedRing<Self>,
+        seat: &mut RingSeat,
+        capacity: u32,
+        place: u64,
+        len: usize,
+    ) {
+        let first = word_index(capacity, place) + 1;
+        let count = len.div_ceil(8);
+        for k in 0..count {
+            skip_word(words, seat, capacity, place, first, k);
         }
     }
 

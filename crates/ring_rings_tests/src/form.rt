@@ -30,7 +30,7 @@ pub enum Answer {
     Holds(u32, u64),
 }
 
-/// Sums up what it is shown, and answers at random.
+/// Sums up what it is shown, and answers at random. It wants no bytes of messages of some lengths.
 #[derive(Drop)]
 struct Summer {
     dice: Dice,
@@ -41,23 +41,39 @@ impl Summer {
     fn add(&mut self, number: u64) {
         self.sum = (self.sum ^ number).wrapping_mul(0x100_0000_01B3);
     }
-}
 
-impl Handler for Summer {
-    ghost step = { λ s m t action. Unit {0} };
-
-    fn on_message(&mut self, type_id: i32, body: &[u8]) -> Action {
+    fn add_header(&mut self, type_id: i32, len: usize) {
         self.add(u64::from(type_id.unsigned_abs()));
-        self.add(body.len() as u64);
-        for byte in body {
-            self.add(u64::from(*byte));
-        }
+        self.add(len as u64);
+    }
+
+    fn answer(&mut self) -> Action {
         match self.dice.below(8) {
             0 => Action::Abort,
             1 => Action::Break,
             2 | 3 => Action::Commit,
             _ => Action::Continue,
         }
+    }
+}
+
+impl Handler for Summer {
+    ghost step = { λ s m t action. Unit {0} };
+
+    fn on_message(&mut self, type_id: i32, body: &[u8]) -> Action {
+        self.add_header(type_id, body.len());
+        for byte in body {
+            self.add(u64::from(*byte));
+        }
+        self.answer()
+    }
+
+    fn on_header(&mut self, type_id: i32, len: usize) -> Option<Action> {
+        if len % 4 != 3 {
+            return None;
+        }
+        self.add_header(type_id, len);
+        Some(self.answer())
     }
 }
 

@@ -38,6 +38,8 @@ pub struct Play<'a> {
     pub calls: &'a [(Call<'a>, Said)],
     /// All messages that are shown.
     pub shown: &'a [Message<'a>],
+    /// The handler wants the bytes of messages up to this length.
+    pub longest: usize,
     /// Head and tail at the end.
     pub ends: (u64, u64),
     /// Words of the closed ring, by index.
@@ -50,6 +52,7 @@ pub const PLAY: Play<'static> = Play {
     actions: &[],
     calls: &[],
     shown: &[],
+    longest: usize::MAX,
     ends: (0, 0),
     words: &[],
 };
@@ -62,7 +65,7 @@ fn holds(rt: &impl Abort, rest: &SoloRing, words: &[(usize, Option<u64>)]) {
 
 fn plays_on<K: Kind, B: Bodies>(rt: &impl Abort, alloc: Global, play: &Play<'_>) {
     let mut bench = Bench::<K, B>::new(rt, alloc, play.start);
-    let mut script = Script::new(play.actions, play.shown);
+    let mut script = Script::up_to(play.actions, play.shown, play.longest);
     for (at, (call, said)) in play.calls.iter().enumerate() {
         assert_eq!(rt; bench.made(*call, &mut script), *said, "call {at}");
     }

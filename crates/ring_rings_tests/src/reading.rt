@@ -1,5 +1,5 @@
 //! How far reads go, and what the handler's actions do.
-use crate::bench::Call::{Abort, Commit, ControlledRead, Positions, Read, Write};
+use crate::bench::Call::{Abort, Commit, ControlledRead, Positions, Read, ReadAcross, Write};
 use crate::bench::Said::{At, Done, Made};
 use crate::bench::{Call, Said, opened};
 use crate::closing::fill_up;
@@ -191,6 +191,45 @@ static ALL_ACTIONS: Play<'static> = Play {
 #[test]
 fn read_takes_each_action_as_continue(rt: HostRuntime) {
     plays(&rt, rt.alloc(), &[&ALL_ACTIONS]);
+}
+
+static BY_LENGTH: Play<'static> = Play {
+    actions: &[Action::Abort, Action::Break, Action::Commit],
+    longest: 8,
+    calls: &[
+        (Write(1, &BODY), Done),
+        (Write(2, &EIGHT), Done),
+        (Write(3, &BODY), Done),
+        (ControlledRead(9), Said::Read(0, 0, Stop::Action)),
+        (ControlledRead(9), Said::Read(1, 24, Stop::Action)),
+        (Positions, At(24, 64)),
+        (ControlledRead(9), Said::Read(2, 40, Stop::Unpublished)),
+    ],
+    shown: &[(1, &BODY), (1, &BODY), (2, &EIGHT), (3, &BODY)],
+    ends: (64, 64),
+    words: &[(0, Some(0)), (1, Some(0)), (5, Some(0)), (6, Some(0))],
+    ..PLAY
+};
+
+static ACROSS_BY_LENGTH: Play<'static> = Play {
+    start: 104,
+    longest: 8,
+    calls: &[
+        (Abort(1, 0), Made(112)),
+        (Write(3, &BODY), Done),
+        (Write(4, &EIGHT), Done),
+        (ReadAcross(9), Said::Read(2, 64, Stop::Unpublished)),
+    ],
+    shown: &[(3, &BODY), (4, &EIGHT)],
+    ends: (168, 168),
+    words: &[(0, Some(0)), (1, Some(0)), (13, Some(0)), (14, Some(0))],
+    ..PLAY
+};
+
+/// The handler is shown no byte of a long message, and decides on it by its header.
+#[test]
+fn decides_by_the_length(rt: HostRuntime) {
+    plays(&rt, rt.alloc(), &[&BY_LENGTH, &ACROSS_BY_LENGTH]);
 }
 
 /// Answers `Commit`, and at the second message tries to write.

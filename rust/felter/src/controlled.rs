@@ -30,8 +30,8 @@ impl Consumer {
         message_of(code, type_id, len, buffer)
     }
 
-    /// Takes the next message from the ring. Returns `false` if no message is there yet. No byte of the message reaches
-    /// the caller. But the call takes time in proportion to the length of the message.
+    /// Takes the next message from the ring. Returns `false` if no message is there yet. The call copies no byte of the
+    /// message, so its time does not grow with the length of the message.
     pub fn take(&mut self) -> Result<bool, Error> {
         // SAFETY: the handle is ours.
         match done(unsafe { raw::felter_take(self.handle.raw()) }) {

@@ -107,7 +107,7 @@ impl<K, B: Bodies> Ring<K, B> {
     }
 
     /// Reads at most `limit` messages, and takes every action of the handler as `Continue`. The handler is shown a copy
-    /// of each message. No memory is taken.
+    /// of each message, unless it decides on the message by its header. No memory is taken.
     ///
     /// Stops with `Limit` after `limit` messages. Otherwise stops with `Block` at the end of the buffer, or with
     /// `Unpublished` if no settled record was at the head. The read sets what it passes to 0, and then moves the head.

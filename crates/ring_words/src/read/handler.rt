@@ -1,4 +1,5 @@
 //! What a read shows its messages to.
+ghost use Rattle.std.specs.Prelude.{◌≡◌, length, IfNone, IfSome};
 ghost use Rattle.ring_layout.specs.declared.message.Message.{Message};
 ghost use Rattle.ring_words.specs.declared.read.action.Action.{Action as Answer};
 
@@ -17,4 +18,19 @@ pub trait Handler {
         requires { ready self.old }
         ensures kept { ready self.new }
         ensures step { step self.old (record { type_id = type_id; body = body.now }) self.new result };
+
+    /// Decides on a message by its type id and its length, before any byte of it is copied. Returns what the read does
+    /// next, or `None` if the handler wants the bytes: then nothing has changed, and a call of `on_message` follows. The
+    /// default wants the bytes of every message.
+    ///
+    /// A shared ring makes this call first. A ring of one owner makes no such call.
+    fn on_header(&mut self, type_id: i32, len: usize) -> Option<Action>
+        requires { ready self.old }
+        ensures kept { ready self.new }
+        ensures step { IfSome result (λ a. (m : Message) → m.type_id ≡ type_id → length m.body ≡ len
+            → step self.old m self.new a) }
+        ensures wants { IfNone result (self.new ≡ self.old) }
+    {
+        None
+    }
 }

@@ -3,7 +3,7 @@ use Rattle.ring_layout.specs.Places.{index}
 use Rattle.ring_table.specs.declared.view.View.{View}
 use Rattle.ring_table.specs.Views.{logged}
 use Rattle.ring_rings.proofs.IndexLemmas.{index_of_body}
-use Rattle.ring_rings.proofs.ReadingCopies.{copies_loads, copies_more, word_is}
+use Rattle.ring_rings.proofs.ReadingCopies.{copies_more, loads_only, word_is}
 use Rattle.ring_rings.proofs.ReadingSeats.{log_is}
 use Rattle.ring_rings.proofs.words.load_word.Goals as goal
 
@@ -23,7 +23,7 @@ returns-clause-copies c = λ m u last at inside so.
     let v : View = c.args.seat.now.me.0 in
     let p : ℕ = c.args.place + 8 + 8 * k in
     let low : v.consumer.cleared ≤ m.place = omega (arith, c.requires.place.0, at) in
-    let rest = copies_loads C m k u c.args.scratch.now v so in
+    let rest = loads_only C m k u v so.view in
     let is = word_is C p k c.load_body_word-word.result m u v rest last (c.requires.seat.seat.view_is, low)
     (omega (arith, at), inside) load.told in
     copies_more C m k c.load_body_word-word.result u v c.load_body_word-word.new.consumer.me.0 c.args.scratch.now
