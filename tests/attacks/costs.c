@@ -177,7 +177,7 @@ static double counters(uint32_t n) {
 /* Records of these lengths leave no padding at the end of the buffer, which a read would clear word by word. */
 #define SHORT_BODY ((1 << 11) - 8)
 #define LONG_BODY ((1 << 21) - 8)
-/* A ring of 16 MiB has room for so many of the long ones. */
+/* A ring of 16 MiB has room for this many of the long messages. */
 #define MESSAGES_AT_ONCE 6
 
 static void write_messages(size_t len) {
@@ -185,7 +185,7 @@ static void write_messages(size_t len) {
     for (int i = 0; i < MESSAGES_AT_ONCE; i++) MUST(felter_write(&producer, 1, body, len));
 }
 
-/* Each row of messages: 120 calls or more that want no byte of a message of this length. */
+/* Each row of messages: 120 calls or more that need no byte of a message of this length. */
 static double messages_taken(size_t len) {
     double took = 0;
     make();

@@ -19,11 +19,11 @@ pub trait Handler {
         ensures kept { ready self.new }
         ensures step { step self.old (record { type_id = type_id; body = body.now }) self.new result };
 
-    /// Decides on a message by its type id and its length, before any byte of it is copied. Returns what the read does
-    /// next, or `None` if the handler wants the bytes: then nothing has changed, and a call of `on_message` follows. The
-    /// default wants the bytes of every message.
+    /// Decides on a message by its type id and its length, before any byte of the message is copied. Returns what the
+    /// read does next, or `None` if the handler needs the bytes. After `None` the handler is as it was, and a call of
+    /// `on_message` follows. The default always returns `None`.
     ///
-    /// A shared ring makes this call first. A ring of one owner makes no such call.
+    /// A shared ring makes this call before `on_message`. A ring of one owner calls only `on_message`.
     fn on_header(&mut self, type_id: i32, len: usize) -> Option<Action>
         requires { ready self.old }
         ensures kept { ready self.new }
