@@ -87,8 +87,8 @@ impl KeptClaim {
 
     /// Commits the claim, so that the consumer is shown the message.
     ///
-    /// Errors: [`Error::NoClaim`] or [`Error::OtherRing`] if `producer` is another producer, as [`KeptClaim`] describes.
-    /// The error gives the claim back.
+    /// Errors: [`Error::NoClaim`] or [`Error::OtherRing`] if `producer` is another producer, as [`KeptClaim`]
+    /// describes. The error gives the claim back.
     pub fn commit(self, producer: &mut Producer) -> Result<(), Refused<KeptClaim>> {
         // SAFETY: the handle is a producer's.
         self.settle(producer, |raw, number| unsafe { raw::felter_commit(raw, number) })
@@ -96,8 +96,8 @@ impl KeptClaim {
 
     /// Aborts the claim, so that the consumer passes it.
     ///
-    /// Errors: [`Error::NoClaim`] or [`Error::OtherRing`] if `producer` is another producer, as [`KeptClaim`] describes.
-    /// The error gives the claim back.
+    /// Errors: [`Error::NoClaim`] or [`Error::OtherRing`] if `producer` is another producer, as [`KeptClaim`]
+    /// describes. The error gives the claim back.
     pub fn abort(self, producer: &mut Producer) -> Result<(), Refused<KeptClaim>> {
         // SAFETY: the handle is a producer's.
         self.settle(producer, |raw, number| unsafe { raw::felter_abort(raw, number) })
