@@ -44,8 +44,9 @@ class Unique:
 class Ends:
     """The ends of a ring or a board, and the traces of its claims.
 
-    The weak references have no callbacks, since a callback in Python would swallow an interrupt that came while the
-    callback ran. So the references to ends that are gone are dropped when new ends are added."""
+    The ends are kept as weak references. A weak reference could have a callback, which Python calls when the end is
+    gone. Such a callback would swallow an interrupt that came while the callback ran. So there are no callbacks.
+    Instead the references to ends that are gone are dropped when new ends are added."""
 
     def __init__(self) -> None:
         self.writers: "typing.Dict[int, weakref.ref[Owner]]" = {}

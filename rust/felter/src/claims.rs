@@ -76,7 +76,8 @@ pub struct KeptClaim {
 impl KeptClaim {
     /// Puts bytes into the message, from the byte at `offset` on.
     ///
-    /// Errors: [`Error::PutRange`], and for another producer [`Error::NoClaim`] and [`Error::OtherRing`].
+    /// Errors: [`Error::PutRange`] if the bytes are not inside the claim. If `producer` is another producer, the call
+    /// returns [`Error::NoClaim`] or [`Error::OtherRing`], as [`KeptClaim`] describes.
     pub fn put(&self, producer: &mut Producer, offset: usize, bytes: &[u8]) -> Result<(), Error> {
         self.ring.must_be(producer.ring)?;
         let raw = producer.handle.raw();
@@ -86,7 +87,8 @@ impl KeptClaim {
 
     /// Commits the claim, so that the consumer is shown the message.
     ///
-    /// Errors: [`Error::NoClaim`] and [`Error::OtherRing`] for another producer. The error gives the claim back.
+    /// Errors: [`Error::NoClaim`] or [`Error::OtherRing`] if `producer` is another producer, as [`KeptClaim`]
+    /// describes. The error gives the claim back.
     pub fn commit(self, producer: &mut Producer) -> Result<(), Refused<KeptClaim>> {
         // SAFETY: the handle is a producer's.
         self.settle(producer, |raw, number| unsafe { raw::felter_commit(raw, number) })
@@ -94,7 +96,8 @@ impl KeptClaim {
 
     /// Aborts the claim, so that the consumer passes it.
     ///
-    /// Errors: [`Error::NoClaim`] and [`Error::OtherRing`] for another producer. The error gives the claim back.
+    /// Errors: [`Error::NoClaim`] or [`Error::OtherRing`] if `producer` is another producer, as [`KeptClaim`]
+    /// describes. The error gives the claim back.
     pub fn abort(self, producer: &mut Producer) -> Result<(), Refused<KeptClaim>> {
         // SAFETY: the handle is a producer's.
         self.settle(producer, |raw, number| unsafe { raw::felter_abort(raw, number) })

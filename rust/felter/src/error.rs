@@ -86,7 +86,7 @@ errors! {
     BadOwner = 28,
     /// The handle is empty. This crate never returns this error.
     NoHandle = 100,
-    /// The handle is of another kind. A one-to-one ring has one producer, which cannot be split or joined.
+    /// The handle is of another kind. `split` and `join` return this error for a producer of a one-to-one ring.
     WrongHandle = 101,
     /// The handle that was to be filled is not empty. This crate never returns this error.
     HandleInUse = 102,

@@ -162,7 +162,7 @@ impl Producer {
     /// Makes another producer of a many-to-one ring, with one share. Claims that were kept stay with the first
     /// producer.
     ///
-    /// Errors: [`Error::NoShares`], [`Error::OutOfMemory`], and for a one-to-one ring [`Error::WrongHandle`].
+    /// Errors: [`Error::NoShares`], [`Error::OutOfMemory`], and [`Error::WrongHandle`] if the ring is one-to-one.
     pub fn split(&mut self) -> Result<Producer, Error> {
         let mut other = Handle::empty();
         // SAFETY: both handles are ours, and the second one is empty.
@@ -173,8 +173,8 @@ impl Producer {
     /// Joins another producer of the same ring to this one. This producer gets the shares and the kept claims of the
     /// other one.
     ///
-    /// Errors: [`Error::OtherRing`], [`Error::OutOfMemory`], and for a one-to-one ring [`Error::WrongHandle`]. After an
-    /// error both producers are as they were.
+    /// Errors: [`Error::OtherRing`], [`Error::OutOfMemory`], and [`Error::WrongHandle`] if the ring is one-to-one.
+    /// After an error both producers are as they were.
     pub fn join(&mut self, mut other: Producer) -> Result<(), Refused<Producer>> {
         let joined = self.ring.must_be(other.ring).and_then(|()| {
             // SAFETY: both handles are of one ring, as their numbers show.
