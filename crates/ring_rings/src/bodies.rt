@@ -114,7 +114,13 @@ pub trait Bodies: Mode {
             → length m.message.body ≡ len → CopiesBody capacity m seat.old.me.0 scratch.new seat.new.me.0 };
 
     /// Skips the body of the message that the read got last, and copies no byte of it.
-    fn skip_body(words: &SharedRing<Self>, seat: &mut RingSeat, capacity: u32, place: u64, len: usize)
+    fn skip_body(
+        words: &SharedRing<Self>,
+        seat: &mut RingSeat,
+        capacity: u32,
+        place: u64,
+        len: usize,
+    )
         requires seat { IsReaderSeatOf words.now.table_id words.now.key capacity seat.old }
         requires body { HasBodyAt capacity seat.old.me.0.consumer.cleared place len }
         requires last { HasLastAt place len seat.old.me.0 }

@@ -1,4 +1,4 @@
-use Rattle.std.proofs.Common.{◌≡◌, ℕ, ◌≤◌, sym, ap, ◌∙◌, subst}
+use Rattle.std.proofs.Common.{◌≤◌, sym, ap, ◌∙◌, subst}
 use Rattle.ring_table.specs.declared.view.View.{View}
 use Rattle.ring_rings.proofs.slots.skip_slots.Goals as goal
 
