@@ -2,8 +2,8 @@
 // header needs Linux, and is tested and not proved.
 //
 // To wait for a message, use read_asleep or receive_asleep, and call sleepers::wake after each write. read_wait and
-// receive_wait are for writers that do not call wake. They pause between tries, so they find a message up to about a
-// millisecond late. These two calls also return FELTER_NO_MESSAGE if the other side is gone and no message is left.
+// receive_wait are for writers that do not call wake. These two calls pause between tries, so they find a message up to
+// about a millisecond late. They also return FELTER_NO_MESSAGE if the other side is gone and no message is left.
 #ifndef FELTER_WAIT_HPP
 #define FELTER_WAIT_HPP
 
