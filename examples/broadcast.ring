@@ -1,7 +1,7 @@
 # A broadcast buffer of 256 bytes. The transmitter never waits. Receivers learn if they missed something.
 # Run it with: ./ring-run examples/broadcast.ring
 
-# A receiver begins with the latest record. Here no record is there yet.
+# A receiver begins with the latest record. Here no record was transmitted yet.
 subscribe
 receive 1
 

@@ -79,7 +79,7 @@ class Ends:
 
 class Owner(Unique, Handle):
     """A handle that owns an object of the library, and frees it. `number` is the number of its ring, board, counters or
-    conductor. `ends` are the ends of that structure. This end is one of `ends`, and either writes or reads."""
+    conductor. `ends` are the ends of that structure. The handle is one of these ends, and either writes or reads."""
 
     def __init__(self, number: int, ends: typing.Optional["Ends"] = None, writes: bool = True) -> None:
         self._ends = ends or Ends()

@@ -137,8 +137,8 @@ TAKES = {"bytes": take_bytes, "*handle": take_handle, **{word: taker(*its) for w
 
 
 class Function:
-    """A function of the library. A function takes values, then writes other values, and last may fill a buffer with
-    bytes."""
+    """A function of the library. The parameters of a function are first the values that it takes, then the values that
+    it writes, and then possibly a buffer that it fills."""
 
     def __init__(self, name: str, function: typing.Any, words: typing.List[str]) -> None:
         function.argtypes = [TYPES[it] for it in words]
@@ -242,8 +242,8 @@ else:
 
 class Freeing(Reference):
     """Frees what a handle owns when the handle is gone. The callback of this weak reference is a function of the
-    library. Its parameter is the reference itself, which ctypes replaces by the handle. So no code of Python runs. An
-    interrupt would be swallowed in such code."""
+    library. Its parameter is the reference itself, which ctypes replaces by the handle. So no Python code runs, in
+    which an interrupt would be swallowed."""
 
     _as_parameter_: typing.Any = None
 

@@ -6,10 +6,10 @@ use crate::raw::{self, Raw};
 
 /// Sends commands to a conductor, and receives the replies.
 ///
-/// Each call that sends tries once, and returns the correlation id that was drawn for the command. The reply says
-/// whether the conductor applied or refused the command. [`poll`](Client::poll) asks for the reply.
+/// Each call that sends a command tries once, and returns the correlation id that was drawn for the command. The reply
+/// says whether the conductor applied or refused the command. [`poll`](Client::poll) asks for the reply.
 ///
-/// Errors of each call that sends:
+/// Errors of each call that sends a command:
 ///
 /// - [`Error::TooLong`] if the command takes more than 520 bytes, or more than an eighth of the ring's capacity.
 /// - [`Error::PositionLimit`], [`Error::InsufficientCapacity`] or [`Error::Contended`], in the same cases as for

@@ -27,7 +27,7 @@ use crate::raw;
 /// # Ok::<(), felter::Error>(())
 /// ```
 ///
-/// One thread at a time uses a conductor, a client, a receiver or a reader. This does not compile:
+/// Only one thread at a time can use a conductor, a client, a receiver or a reader. This does not compile:
 ///
 /// ```compile_fail,E0596
 /// let mut conductor = felter::Conductor::new(128, 256, 1, 0).expect("sizes");
@@ -115,8 +115,8 @@ impl Conductor {
         Ok(Client { handle, conductor: self.number, end: self.end.other(false) })
     }
 
-    /// Makes a receiver of the replies as they are on the board. The receiver starts with the reply that was
-    /// transmitted last, and gets one of the board's shares.
+    /// Makes a receiver, which receives every reply as a message of the board. The receiver starts with the reply that
+    /// was transmitted last, and gets one of the board's shares.
     ///
     /// Errors: [`Error::NoShares`], [`Error::OutOfMemory`].
     pub fn subscribe(&mut self) -> Result<Receiver, Error> {

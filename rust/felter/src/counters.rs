@@ -9,7 +9,7 @@ pub(crate) const MAX_LABEL: usize = 380;
 /// The length of a key, in bytes.
 pub const MAX_KEY: usize = 112;
 
-/// Counters with the ids from 0 on.
+/// Counters, whose ids begin at 0.
 ///
 /// ```
 /// let mut counters = felter::Counters::new(8, 0)?;
@@ -129,7 +129,7 @@ impl Counters {
         self.handle.number(id, raw::felter_counter_decrement)
     }
 
-    /// Sets a counter's value, and returns the value that it had before.
+    /// Sets a counter's value, and returns the value before the call.
     ///
     /// Errors: [`Error::BadId`], [`Error::NotAllocated`].
     pub fn get_and_set(&mut self, id: u32, value: i64) -> Result<i64, Error> {

@@ -18,7 +18,7 @@ pub enum WaitError {
     Timeout,
     /// Every end of the other side was dropped, and a reader has read all messages.
     Disconnected,
-    /// The call was refused for a reason that does not pass.
+    /// The call was refused for a reason that waiting does not remove.
     Refused(Error),
 }
 
@@ -114,8 +114,8 @@ impl Producer {
 }
 
 impl Consumer {
-    /// Waits for a message, and reads it into a buffer. The call looks a few times, and then sleeps until a producer
-    /// wakes it.
+    /// Waits for a message, and reads it into a buffer. The call tries a few times to read, and then sleeps until a
+    /// producer wakes it.
     ///
     /// These are the errors:
     /// - [`WaitError::Timeout`] at the deadline;
