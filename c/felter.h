@@ -25,9 +25,9 @@
  *   5. malloc, realloc and free must belong to one allocator, and must align to 16 bytes. The processor must have
  *      x86-64-v2.
  *   6. No two rings, boards, conductors or sets of counters that exist at the same time may have the same number. Calls
- *      that take no number draw one from a single count, and so keep this rule. A program must keep the rule itself if
- *      it calls a function whose name ends in _numbered. It must also keep the rule itself if it has two such counts.
- *      For example, a library that includes this header and is loaded by dlopen can have a count of its own.
+ *      that take no number draw a number from a single count, and so keep this rule. A program must keep the rule
+ *      itself if it calls a function whose name ends in _numbered. It must also keep the rule itself if it has two such
+ *      counts. For example, a library that includes this header and is loaded by dlopen can have a count of its own.
  *
  * Messages. A write copies a body into the ring, and a read copies the body out of the ring. The stores that a thread
  * made before its felter_write or felter_commit are visible to the consumer after the read that returned the message.
@@ -41,10 +41,10 @@
  * library distinguishes these structures only if their numbers differ. So this header counts from 1 on, the Rust crate
  * from 2^62, and the Python module from 2^63.
  *
- * Results. Each call except felter_free and felter_version returns a code of enum felter_code. FELTER_OK is 0, and
+ * Results. Each call except felter_free and felter_version returns a code of enum felter_code. FELTER_OK is 0.
  * felter_text(code) says in words what a code means. A refused call writes no message, settles no claim, changes no
- * counter and empties no handle, unless its comment says otherwise. It may have loaded positions, passed padding and
- * aborted records, or drawn a correlation id. FELTER_LAPPED and FELTER_OTHER_REPLY are not refusals, since the receiver
+ * counter and empties no handle, unless its comment says otherwise. It may have loaded positions, passed padding or
+ * aborted claims, or drawn a correlation id. FELTER_LAPPED and FELTER_OTHER_REPLY are not refusals, since the receiver
  * or the client has moved on. A call writes numbers to the caller's variables only if it returns FELTER_OK, unless its
  * comment says otherwise. No call waits. After FELTER_INSUFFICIENT_CAPACITY, FELTER_CONTENDED or FELTER_NO_MESSAGE the
  * caller may pause and try again. Compilers warn if a result is not used.
@@ -531,8 +531,8 @@ int32_t felter_conductor_subscribe(felter_conductor *conductor, felter_receiver 
 int32_t felter_conductor_reader(felter_conductor *conductor, felter_reader *reader);
 
 /* These calls take back a client, a receiver or a reader of this conductor, with its shares, and empty its handle. A
- * client that was taken back never receives the replies that it had not received by then. Codes: FELTER_OTHER_RING if
- * the handle is of another conductor, or if felter_subscribe or felter_counters_reader made it. */
+ * client that was taken back receives no further replies. Codes: FELTER_OTHER_RING if the handle is of another
+ * conductor, or if felter_subscribe or felter_counters_reader made it. */
 int32_t felter_conductor_join(felter_conductor *conductor, felter_client *client);
 int32_t felter_conductor_join_receiver(felter_conductor *conductor, felter_receiver *receiver);
 int32_t felter_conductor_join_reader(felter_conductor *conductor, felter_reader *reader);
@@ -585,7 +585,7 @@ enum felter_reply {
  *   - FELTER_OTHER_REPLY if the message is the reply to another command, or is not a reply. The message was passed
  *     over, so poll again;
  *   - FELTER_LAPPED if the conductor overtook the client. *lapped is then the number of times that the client was
- *     lapped. The next call goes on with the reply that was transmitted last. The client does not learn what became of
+ *     lapped. The next call goes on with the reply that was transmitted last. The client does not learn the results of
  *     the commands that had no reply yet. */
 int32_t felter_poll(felter_client *client, uint64_t correlation, int32_t *kind, int64_t *number, uint64_t *lapped);
 

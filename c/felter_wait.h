@@ -5,7 +5,7 @@
  * A timeout is in milliseconds. With the timeout 0 a call tries once, and with a negative timeout it waits for ever.
  *
  * To wait for a message, use felter_read_asleep or felter_receive_asleep, and call felter_wake after each write. The
- * reader then wakes after some tens of microseconds. A write costs one more load while no reader sleeps.
+ * reader then wakes after some tens of microseconds. A call of felter_wake costs one load if no reader sleeps.
  *
  * felter_read_wait and felter_receive_wait are for rings and boards whose writers do not call felter_wake. They try
  * again and again with pauses, so they find a message up to about a millisecond late. */
@@ -111,7 +111,7 @@ FELTER_GUARD int32_t felter_receive_wait(felter_receiver *receiver, int32_t *typ
  * sleeps. Only felter_wake and the timeout wake a reader, so call felter_wake also when the last writer ends.
  */
 typedef struct felter_sleepers {
-    uint32_t count; /* how many readers sleep, or are about to */
+    uint32_t count; /* how many readers sleep, or are about to sleep */
     uint32_t turn;  /* how often readers were woken */
 } felter_sleepers;
 

@@ -21,7 +21,7 @@ inline constexpr std::chrono::milliseconds for_ever{-1};
 namespace detail {
 inline std::int64_t as_timeout(std::chrono::milliseconds it) noexcept { return static_cast<std::int64_t>(it.count()); }
 
-// Looks again and again until there is a message, the timeout has passed, or the other side is gone and left no
+// Calls `look` again and again until there is a message, the timeout has passed, or the other side is gone and left no
 // message.
 template <class End, class Look>
 result<message> until_found(End &end, std::chrono::milliseconds timeout, Look look) {

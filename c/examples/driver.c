@@ -32,8 +32,8 @@ static struct caller callers[CLIENTS] = {{"requests", FELTER_EMPTY, -1, 0, 0}, {
 static atomic_int stop;
 static int saw_fall;
 
-/* Returns whether to send again. If another client was faster, the caller tries again at once. If the ring is full, the
- * conductor must take a command first. */
+/* Returns whether the caller should send the command again. If another client was faster, the caller tries again at
+ * once. If the ring is full, the conductor must take a command first. */
 static int again(int32_t code) {
     if (code == FELTER_INSUFFICIENT_CAPACITY) sched_yield();
     return code == FELTER_INSUFFICIENT_CAPACITY || code == FELTER_CONTENDED;

@@ -60,8 +60,8 @@ class Ends:
         self._most = 16
 
     def add(self, owner: "Owner", writes: bool) -> None:
-        """Adds an end. Other threads may add ends at the same time, since each step on a dict is one step of the
-        interpreter."""
+        """Adds an end. Other threads may add ends at the same time, since the interpreter makes each change of a dict
+        in one step."""
         it = weakref.ref(owner)
         its = self.writers if writes else self.readers
         its[id(it)] = it

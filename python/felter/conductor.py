@@ -20,7 +20,7 @@ LOOKS = 16
 
 
 class WorkStop(enum.IntEnum):
-    """The reasons why a call of `Conductor.work` stops, by the numbers of felter.h."""
+    """The reasons why a call of `Conductor.work` stops, with the numbers of felter.h."""
 
     # The limit was reached.
     LIMIT = 0

@@ -24,7 +24,7 @@ class Positions(typing.NamedTuple):
 
 
 class Found(enum.IntEnum):
-    """The kind of thing that is next in a ring, by the numbers of felter.h."""
+    """The kind of thing that is next in a ring, with the numbers of felter.h."""
 
     # A message, which the consumer reads next.
     MESSAGE = 0

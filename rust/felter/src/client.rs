@@ -109,7 +109,7 @@ impl Client {
         self.sent(|handle, id| unsafe { raw::felter_send_free(handle, counter, id) })
     }
 
-    /// Does the same as [`free`](Client::free), under the name of this call in C++ and Python.
+    /// Does the same as [`free`](Client::free). This is the name of the call in C++ and Python.
     pub fn release(&mut self, counter: u32) -> Result<u64, Error> {
         self.free(counter)
     }

@@ -91,7 +91,7 @@ impl Counters {
         done(unsafe { raw::felter_counter_free(self.handle.raw(), now, id) })
     }
 
-    /// Does the same as [`free`](Counters::free), under the name of this call in C++ and Python.
+    /// Does the same as [`free`](Counters::free). This is the name of the call in C++ and Python.
     pub fn release(&mut self, now: u64, id: u32) -> Result<(), Error> {
         self.free(now, id)
     }
