@@ -37,15 +37,15 @@
  * Numbers. If a call takes two handles, both must be of one ring, board, conductor or set of counters. Each of these
  * structures gets a number when it is made. A call that takes two handles compares the numbers of their structures.
  * felter_close, felter_join and the other joins return FELTER_OTHER_RING if the numbers differ. They also return this
- * code if only one handle belongs to a conductor. Code in several languages can make structures in one process. The
- * library distinguishes these structures only if their numbers differ. So this header counts from 1 on, the Rust crate
- * from 2^62, and the Python module from 2^63.
+ * code if only one of the two handles belongs to a conductor. Code in several languages can make structures in one
+ * process. The library distinguishes these structures only if their numbers differ. So this header counts from 1 on,
+ * the Rust crate from 2^62, and the Python module from 2^63.
  *
  * Results. Each call except felter_free and felter_version returns a code of enum felter_code. FELTER_OK is 0.
  * felter_text(code) says in words what a code means. A refused call writes no message, settles no claim, changes no
  * counter and empties no handle, unless its comment says otherwise. It may have loaded positions, passed padding or
  * aborted claims, or drawn a correlation id. FELTER_LAPPED and FELTER_OTHER_REPLY are not refusals, since the receiver
- * or the client has moved on. A call writes numbers to the caller's variables only if it returns FELTER_OK, unless its
+ * or the client has moved on. A call that does not return FELTER_OK leaves the caller's variables unchanged, unless its
  * comment says otherwise. No call waits. After FELTER_INSUFFICIENT_CAPACITY, FELTER_CONTENDED or FELTER_NO_MESSAGE the
  * caller may pause and try again. Compilers warn if a result is not used.
  *
@@ -205,7 +205,7 @@ static inline int32_t felter_one_to_one_new_at(uint32_t capacity, uint64_t start
 int32_t felter_write(felter_producer *producer, int32_t type_id, const void *body, size_t len);
 
 /* Tries once to claim room for a message of `len` bytes. Each byte is 0 until felter_put stores it. Writes the number
- * of the claim, which is its place in the ring. No other claim of the ring ever has this number.
+ * of the claim, which is the claim's position in the ring. No other claim of the ring ever has this number.
  *
  * Any number of claims may be open at once, and they may be settled in any order. The time to settle a claim does not
  * grow with the number of open claims. The consumer does not pass an open claim, so each claim must be settled.
@@ -467,8 +467,8 @@ int32_t felter_counters_reader(felter_counters *counters, felter_reader *reader)
 /* Loads a value. The value of an id that was never used is 0. The value of a freed id is its last value. If a reader
  * loads the value of an id twice, the second value was not written before the first one. Codes: FELTER_BAD_ID. */
 int32_t felter_reader_value(felter_reader *reader, uint32_t id, int64_t *value);
-/* Takes back a reader of these counters with its share, and empties its handle. Codes: FELTER_OTHER_RING if the reader
- * is of other counters, or if felter_conductor_reader made it. */
+/* Takes back a reader of these counters with its share, and empties the reader's handle. Codes: FELTER_OTHER_RING if
+ * the reader is of other counters, or if felter_conductor_reader made it. */
 int32_t felter_counters_join(felter_counters *counters, felter_reader *reader);
 
 /* Conductors ----------------------------------------------------------------------------------------------------- */
@@ -530,7 +530,7 @@ int32_t felter_conductor_subscribe(felter_conductor *conductor, felter_receiver 
  * felter_counters_reader. */
 int32_t felter_conductor_reader(felter_conductor *conductor, felter_reader *reader);
 
-/* These calls take back a client, a receiver or a reader of this conductor, with its shares, and empty its handle. A
+/* These calls take back a client, a receiver or a reader of this conductor with its shares, and empty the handle. A
  * client that was taken back receives no further replies. Codes: FELTER_OTHER_RING if the handle is of another
  * conductor, or if felter_subscribe or felter_counters_reader made it. */
 int32_t felter_conductor_join(felter_conductor *conductor, felter_client *client);

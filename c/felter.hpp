@@ -40,7 +40,7 @@ struct positions {
 class producer;
 
 // Room for one message. The destructor aborts the claim unless it was committed. The producer must live longer than the
-// claim, and must not be moved meanwhile.
+// claim, and must not be moved while the claim exists.
 class claim {
 public:
     claim(claim &&from) noexcept : raw_(std::exchange(from.raw_, nullptr)), number_(from.number_) {}

@@ -35,7 +35,7 @@ extern "C" {
 extern long syscall(long number, ...);
 #endif
 
-/* Stores how long a call has waited. A pause begins as {0, 0, timeout}. */
+/* Stores how long a call has waited. A felter_pause begins as {0, 0, timeout}. */
 typedef struct felter_pause {
     int64_t began; /* in nanoseconds, 0 before the first pause */
     int turns;
@@ -187,7 +187,7 @@ FELTER_GUARD int32_t felter_receive_asleep(felter_receiver *receiver, felter_sle
  *
  * If the conductor overtakes the client, the reply may be lost. Then the call soon sends a second command, which frees
  * an id that no counter has, and so changes nothing. Replies to one client come in the order of its commands. So the
- * reply to the second command shows that the conductor took the first one before.
+ * reply to the second command shows that the conductor had already taken the first one.
  */
 
 /* The outcomes of a request. Each comment says what is known of the command, and which code the call returns. */

@@ -97,7 +97,7 @@ def call(name: str, *given: typing.Any) -> typing.Any:
 
 
 def take_bytes(given: typing.Any) -> typing.Tuple[typing.Any, ...]:
-    """Returns the bytes of an object's buffer, and their number. The object's own `__len__` is not
+    """Returns the bytes of an object's buffer, and the number of these bytes. The object's own `__len__` is not
     used."""
     if type(given) is bytes:
         return given, len(given)
@@ -333,7 +333,8 @@ class Handle:
                 self._was_emptied = self._raw.at is None
 
     def _is_empty(self) -> bool:
-        """Returns whether the handle owned nothing when its last call ended. This is not known during a call."""
+        """Returns whether the handle was empty at the end of its last call. The result says nothing about a call that
+        is running."""
         return self._was_emptied
 
     def _is_forked(self) -> bool:

@@ -256,7 +256,7 @@ class Client(Owner):
 
         If the conductor overtakes the client, the reply may be lost. Then the call soon sends a second command, which
         frees an id that no counter has, and so changes nothing. Replies to one client come in the order of its
-        commands. So the reply to the second command shows that the conductor took the first one before.
+        commands. So the reply to the second command shows that the conductor had already taken the first one.
 
         The call raises Full or Contended if the command was not sent in time. It raises Unanswered if no reply came,
         and Disconnected if the conductor is gone."""

@@ -118,7 +118,7 @@ impl Client {
     ///
     /// If the conductor overtakes the client, the reply may be lost. Then the call soon sends a second command, which
     /// frees an id that no counter has, and so changes nothing. Replies to one client come in the order of its
-    /// commands. So the reply to the second command shows that the conductor took the first one before.
+    /// commands. So the reply to the second command shows that the conductor had already taken the first one.
     ///
     /// Errors: see [`RequestError`]. Without a deadline the call waits for ever, and returns neither
     /// [`RequestError::Pending`] nor [`RequestError::Unknown`].

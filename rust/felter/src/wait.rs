@@ -145,7 +145,7 @@ impl Consumer {
 }
 
 impl Consumer {
-    /// Waits for a message as a task, and reads it into a buffer. A write wakes the task.
+    /// Waits in a task for a message, and reads the message into a buffer. A write wakes the task.
     ///
     /// These are the errors:
     /// - [`WaitError::Disconnected`] if every producer was dropped and all messages were read;
@@ -184,8 +184,8 @@ impl Consumer {
 }
 
 impl Receiver {
-    /// Waits for a message as a task, and copies it into a buffer. A transmission wakes the task. Otherwise the call is
-    /// the same as [`recv`](Receiver::recv) without a deadline.
+    /// Waits in a task for a message, and copies the message into a buffer. A transmission wakes the task. Otherwise
+    /// the call is the same as [`recv`](Receiver::recv) without a deadline.
     pub async fn recv_async<'a>(&mut self, buffer: &'a mut [u8]) -> Result<Message<'a>, WaitError> {
         let bed = self.bed();
         let (type_id, len) = until_woken(&bed, || {
