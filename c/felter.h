@@ -579,8 +579,8 @@ enum felter_reply {
     FELTER_REPLY_CLOSED = 104     /* the owner's counters were freed, and the number says how many were freed */
 };
 
-/* Takes the next message of the board, for a caller that waits for the reply to the command with this correlation id.
- * If the message is that reply, writes its kind (enum felter_reply) and its number. Codes:
+/* Takes the next message of the board. `correlation` is the id of the command whose reply the caller waits for. If the
+ * message is this reply, the call writes the kind (enum felter_reply) and the number of the reply. Codes:
  *   - FELTER_NO_MESSAGE if no message is there yet;
  *   - FELTER_OTHER_REPLY if the message is the reply to another command, or is not a reply. The message was passed
  *     over, so poll again;

@@ -1,8 +1,8 @@
 /* Written by c/bindings from felter.h. To change this file, change felter.h and run c/bindings.
  *
  * A program includes felter.h, which includes this file. For each function of the library there is a function here,
- * which tests for NULL pointers before it calls the library. The name of the library's function is a macro for the
- * function here. */
+ * which tests for NULL pointers before it calls the library. For a program, the name of a library function is a macro
+ * for the function in this file. */
 #ifndef FELTER_INLINE_H
 #define FELTER_INLINE_H
 

@@ -33,8 +33,8 @@ public:
     constexpr explicit operator bool() const noexcept { return number_ == FELTER_OK; }
     constexpr std::int32_t number() const noexcept { return number_; }
     const char *text() const noexcept { return felter_text(number_); }
-    // Returns whether the same call may succeed later. This is so if the ring was full, another producer was faster, or
-    // no message was there.
+    // Returns whether the same call may succeed later. The result is true if the ring was full, another producer was
+    // faster, or no message was there.
     constexpr bool is_passing() const noexcept {
         return number_ == FELTER_INSUFFICIENT_CAPACITY || number_ == FELTER_CONTENDED || number_ == FELTER_NO_MESSAGE;
     }

@@ -60,7 +60,7 @@ static int32_t hear(struct caller *it, uint64_t id, int64_t *number) {
     }
 }
 
-/* Sets the counter to the next numbers, one command for each, and then waits for their replies. */
+/* Sends commands that set the counter to the next numbers, and then waits for the replies. */
 static int set_batch(struct caller *it, int64_t first) {
     uint64_t ids[BATCH];
     int64_t number;

@@ -43,8 +43,8 @@ class Trace(Reference):
         return self.producer
 
     def is_over(self) -> bool:
-        """Returns whether there is nothing to abort. This is so if the claim was settled or never made, or its producer
-        was freed."""
+        """Returns whether there is nothing to abort. The result is True if the claim was settled or never made, or if
+        its producer was freed."""
         producer = self.owner()
         return producer is None or self.number.value == NONE or producer._is_empty() or producer._is_forked()
 

@@ -24,8 +24,8 @@ class Error(Exception):
 
     @property
     def is_passing(self) -> bool:
-        """Returns whether the same call may succeed later. This is so if the ring was full, or another producer was
-        faster."""
+        """Returns whether the same call may succeed later. The result is True if the ring was full, or another producer
+        was faster."""
         return self.number in (Number.INSUFFICIENT_CAPACITY, Number.CONTENDED)
 
 

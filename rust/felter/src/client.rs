@@ -134,9 +134,9 @@ impl Client {
         Ok(id)
     }
 
-    /// Takes the next message of the board, for a caller that waits for the reply to the command with this correlation
-    /// id. The conductor replies to the commands of a client in the order in which they were sent. So ask for the
-    /// replies in that order.
+    /// Takes the next message of the board. `correlation` is the id of the command whose reply the caller waits for.
+    /// The conductor replies to the commands of a client in the order in which they were sent. So ask for the replies
+    /// in that order.
     ///
     /// Errors: [`Error::Lapped`] if the conductor overtook the client. The next call goes on with the reply that was
     /// transmitted last. The client does not learn the results of the commands that had no reply yet.

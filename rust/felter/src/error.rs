@@ -114,8 +114,8 @@ errors! {
 }
 
 impl Error {
-    /// Returns whether the same call may succeed later. This is so if the ring was full, or another producer was
-    /// faster.
+    /// Returns whether the same call may succeed later. The result is true if the ring was full, or another producer
+    /// was faster.
     ///
     /// ```
     /// let (mut producer, _consumer) = felter::one_to_one(128)?;
