@@ -500,9 +500,9 @@ enum felter_stop {
     FELTER_STOP_BOARD_END = 3    /* a reply might end above 2^62 on the board; the command stays and is not applied */
 };
 
-/* Takes up to `limit` commands, applies each at the moment `now`, and transmits its reply. Writes how many commands
- * were taken (possibly 0), and why the call stopped (enum felter_stop). Codes: FELTER_BAD_MOMENT. The call then takes
- * no command. */
+/* Takes up to `limit` commands. Each command is applied at the moment `now`, and the reply to it is transmitted. Writes
+ * how many commands were taken (possibly 0), and why the call stopped (enum felter_stop). Codes: FELTER_BAD_MOMENT. The
+ * call then takes no command. */
 int32_t felter_conductor_work(felter_conductor *conductor, uint64_t now, uint32_t limit, uint64_t *messages,
                               int32_t *stopped);
 /* felter_conductor_set_heartbeat stores a heartbeat, which is any number. felter_client_heartbeat loads the heartbeat

@@ -121,8 +121,8 @@ class Conductor(Owner):
         return reader
 
     def work(self, now: int, limit: int = 2**32 - 1) -> Work:
-        """Takes up to `limit` commands, applies each at the moment `now`, and transmits its reply. If the extension in
-        C is used, other Python threads wait during the call."""
+        """Takes up to `limit` commands. Each command is applied at the moment `now`, and the reply to it is
+        transmitted. If the extension in C is used, other Python threads wait during the call."""
         messages, stopped = self._do("felter_conductor_work", now, limit)
         self._wake()
         return Work(messages, WorkStop(stopped))

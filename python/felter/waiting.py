@@ -198,7 +198,7 @@ class Doorbell:
         return bool(poll.poll(None if timeout is None else max(0, timeout * 1000)))
 
     def close(self) -> None:
-        """Closes the doorbell. This may be called again."""
+        """Closes the doorbell. A doorbell may be closed more than once."""
         self._reads.close()
         self._writes.close()
 

@@ -137,7 +137,8 @@ impl Conductor {
         Ok(Reader { handle, counters: self.number })
     }
 
-    /// Takes up to `limit` commands, applies each at the moment `now`, in milliseconds, and transmits its reply.
+    /// Takes up to `limit` commands. Each command is applied at the moment `now`, in milliseconds, and the reply to it
+    /// is transmitted.
     ///
     /// Errors: [`Error::BadMoment`]. No command is then taken.
     pub fn work(&mut self, now: u64, limit: u32) -> Result<Work, Error> {
