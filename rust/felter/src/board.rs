@@ -22,6 +22,7 @@ pub struct Transmitter {
     handle: Handle,
     board: Number,
     end: End,
+    sizes: Sizes,
 }
 
 impl Transmitter {
@@ -39,12 +40,13 @@ impl Transmitter {
         let (board, mut handle) = (Number::next(), Handle::empty());
         // SAFETY: a number that nothing else has, and an empty handle.
         done(unsafe { raw::felter_board_new_at_numbered(board.raw(), capacity, start, handle.raw()) })?;
-        Ok(Transmitter { handle, board, end: End::writer() })
+        let sizes = handle.sizes()?;
+        Ok(Transmitter { handle, board, end: End::writer(), sizes })
     }
 
     /// The capacity of the board, and the length of its longest message.
-    pub fn sizes(&mut self) -> Result<Sizes, Error> {
-        self.handle.sizes()
+    pub fn sizes(&self) -> Result<Sizes, Error> {
+        Ok(self.sizes)
     }
 
     /// Transmits a message.
@@ -66,7 +68,7 @@ impl Transmitter {
         let mut handle = Handle::empty();
         // SAFETY: two handles, the second empty.
         done(unsafe { raw::felter_subscribe(self.handle.raw(), handle.raw()) })?;
-        Ok(Receiver { handle, board: self.board, end: self.end.other(false) })
+        Receiver::of(handle, self.board, self.end.other(false))
     }
 
     /// Makes a raw receiver, which returns each record without its body. The rest is as for
@@ -88,7 +90,7 @@ impl Transmitter {
         let mut handle = Handle::empty();
         // SAFETY: two handles, the second empty.
         done(unsafe { raw::felter_subscribe_raw(self.handle.raw(), handle.raw()) })?;
-        Ok(RawReceiver { handle, board: self.board, end: self.end.other(false) })
+        Ok(RawReceiver { handle, board: self.board, end: self.end.other(false), sizes: self.sizes })
     }
 
     /// Takes back a receiver of this board, with its share.
@@ -189,12 +191,26 @@ pub struct Receiver {
     /// The number of the board, or of the conductor that transmits on it.
     pub(crate) board: Number,
     pub(crate) end: End,
+    sizes: Sizes,
+    /// The buffer of `receive_owned`, which is empty until then.
+    pub(crate) room: Vec<u8>,
 }
 
 impl Receiver {
+    /// A receiver of a board or a conductor, by its handle.
+    pub(crate) fn of(mut handle: Handle, board: Number, end: End) -> Result<Receiver, Error> {
+        let sizes = handle.sizes()?;
+        Ok(Receiver { handle, board, end, sizes, room: Vec::new() })
+    }
+
     /// The capacity of the board, and the length of its longest message.
-    pub fn sizes(&mut self) -> Result<Sizes, Error> {
-        self.handle.sizes()
+    pub fn sizes(&self) -> Result<Sizes, Error> {
+        Ok(self.sizes)
+    }
+
+    /// The length of the longest message.
+    pub(crate) fn longest(&self) -> usize {
+        self.sizes.max_message as usize
     }
 
     /// The position, in bytes, at which the next call looks for a message.
@@ -229,7 +245,8 @@ impl Receiver {
     /// - [`Error::Lapped`] if the transmitter overtook the receiver. The next call goes on with the message that was
     ///   transmitted last.
     /// - [`Error::ShortBuffer`] if the buffer is shorter than an eighth of the capacity, however short the message is.
-    ///   Then nothing is taken.
+    ///   Then nothing is taken. [`receive_owned`](Receiver::receive_owned) needs no buffer, and a
+    ///   [`RawReceiver`] needs one that is as long as the message.
     pub fn receive<'a>(&mut self, buffer: &'a mut [u8]) -> Result<Option<Message<'a>>, Error> {
         let (mut type_id, mut len, mut lapped) = (0, 0, 0);
         let (at, room) = (buffer.as_mut_ptr(), buffer.len());
@@ -267,12 +284,13 @@ pub struct RawReceiver {
     handle: Handle,
     board: Number,
     end: End,
+    sizes: Sizes,
 }
 
 impl RawReceiver {
     /// The capacity of the board, and the length of its longest message.
-    pub fn sizes(&mut self) -> Result<Sizes, Error> {
-        self.handle.sizes()
+    pub fn sizes(&self) -> Result<Sizes, Error> {
+        Ok(self.sizes)
     }
 
     /// The position, in bytes, at which the next call looks for a message.
