@@ -39,10 +39,11 @@ final class Workloads {
                 sum[0] += first;
                 kept = last;
             };
+            final long batch = Math.max(1, Math.min(BATCH, of.capacity / 2 / (of.size + 16)));
             long got = 0, written = 0;
             final long began = System.nanoTime();
             while (written < times) {
-                for (final long end = Math.min(times, written + BATCH); written < end; written++) {
+                for (final long end = Math.min(times, written + batch); written < end; written++) {
                     if (!writer.write(written)) wrong("a full ring");
                 }
                 while (got < written) got += ring.read(add);
