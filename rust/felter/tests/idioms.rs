@@ -128,3 +128,18 @@ fn an_error_becomes_one_of_a_call_that_waits() {
     }
     assert_eq!(write_then_wait(), Err(WaitError::Refused(Error::BadType)));
 }
+
+#[test]
+fn a_counter_is_freed_by_the_name_of_each_language() {
+    let mut counters = felter::Counters::new(2, 0).unwrap();
+    let ids = [counters.allocate(0, 1, b"", b"", 0).unwrap(), counters.allocate(0, 1, b"", b"", 0).unwrap()];
+    counters.free(0, ids[0]).unwrap();
+    counters.release(0, ids[1]).unwrap();
+    assert_eq!(ids.map(|id| counters.state(id)), [Ok(-1), Ok(-1)]);
+    let mut conductor = felter::Conductor::new(1024, 1024, 1, 0).unwrap();
+    let mut client = conductor.client().unwrap();
+    client.allocate(1, b"", b"").unwrap();
+    client.release(0).unwrap();
+    conductor.work(0, 9).unwrap();
+    assert_eq!(conductor.state(0), Ok(-1));
+}
