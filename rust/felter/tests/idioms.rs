@@ -42,9 +42,7 @@ fn a_consumer_is_given_to_a_loop() {
     assert_eq!((messages.next(), messages.next()), (None, None));
     let (producer, consumer) = many_to_one(128).unwrap();
     drop(producer);
-    for message in consumer {
-        panic!("nobody wrote {message:?}");
-    }
+    assert_eq!(consumer.into_iter().count(), 0);
 }
 
 #[test]
