@@ -58,7 +58,7 @@ class Waiting(Case):
 
         def write():
             for number in range(100):
-                producer.write(1, b"%d" % number, None)
+                producer.write(1, b"%d" % number, 10)
                 if number % 40 == 0:
                     time.sleep(0.005)
             producer.free()
