@@ -1,11 +1,11 @@
-//! A verdict with what the run has, as a table and as JSON.
+//! A verdict with the counts of the run, as a table and as JSON.
 use crate::why::reason;
 use ring_judge::{QueueLine, Verdict};
 use serde_json::{Map, Value, put};
 use std::alloc::{AllocError, Global};
 use std::fmt::Write;
 
-/// How many lines of each kind a run has.
+/// The number of lines of each kind in a run.
 #[derive(Clone, Copy)]
 struct Counts {
     sent: u64,
@@ -16,13 +16,13 @@ struct Counts {
 /// A line that no history explains.
 #[derive(Drop)]
 struct Unexplained {
-    /// Its number, counted from 1.
+    /// The number of the line, counted from 1.
     line: u64,
     text: String,
     reason: String,
 }
 
-/// A verdict with what the run has.
+/// A verdict with the counts of the run.
 #[derive(Drop)]
 pub struct Report {
     counts: Counts,
@@ -46,7 +46,7 @@ fn counts_of(lines: &[QueueLine]) -> Counts {
     counts
 }
 
-/// The text of the line at this index.
+/// Returns the text of the line at this index.
 fn text_of(alloc: Global, text: &[u8], at: usize) -> Result<String, AllocError> {
     for (index, line) in text.split(|letter| *letter == b'\n').enumerate() {
         if index == at {
@@ -57,7 +57,7 @@ fn text_of(alloc: Global, text: &[u8], at: usize) -> Result<String, AllocError> 
 }
 
 impl Report {
-    /// The report of a run, from its text, its lines and the verdict.
+    /// Returns the report of a run, from its text, its lines and the verdict.
     pub fn of(
         alloc: Global,
         text: &[u8],
@@ -78,7 +78,7 @@ impl Report {
         })
     }
 
-    /// The verdict, and then how many messages were sent, refused and shown.
+    /// Returns a table with the verdict, and with how many messages were sent, refused and shown.
     pub fn to_table(&self, alloc: Global) -> Result<String, AllocError> {
         let mut text = String::new(alloc);
         match &self.unexplained {
@@ -106,7 +106,7 @@ impl Report {
         Ok(text)
     }
 
-    /// The same as an object of JSON. `line`, `text` and `reason` are `null` after a yes.
+    /// Returns the same report as an object of JSON. `line`, `text` and `reason` are `null` after a yes.
     pub fn to_json(&self, alloc: Global, file: &str) -> Result<String, AllocError> {
         let mut object = Map::new(alloc);
         let verdict = if self.unexplained.is_none() {

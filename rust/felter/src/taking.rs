@@ -3,7 +3,8 @@ use crate::owned::OwnedMessage;
 use crate::ring::Consumer;
 use std::iter::FusedIterator;
 
-/// An iterator over the messages that are there, which takes each message from the ring. See [`Consumer::try_iter`].
+/// An iterator over the messages that are in the ring, which takes each message from the ring. See
+/// [`Consumer::try_iter`].
 #[derive(Debug)]
 pub struct TryIter<'a> {
     consumer: &'a mut Consumer,
@@ -26,8 +27,8 @@ pub struct IntoIter {
 }
 
 impl Consumer {
-    /// Returns an iterator over the messages that are there. The iterator returns `None` if no message is there, and
-    /// may be asked again later.
+    /// Returns an iterator over the messages that are there. The iterator returns `None` if no message is there. A
+    /// later call may return a message again.
     ///
     /// ```
     /// let (mut producer, mut consumer) = felter::many_to_one(1024)?;
@@ -58,7 +59,7 @@ impl Consumer {
         Iter { consumer: self, room }
     }
 
-    /// A buffer for the longest message, so that no read is refused.
+    /// Returns a buffer for the longest message, so that no read is refused.
     fn longest(&self) -> Vec<u8> {
         vec![0; self.sizes().map_or(0, |it| it.max_message as usize)]
     }
