@@ -28,7 +28,8 @@ import points as listed
 TICK = os.sysconf("SC_CLK_TCK")
 LIMIT = 60  # seconds that one measurement may take
 SETS = 3  # that a figure of the page needs
-UNPINNED = ("java",)  # workers that use all processors: the compiler of a JVM runs beside the program
+# workers that use all processors: the compiler of a JVM runs beside the program
+UNPINNED = ("java", "felter-java", "agrona-java")
 
 
 class Worker:

@@ -6,8 +6,8 @@
 
 pip calls build_wheel, which pyproject.toml names (the interface of PEP 517). The wheel has the shared library. If there
 are a compiler and Python's headers, the wheel also has the extension in C. Without the extension, calls go through
-ctypes, which takes about ten times as long. One extension fits each CPython from 3.8 on. If RING_RUN and RING_SHOW are
-set, they name programs, which the wheel then has as the commands ring-run and ring-show.
+ctypes, which takes about ten times as long. One extension fits each CPython from 3.8 on. If RING_RUN, RING_SHOW and
+RING_CHECK are set, they name programs, which the wheel then has as the commands ring-run, ring-show and ring-check.
 
 The tag of the wheel names the oldest C library of GNU with which all its files run, by the versions of their symbols. If
 this machine has another C library, the wheel is for this machine alone.
@@ -84,7 +84,7 @@ def tags(files):
 
 def programs():
     """The programs that the environment names, by the names of the commands."""
-    named = {"ring-run": os.environ.get("RING_RUN"), "ring-show": os.environ.get("RING_SHOW")}
+    named = {it: os.environ.get(it.upper().replace("-", "_")) for it in ("ring-run", "ring-show", "ring-check")}
     return {name: pathlib.Path(path).read_bytes() for name, path in named.items() if path}
 
 

@@ -33,6 +33,14 @@ with producer.claim(1, 4) as claim:
 conductor = felter.Conductor(1024, 1024, 4)
 reply: felter.Reply = conductor.client().request(conductor.client().set, 1, 2, timeout=1)
 name: str = felter.implementation
+bodies: typing.List[bytes] = [it.body for it in consumer.messages(timeout=0)]
+receiver = felter.Transmitter(256).subscribe()
+received: typing.Iterator[felter.Message] = receiver.messages()
+
+
+async def follow() -> None:
+    async for it in receiver:
+        it.body.decode()
 """
 WRONG = [
     'producer.write(7, "text")',

@@ -52,6 +52,60 @@ class Waiting(Case):
         run(lambda: write(producer, 1), lambda: write(other, 2), collect)
         self.assertEqual(read, {1: list(range(300)), 2: list(range(300))})
 
+    def test_messages_are_waited_for_until_the_producers_are_gone(self):
+        producer, consumer = felter.many_to_one(1024)
+        read = []
+
+        def write():
+            for number in range(100):
+                producer.write(1, b"%d" % number, 10)
+                if number % 40 == 0:
+                    time.sleep(0.005)
+            producer.free()
+
+        run(write, lambda: read.extend(int(it.body) for it in consumer.messages()))
+        self.assertEqual(read, list(range(100)))
+        producer, consumer = felter.many_to_one(1024)
+        producer.write(2, b"one")
+        began = time.monotonic()
+        self.assertEqual(list(consumer.messages(0.02)), [Message(2, b"one")])
+        self.assertGreaterEqual(time.monotonic() - began, 0.02)
+        self.assertEqual(list(consumer.messages(0)), [])
+
+    def test_a_receiver_waits_for_messages_and_goes_on_after_a_lap(self):
+        transmitter = felter.Transmitter(256)
+        receiver = transmitter.subscribe()
+        for number in range(30):
+            transmitter.transmit(1 + number, b"body")
+        with self.assertRaises(felter.Lapped):
+            next(receiver.messages())
+        self.assertEqual([it.type_id for it in receiver.messages(0.01)], [30])
+
+        def transmit():
+            time.sleep(0.01)
+            for number in range(5):
+                transmitter.transmit(50 + number, b"body")
+            transmitter.free()
+
+        read = []
+        run(transmit, lambda: read.extend(it.type_id for it in receiver.messages()))
+        self.assertEqual(read, [50, 51, 52, 53, 54])
+
+    def test_a_receiver_is_waited_for_by_a_task(self):
+        async def collect(receiver):
+            return [message.type_id async for message in receiver]
+
+        async def both():
+            transmitter = felter.Transmitter(1024)
+            its = asyncio.ensure_future(collect(transmitter.subscribe()))
+            for number in range(5):
+                await asyncio.sleep(0.002)
+                transmitter.transmit(1 + number, b"")
+            transmitter.free()
+            return await its
+
+        self.assertEqual(asyncio.run(both()), [1, 2, 3, 4, 5])
+
     def test_a_reader_that_sleeps_is_woken_by_a_write(self):
         # (by pauses of up to a millisecond it would be about half a millisecond: the best of a few tries, since other
         # programs may have the processors)

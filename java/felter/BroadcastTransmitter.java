@@ -35,4 +35,24 @@ public final class BroadcastTransmitter extends Owner {
     public CopyBroadcastReceiver subscribe() {
         return new CopyBroadcastReceiver(this);
     }
+
+    /** Makes a receiver of records without their bodies, which starts with the record that was transmitted last. */
+    public BroadcastReceiver subscribeRaw() {
+        return new BroadcastReceiver(this);
+    }
+
+    /**
+     * Takes back a receiver of this buffer, which receives nothing more. A buffer has 65,536 shares. Each receiver has
+     * one of them. The share is lost if a receiver is closed, or is no longer referred to, and was not taken back.
+     *
+     * @throws FelterException if the receiver belongs to another buffer.
+     */
+    public void join(final CopyBroadcastReceiver receiver) {
+        Native.must(Native.boardJoin(handle(0), receiver.handle(0)));
+    }
+
+    /** Takes back a receiver of records of this buffer. The rest is as for the other form. */
+    public void join(final BroadcastReceiver receiver) {
+        Native.must(Native.boardJoinRaw(handle(0), receiver.handle(0)));
+    }
 }

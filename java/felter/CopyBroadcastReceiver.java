@@ -26,10 +26,12 @@ public final class CopyBroadcastReceiver extends Owner {
      * was transmitted last.
      */
     public int receive(final MessageHandler handler) {
-        int length = Native.receive(handle(0), Native.address(scratch), scratch.capacity(), outAddress);
-        if (length == -Native.LAPPED) {
-            lapped = out.getLong(8);
+        int length = -Native.LAPPED;
+        for (int tries = 0; tries < 2 && length == -Native.LAPPED; tries++) {
             length = Native.receive(handle(0), Native.address(scratch), scratch.capacity(), outAddress);
+            if (length == -Native.LAPPED) {
+                lapped = out.getLong(8);
+            }
         }
         if (length == -Native.NO_MESSAGE || length == -Native.LAPPED) {
             return 0;

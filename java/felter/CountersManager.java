@@ -16,12 +16,22 @@ public final class CountersManager extends Owner {
     /** The state that {@link #getCounterState} returns for a counter that was freed. */
     public static final int RECORD_RECLAIMED = -1;
 
-    private static final int MAX_LABEL_LENGTH = 380;
+    /** What {@link #findByTypeIdAndRegistrationId} returns if no counter fits. */
+    public static final int NULL_COUNTER_ID = -1;
+    /** What {@link #getFreeForReuseDeadline} returns for a counter that is in use. */
+    public static final long NOT_FREE_TO_REUSE = Long.MAX_VALUE;
+    /** The length of the longest label, in bytes. */
+    public static final int MAX_LABEL_LENGTH = 380;
+    /** The length of a key, in bytes. */
+    public static final int MAX_KEY_LENGTH = 112;
+
     private static final byte[] NOTHING = {};
 
     private final int count;
     private final ByteBuffer out = buffer(MAX_LABEL_LENGTH);
     private final long outAddress = Native.address(out);
+    private final ByteBuffer key = buffer(MAX_KEY_LENGTH);
+    private final long keyAddress = Native.address(key);
 
     /** Makes {@code count} counters. A freed id is not allocated again for {@code freeToReuseTimeoutMs}
      * milliseconds. */
@@ -73,6 +83,18 @@ public final class CountersManager extends Owner {
         Native.must(Native.counterFree(handle(0), now, counterId));
     }
 
+    /** Frees each counter of an owner at a moment, and returns how many there were. */
+    public int closeOwner(final long ownerId, final long now) {
+        Native.must(Native.countersCloseOwner(handle(0), now, ownerId, outAddress));
+        return out.getInt(0);
+    }
+
+    /** Returns the value of a counter in use. */
+    public long getCounterValue(final int counterId) {
+        Native.must(Native.counterValue(handle(0), counterId, outAddress));
+        return out.getLong(0);
+    }
+
     /** Sets a counter's value. */
     public void setCounterValue(final int counterId, final long value) {
         Native.must(Native.counterSet(handle(0), counterId, value));
@@ -108,6 +130,12 @@ public final class CountersManager extends Owner {
         return out.getInt(0) == 1;
     }
 
+    /** Raises a counter's value to the proposed one if the counter is below it. Returns whether that was so. */
+    public boolean proposeMax(final int counterId, final long proposedValue) {
+        Native.must(Native.counterProposeMax(handle(0), counterId, proposedValue, outAddress));
+        return out.getInt(0) == 1;
+    }
+
     /** Returns the state of an id. */
     public int getCounterState(final int counterId) {
         Native.must(Native.counterState(handle(0), counterId, outAddress));
@@ -118,6 +146,55 @@ public final class CountersManager extends Owner {
     public int getCounterTypeId(final int counterId) {
         Native.must(Native.counterTypeId(handle(0), counterId, outAddress));
         return out.getInt(0);
+    }
+
+    /** Returns the registration id of a counter in use. */
+    public long getCounterRegistrationId(final int counterId) {
+        Native.must(Native.counterRegistration(handle(0), counterId, outAddress));
+        return out.getLong(0);
+    }
+
+    /** Returns the owner of a counter in use, or 0 if it has none. */
+    public long getCounterOwnerId(final int counterId) {
+        Native.must(Native.counterOwner(handle(0), counterId, outAddress));
+        return out.getLong(0);
+    }
+
+    /**
+     * Returns the moment from which an id may be allocated again. That is 0 if the id was never used, and {@link
+     * #NOT_FREE_TO_REUSE} if its counter is in use.
+     */
+    public long getFreeForReuseDeadline(final int counterId) {
+        Native.must(Native.counterDeadline(handle(0), counterId, outAddress));
+        return out.getLong(0);
+    }
+
+    /** Returns the key of a counter in use. Zeros follow a key that was shorter than {@link #MAX_KEY_LENGTH}. */
+    public byte[] getCounterKey(final int counterId) {
+        final byte[] bytes = new byte[MAX_KEY_LENGTH];
+        final ByteBuffer its = keyOf(counterId);
+        for (int i = 0; i < MAX_KEY_LENGTH; i++) {
+            bytes[i] = its.get(i);
+        }
+        return bytes;
+    }
+
+    private ByteBuffer keyOf(final int counterId) {
+        Native.must(Native.counterKey(handle(0), counterId, keyAddress, MAX_KEY_LENGTH));
+        return key;
+    }
+
+    /**
+     * Returns the lowest id in use with this type id and this registration id, or {@link #NULL_COUNTER_ID} if there is
+     * none.
+     */
+    public int findByTypeIdAndRegistrationId(final int typeId, final long registrationId) {
+        final int id = Native.counterFind(handle(0), typeId, registrationId);
+        if (id == -Native.NOT_ALLOCATED) {
+            return NULL_COUNTER_ID;
+        }
+        Native.must(Math.max(0, -id));
+        return id;
     }
 
     /** Returns the label of a counter in use. */
@@ -138,6 +215,26 @@ public final class CountersManager extends Owner {
                 consumer.accept(id);
             }
         }
+    }
+
+    /** Calls the consumer with the value, the id and the label of each counter in use, by rising id. */
+    public void forEach(final CountersReader.CounterConsumer consumer) {
+        forEach(id -> consumer.accept(getCounterValue(id), id, getCounterLabel(id)));
+    }
+
+    /** Calls the consumer with the type id, the key and the label of each counter in use, by rising id. */
+    public void forEach(final CountersReader.MetaData consumer) {
+        forEach(id -> consumer.accept(id, getCounterTypeId(id), keyOf(id), getCounterLabel(id)));
+    }
+
+    /**
+     * Takes back a reader of these counters, which loads nothing more. Counters have 65,536 shares. Each reader has one
+     * of them. The share is lost if a reader is closed, or is no longer referred to, and was not taken back.
+     *
+     * @throws FelterException if the reader belongs to other counters.
+     */
+    public void join(final CountersReader reader) {
+        Native.must(Native.countersJoin(handle(0), reader.handle(0)));
     }
 
     /** Makes a reader of the counters' values, for another thread. */

@@ -4,6 +4,23 @@ import java.nio.ByteBuffer;
 
 /** Loads the values of counters on another thread. {@link CountersManager#reader} makes a reader. */
 public final class CountersReader extends Owner {
+    /** Gets the value, the id and the label of a counter. See {@link CountersManager#forEach(CounterConsumer)}. */
+    @FunctionalInterface
+    public interface CounterConsumer {
+        /** Handles a counter that is in use. */
+        void accept(long value, int counterId, String label);
+    }
+
+    /** Gets the type id, the key and the label of a counter. See {@link CountersManager#forEach(MetaData)}. */
+    @FunctionalInterface
+    public interface MetaData {
+        /**
+         * Handles a counter that is in use. The key has {@link CountersManager#MAX_KEY_LENGTH} bytes, from index 0 of
+         * the buffer on. The buffer is used again after the call.
+         */
+        void accept(int counterId, int typeId, ByteBuffer keyBuffer, String label);
+    }
+
     private final ByteBuffer out = buffer(8);
     private final long outAddress = Native.address(out);
 

@@ -101,6 +101,16 @@ final class Native {
 
     static native int receive(long receiver, long buffer, int room, long out);
 
+    static native int subscribeRaw(long transmitter, long receiver);
+
+    static native int boardJoinRaw(long transmitter, long receiver);
+
+    static native int receiveNext(long receiver, long out);
+
+    static native int loadBody(long receiver, long buffer, int room);
+
+    static native int validate(long receiver);
+
     static native int countersNew(int count, int reuseMs, long counters);
 
     static native int allocate(
@@ -119,6 +129,24 @@ final class Native {
     static native int counterGetAndSet(long counters, int id, long value, long out);
 
     static native int counterCompareAndSet(long counters, int id, long expected, long value, long out);
+
+    static native int counterProposeMax(long counters, int id, long value, long out);
+
+    static native int counterValue(long counters, int id, long out);
+
+    static native int counterRegistration(long counters, int id, long out);
+
+    static native int counterOwner(long counters, int id, long out);
+
+    static native int counterDeadline(long counters, int id, long out);
+
+    static native int counterKey(long counters, int id, long buffer, int room);
+
+    static native int counterFind(long counters, int typeId, long registration);
+
+    static native int countersCloseOwner(long counters, long now, long owner, long out);
+
+    static native int countersJoin(long counters, long reader);
 
     static native int counterState(long counters, int id, long out);
 

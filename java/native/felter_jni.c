@@ -161,6 +161,37 @@ NATIVE(jint, receive)(HERE, jlong receiver, jlong buffer, jint room, jlong out) 
     return code ? -code : (jint)len;
 }
 
+NATIVE(jint, subscribeRaw)(HERE, jlong transmitter, jlong receiver) {
+    (void)env, (void)its;
+    return felter_subscribe_raw(at(transmitter), at(receiver));
+}
+
+NATIVE(jint, boardJoinRaw)(HERE, jlong transmitter, jlong receiver) {
+    (void)env, (void)its;
+    return felter_board_join_raw(at(transmitter), at(receiver));
+}
+
+/* Returns the length of the body, or a negated code. Writes the type id, or after a lap the number of laps. */
+NATIVE(jint, receiveNext)(HERE, jlong receiver, jlong out) {
+    (void)env, (void)its;
+    uint64_t *to = at(out);
+    size_t len = 0;
+    int32_t type_id = 0;
+    int32_t code = felter_receive_next(at(receiver), &type_id, &len, to + 1);
+    memcpy(to, &type_id, sizeof type_id);
+    return code ? -code : (jint)len;
+}
+
+NATIVE(jint, loadBody)(HERE, jlong receiver, jlong buffer, jint room) {
+    (void)env, (void)its;
+    return felter_load_body(at(receiver), at(buffer), (size_t)room);
+}
+
+NATIVE(jint, validate)(HERE, jlong receiver) {
+    (void)env, (void)its;
+    return felter_validate(at(receiver));
+}
+
 /* Counters */
 
 NATIVE(jint, countersNew)(HERE, jint count, jint reuse_ms, jlong counters) {
@@ -217,6 +248,54 @@ NATIVE(jint, counterGetAndSet)(HERE, jlong counters, jint id, jlong value, jlong
 NATIVE(jint, counterCompareAndSet)(HERE, jlong counters, jint id, jlong expected, jlong value, jlong out) {
     (void)env, (void)its;
     return felter_counter_compare_and_set(at(counters), (uint32_t)id, expected, value, at(out));
+}
+
+NATIVE(jint, counterProposeMax)(HERE, jlong counters, jint id, jlong value, jlong out) {
+    (void)env, (void)its;
+    return felter_counter_propose_max(at(counters), (uint32_t)id, value, at(out));
+}
+
+NATIVE(jint, counterValue)(HERE, jlong counters, jint id, jlong out) {
+    (void)env, (void)its;
+    return felter_counter_value(at(counters), (uint32_t)id, at(out));
+}
+
+NATIVE(jint, counterRegistration)(HERE, jlong counters, jint id, jlong out) {
+    (void)env, (void)its;
+    return felter_counter_registration(at(counters), (uint32_t)id, at(out));
+}
+
+NATIVE(jint, counterOwner)(HERE, jlong counters, jint id, jlong out) {
+    (void)env, (void)its;
+    return felter_counter_owner(at(counters), (uint32_t)id, at(out));
+}
+
+NATIVE(jint, counterDeadline)(HERE, jlong counters, jint id, jlong out) {
+    (void)env, (void)its;
+    return felter_counter_deadline(at(counters), (uint32_t)id, at(out));
+}
+
+NATIVE(jint, counterKey)(HERE, jlong counters, jint id, jlong buffer, jint room) {
+    (void)env, (void)its;
+    return felter_counter_key(at(counters), (uint32_t)id, at(buffer), (size_t)room);
+}
+
+/* Returns the id, or a negated code. */
+NATIVE(jint, counterFind)(HERE, jlong counters, jint type_id, jlong registration) {
+    (void)env, (void)its;
+    uint32_t id = 0;
+    int32_t code = felter_counter_find(at(counters), type_id, (uint64_t)registration, &id);
+    return code ? -code : (jint)id;
+}
+
+NATIVE(jint, countersCloseOwner)(HERE, jlong counters, jlong now, jlong owner, jlong out) {
+    (void)env, (void)its;
+    return felter_counters_close_owner(at(counters), (uint64_t)now, (uint64_t)owner, at(out));
+}
+
+NATIVE(jint, countersJoin)(HERE, jlong counters, jlong reader) {
+    (void)env, (void)its;
+    return felter_counters_join(at(counters), at(reader));
 }
 
 NATIVE(jint, counterState)(HERE, jlong counters, jint id, jlong out) {

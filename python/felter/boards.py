@@ -1,10 +1,11 @@
 """Boards, which are broadcast buffers. A transmitter never waits, and a receiver learns what it missed."""
 
+import contextlib
 import typing
 
 from felter._library import call, direct
 from felter._owner import Owner, Sizes, numbers
-from felter.errors import Error, Number
+from felter.errors import Disconnected, Error, Number
 from felter.message import Buffer, Message
 from felter.waiting import wait_as_task, wait_for
 
@@ -107,8 +108,24 @@ class Receiver(Owner):
         return found
 
     def __iter__(self) -> typing.Iterator[Message]:
-        """Returns an iterator over the messages that are there, which takes each message."""
+        """Returns an iterator over the messages that are there, which takes each message. It does not wait."""
         return iter(self._receive, None)
+
+    def messages(self, timeout: typing.Optional[float] = None) -> typing.Iterator[Message]:
+        """Returns an iterator that waits for each message, as `receive` does with a timeout. The iterator ends when no
+        message came within `timeout` seconds, or when the transmitter is gone and all messages were received. After it
+        has raised Lapped, another call goes on with the message that was transmitted last."""
+        with contextlib.suppress(Disconnected):
+            yield from iter(lambda: self.receive(timeout), None)
+
+    async def __aiter__(self) -> typing.AsyncIterator[Message]:
+        """Waits for each message, until the transmitter is gone and all messages were received. After it has raised
+        Lapped, another `async for` goes on with the message that was transmitted last."""
+        with contextlib.suppress(Disconnected):
+            while True:
+                message = await self.receive_async()
+                if message is not None:
+                    yield message
 
     def lapped_count(self) -> int:
         """Returns how often the receiver was lapped."""

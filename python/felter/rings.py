@@ -87,8 +87,14 @@ class Consumer(Controlled):
         return found
 
     def __iter__(self) -> typing.Iterator[Message]:
-        """Returns an iterator over the messages that are there, which takes each message."""
+        """Returns an iterator over the messages that are there, which takes each message. It does not wait."""
         return iter(self._read, None)
+
+    def messages(self, timeout: typing.Optional[float] = None) -> typing.Iterator[Message]:
+        """Returns an iterator that waits for each message, as `read` does with a timeout. The iterator ends when no
+        message came within `timeout` seconds, or when every producer is gone and all messages were read."""
+        with contextlib.suppress(Disconnected):
+            yield from iter(lambda: self.read(timeout), None)
 
     @direct
     def read_batch(self, limit: int, room: int = 65536) -> typing.List[Message]:

@@ -1,3 +1,4 @@
+import felter.BroadcastReceiver;
 import felter.BroadcastTransmitter;
 import felter.ControlledMessageHandler.Action;
 import felter.CopyBroadcastReceiver;
@@ -202,11 +203,76 @@ public final class Two {
         }
     }
 
+    /** A receiver of records, which copies only the bodies that are asked for. */
+    private static void raw() {
+        try (BroadcastTransmitter transmitter = new BroadcastTransmitter(256);
+            BroadcastReceiver receiver = transmitter.subscribeRaw()) {
+            refused(105, () -> receiver.validate());
+            check(receiver.capacity() == 256 && !receiver.receiveNext(), "nothing yet");
+            transmitter.transmit(3, direct("passed"), 8, 6);
+            transmitter.transmit(4, direct("copied"), 8, 6);
+            check(receiver.receiveNext() && receiver.typeId() == 3 && receiver.length() == 6, "the first record");
+            check(receiver.receiveNext() && receiver.typeId() == 4, "the second record");
+            final ByteBuffer body = receiver.buffer();
+            check(receiver.validate() && "copied".equals(text(body, receiver.offset(), receiver.length())), "the body");
+            for (int i = 0; i < 40; i++) {
+                transmitter.transmit(1 + i, direct("more"), 8, 4);
+            }
+            check(!receiver.validate(), "the record is overwritten");
+            check("copied".equals(text(receiver.buffer(), 0, 6)), "and not copied again");
+            check(receiver.receiveNext() && receiver.typeId() == 40 && receiver.lappedCount() == 1, "the last one");
+            check(!receiver.receiveNext() && receiver.lappedCount() == 1, "and no more");
+            try (BroadcastTransmitter other = new BroadcastTransmitter(256);
+                CopyBroadcastReceiver copying = other.subscribe()) {
+                refused(108, () -> other.join(receiver));
+                refused(108, () -> transmitter.join(copying));
+                other.join(copying);
+                refused(100, () -> copying.receive((type, buffer, index, length) -> check(false, "nothing")));
+            }
+            transmitter.join(receiver);
+            refused(100, () -> receiver.receiveNext());
+        }
+    }
+
+    /** Counters by their types, registration ids and keys. */
+    private static void found() {
+        try (CountersManager counters = new CountersManager(4, 10); CountersReader reader = counters.reader()) {
+            final int none = CountersManager.NULL_COUNTER_ID;
+            check(counters.findByTypeIdAndRegistrationId(9, 5) == none, "none is there");
+            check(counters.getFreeForReuseDeadline(0) == 0, "no deadline");
+            final int first = counters.allocate("first", 9, new byte[] {7, 8}, 0, 5, 6);
+            final int second = counters.allocate("second", 9, new byte[] {}, 0, 50, 6);
+            check(counters.findByTypeIdAndRegistrationId(9, 50) == second, "by both");
+            check(counters.findByTypeIdAndRegistrationId(8, 50) == none, "another type");
+            check(counters.getCounterRegistrationId(first) == 5 && counters.getCounterOwnerId(second) == 6, "its ids");
+            check(counters.getFreeForReuseDeadline(first) == CountersManager.NOT_FREE_TO_REUSE, "it is in use");
+            check(counters.proposeMax(second, 3) && !counters.proposeMax(second, 2), "the greatest value");
+            check(counters.getCounterValue(second) == 3 && reader.getCounterValue(second) == 3, "its value");
+            final byte[] key = counters.getCounterKey(first);
+            check(key.length == CountersManager.MAX_KEY_LENGTH && key[0] == 7 && key[1] == 8 && key[2] == 0, "its key");
+            final List<String> seen = new ArrayList<>();
+            counters.forEach((value, id, label) -> seen.add(label + id + value));
+            counters.forEach((id, type, its, label) -> seen.add(label + id + type + its.get(1)));
+            check(seen.equals(List.of("first00", "second13", "first098", "second190")), "what was seen: " + seen);
+            check(counters.closeOwner(6, 100) == 2 && counters.getFreeForReuseDeadline(first) == 110, "both are freed");
+            check(counters.findByTypeIdAndRegistrationId(9, 5) == none, "and not found");
+            refused(21, () -> counters.getCounterKey(first));
+            refused(20, () -> counters.getCounterOwnerId(4));
+            try (CountersManager others = new CountersManager(1, 0)) {
+                refused(108, () -> others.join(reader));
+            }
+            counters.join(reader);
+            refused(100, () -> reader.getCounterValue(0));
+        }
+    }
+
     public static void main(final String[] arguments) throws InterruptedException {
         threads();
         endedThread();
         oneThread();
         others();
+        raw();
+        found();
         System.out.println("1000 messages, in order");
     }
 }

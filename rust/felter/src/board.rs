@@ -24,6 +24,7 @@ pub struct Transmitter {
     handle: Handle,
     board: Number,
     end: End,
+    sizes: Sizes,
 }
 
 impl Transmitter {
@@ -41,12 +42,13 @@ impl Transmitter {
         let (board, mut handle) = (Number::next(), Handle::empty());
         // SAFETY: nothing else has this number, and the handle is empty.
         done(unsafe { raw::felter_board_new_at_numbered(board.raw(), capacity, start, handle.raw()) })?;
-        Ok(Transmitter { handle, board, end: End::writer() })
+        let sizes = handle.sizes()?;
+        Ok(Transmitter { handle, board, end: End::writer(), sizes })
     }
 
     /// Returns the capacity of the board, and the length of its longest message.
-    pub fn sizes(&mut self) -> Result<Sizes, Error> {
-        self.handle.sizes()
+    pub fn sizes(&self) -> Result<Sizes, Error> {
+        Ok(self.sizes)
     }
 
     /// Transmits a message.
@@ -68,7 +70,7 @@ impl Transmitter {
         let mut handle = Handle::empty();
         // SAFETY: both handles are ours, and the second one is empty.
         done(unsafe { raw::felter_subscribe(self.handle.raw(), handle.raw()) })?;
-        Ok(Receiver { handle, board: self.board, end: self.end.other(false) })
+        Receiver::of(handle, self.board, self.end.other(false))
     }
 
     /// Makes a raw receiver, which returns each record without its body. Otherwise the call is the same as
@@ -90,7 +92,7 @@ impl Transmitter {
         let mut handle = Handle::empty();
         // SAFETY: both handles are ours, and the second one is empty.
         done(unsafe { raw::felter_subscribe_raw(self.handle.raw(), handle.raw()) })?;
-        Ok(RawReceiver { handle, board: self.board, end: self.end.other(false) })
+        Ok(RawReceiver { handle, board: self.board, end: self.end.other(false), sizes: self.sizes })
     }
 
     /// Takes back a receiver of this board, with its share.
@@ -193,12 +195,26 @@ pub struct Receiver {
     /// The number of the board, or of the conductor that transmits on it.
     pub(crate) board: Number,
     pub(crate) end: End,
+    sizes: Sizes,
+    /// The buffer of `receive_owned`, which is empty until then.
+    pub(crate) room: Vec<u8>,
 }
 
 impl Receiver {
+    /// Returns a receiver of a board or a conductor, by its handle.
+    pub(crate) fn of(mut handle: Handle, board: Number, end: End) -> Result<Receiver, Error> {
+        let sizes = handle.sizes()?;
+        Ok(Receiver { handle, board, end, sizes, room: Vec::new() })
+    }
+
     /// Returns the capacity of the board, and the length of its longest message.
-    pub fn sizes(&mut self) -> Result<Sizes, Error> {
-        self.handle.sizes()
+    pub fn sizes(&self) -> Result<Sizes, Error> {
+        Ok(self.sizes)
+    }
+
+    /// Returns the length of the longest message.
+    pub(crate) fn longest(&self) -> usize {
+        self.sizes.max_message as usize
     }
 
     /// Returns the position, in bytes, at which the next call looks for a message.
@@ -233,7 +249,8 @@ impl Receiver {
     /// - [`Error::Lapped`] if the transmitter overtook the receiver. The next call goes on with the message that was
     ///   transmitted last.
     /// - [`Error::ShortBuffer`] if the buffer is shorter than an eighth of the capacity, even if the message is short.
-    ///   No message is then taken.
+    ///   No message is then taken. [`receive_owned`](Receiver::receive_owned) needs no buffer, and a [`RawReceiver`]
+    ///   needs one that is as long as the message.
     pub fn receive<'a>(&mut self, buffer: &'a mut [u8]) -> Result<Option<Message<'a>>, Error> {
         let (mut type_id, mut len, mut lapped) = (0, 0, 0);
         let (at, room) = (buffer.as_mut_ptr(), buffer.len());
@@ -271,12 +288,13 @@ pub struct RawReceiver {
     handle: Handle,
     board: Number,
     end: End,
+    sizes: Sizes,
 }
 
 impl RawReceiver {
     /// Returns the capacity of the board, and the length of its longest message.
-    pub fn sizes(&mut self) -> Result<Sizes, Error> {
-        self.handle.sizes()
+    pub fn sizes(&self) -> Result<Sizes, Error> {
+        Ok(self.sizes)
     }
 
     /// Returns the position, in bytes, at which the next call looks for a message.

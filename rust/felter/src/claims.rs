@@ -4,21 +4,38 @@ use crate::error::{Error, Refused};
 use crate::handle::{done, Number};
 use crate::raw::{self, Raw};
 use crate::ring::Producer;
+use std::io::{self, Write};
 
 /// Room in a ring for one message. A claim that is dropped is aborted, and the consumer then passes it. A claim that is
 /// forgotten (`mem::forget`) stays open until its producer is dropped.
+///
+/// [`put`](Claim::put) and the calls of [`Write`] copy bytes into the message. No call lends the bytes of a claim as a
+/// slice, since between two calls no handle owns the bytes of a ring.
 #[derive(Debug)]
 #[must_use = "a claim that is dropped is aborted: commit or keep it"]
 pub struct Claim<'a> {
     producer: &'a mut Producer,
     number: u64,
+    len: usize,
+    /// How many bytes the calls of `Write` have put.
+    written: usize,
     is_open: bool,
 }
 
 impl<'a> Claim<'a> {
-    /// Returns an open claim of a producer, by its number.
-    pub(crate) fn of(producer: &'a mut Producer, number: u64) -> Claim<'a> {
-        Claim { producer, number, is_open: true }
+    /// Returns an open claim of a producer, by its number and its length.
+    pub(crate) fn of(producer: &'a mut Producer, number: u64, len: usize) -> Claim<'a> {
+        Claim { producer, number, len, written: 0, is_open: true }
+    }
+
+    /// Returns the length of the message, in bytes.
+    pub fn len(&self) -> usize {
+        self.len
+    }
+
+    /// Returns whether the message has no bytes.
+    pub fn is_empty(&self) -> bool {
+        self.len == 0
     }
 
     /// Puts bytes into the message, from the byte at `offset` on.
@@ -112,6 +129,34 @@ impl KeptClaim {
         let settled = self.ring.must_be(producer.ring).and_then(|()| done(call(producer.handle.raw(), self.number)));
         producer.end.wake();
         settled.map_err(|reason| Refused { reason, back: self })
+    }
+}
+
+/// Puts bytes one after another, from the first byte of the message on. After the last byte of the message a write
+/// returns 0, so `write_all` and `write!` then return an error of the kind `WriteZero`. A [`put`](Claim::put) does not
+/// move the place of the next write.
+///
+/// ```
+/// use std::io::Write;
+///
+/// let (mut producer, mut consumer) = felter::one_to_one(256)?;
+/// let mut claim = producer.claim(1, 7)?;
+/// write!(claim, "{}:{}", 12, 3456)?;
+/// assert!(write!(claim, "more").is_err());
+/// claim.commit();
+/// assert_eq!(consumer.read_owned()?.map(|message| message.body), Some(b"12:3456".to_vec()));
+/// # Ok::<(), Box<dyn std::error::Error>>(())
+/// ```
+impl Write for Claim<'_> {
+    fn write(&mut self, bytes: &[u8]) -> io::Result<usize> {
+        let count = bytes.len().min(self.len - self.written);
+        self.put(self.written, &bytes[..count]).map_err(io::Error::other)?;
+        self.written += count;
+        Ok(count)
+    }
+
+    fn flush(&mut self) -> io::Result<()> {
+        Ok(())
     }
 }
 

@@ -123,7 +123,7 @@ impl Conductor {
         let mut handle = Handle::empty();
         // SAFETY: both handles are ours, and the second one is empty.
         done(unsafe { raw::felter_conductor_subscribe(self.handle.raw(), handle.raw()) })?;
-        Ok(Receiver { handle, board: self.number, end: self.end.other(false) })
+        Receiver::of(handle, self.number, self.end.other(false))
     }
 
     /// Makes a reader of the counters' values, for another thread. The reader gets one of the counters' 65,536 shares.

@@ -1,6 +1,7 @@
 //! Messages that were read.
 use crate::error::Error;
 use crate::handle::done;
+use std::iter::FusedIterator;
 
 /// A message in a buffer of the caller.
 #[derive(Clone, Copy, Debug, PartialEq, Eq)]
@@ -52,3 +53,5 @@ impl<'a> Iterator for Batch<'a> {
 }
 
 impl ExactSizeIterator for Batch<'_> {}
+
+impl FusedIterator for Batch<'_> {}

@@ -5,6 +5,7 @@ use crate::error::{BatchRefused, Error, Refused};
 use crate::handle::{done, Handle, Number, Sizes};
 use crate::message::{message_of, Batch, Message};
 use crate::raw::{self, Raw};
+use std::io::IoSlice;
 
 /// Makes a ring for any number of producers, and returns its first producer and its consumer. A ring has 65,536 shares,
 /// and the first producer holds all of them.
@@ -156,7 +157,33 @@ impl Producer {
         let mut number = 0;
         // SAFETY: the handle and the number are ours.
         done(unsafe { raw::felter_claim(self.handle.raw(), type_id, len, &mut number) })?;
-        Ok(Claim::of(self, number))
+        Ok(Claim::of(self, number, len))
+    }
+
+    /// Tries once to write a message whose bytes are in several slices. The call claims room, puts the slices into it
+    /// one after another, and commits the claim.
+    ///
+    /// Errors: those of [`claim`](Producer::claim).
+    ///
+    /// ```
+    /// use std::io::IoSlice;
+    ///
+    /// let (mut producer, mut consumer) = felter::one_to_one(256)?;
+    /// producer.write_vectored(7, &[IoSlice::new(b"head "), IoSlice::new(b""), IoSlice::new(b"body")])?;
+    /// assert_eq!(consumer.read_owned()?.map(|message| message.body), Some(b"head body".to_vec()));
+    /// # Ok::<(), felter::Error>(())
+    /// ```
+    pub fn write_vectored(&mut self, type_id: i32, parts: &[IoSlice<'_>]) -> Result<(), Error> {
+        // (one slice may be in the list often, so the sum may be more than a length can be)
+        let len = parts.iter().fold(0_usize, |len, part| len.saturating_add(part.len()));
+        let mut claim = self.claim(type_id, len)?;
+        let mut at = 0;
+        for part in parts {
+            claim.put(at, part)?;
+            at += part.len();
+        }
+        claim.commit();
+        Ok(())
     }
 
     /// Makes another producer of a many-to-one ring, with one share. Claims that were kept stay with the first

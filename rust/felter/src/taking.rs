@@ -1,14 +1,7 @@
 //! Consumers as iterators.
+use crate::owned::OwnedMessage;
 use crate::ring::Consumer;
-
-/// A message that owns its bytes.
-#[derive(Clone, Debug, PartialEq, Eq)]
-pub struct OwnedMessage {
-    /// The type id of the message, at least 1.
-    pub type_id: i32,
-    /// The bytes of the message.
-    pub body: Vec<u8>,
-}
+use std::iter::FusedIterator;
 
 /// An iterator over the messages that are in the ring, which takes each message from the ring. See
 /// [`Consumer::try_iter`].
@@ -22,6 +15,14 @@ pub struct TryIter<'a> {
 #[derive(Debug)]
 pub struct Iter<'a> {
     consumer: &'a mut Consumer,
+    room: Vec<u8>,
+}
+
+/// An iterator that owns its consumer, and waits for messages until every producer is gone. `for message in consumer`
+/// makes one.
+#[derive(Debug)]
+pub struct IntoIter {
+    consumer: Consumer,
     room: Vec<u8>,
 }
 
@@ -68,8 +69,7 @@ impl Iterator for TryIter<'_> {
     type Item = OwnedMessage;
 
     fn next(&mut self) -> Option<OwnedMessage> {
-        let message = self.consumer.read(&mut self.room).ok()??;
-        Some(OwnedMessage { type_id: message.type_id, body: message.body.to_vec() })
+        self.consumer.read(&mut self.room).ok()?.map(OwnedMessage::from)
     }
 }
 
@@ -77,8 +77,29 @@ impl Iterator for Iter<'_> {
     type Item = OwnedMessage;
 
     fn next(&mut self) -> Option<OwnedMessage> {
-        let message = self.consumer.recv(&mut self.room, None).ok()?;
-        Some(OwnedMessage { type_id: message.type_id, body: message.body.to_vec() })
+        self.consumer.recv(&mut self.room, None).ok().map(OwnedMessage::from)
+    }
+}
+
+impl FusedIterator for Iter<'_> {}
+
+impl Iterator for IntoIter {
+    type Item = OwnedMessage;
+
+    fn next(&mut self) -> Option<OwnedMessage> {
+        self.consumer.recv(&mut self.room, None).ok().map(OwnedMessage::from)
+    }
+}
+
+impl FusedIterator for IntoIter {}
+
+impl IntoIterator for Consumer {
+    type Item = OwnedMessage;
+    type IntoIter = IntoIter;
+
+    fn into_iter(self) -> IntoIter {
+        let room = self.longest();
+        IntoIter { consumer: self, room }
     }
 }
 

@@ -3,6 +3,7 @@ use crate::board::Receiver;
 use crate::ends::Bed;
 use crate::error::Error;
 use crate::message::Message;
+use crate::owned::OwnedMessage;
 use crate::ring::{Consumer, Producer};
 use std::fmt;
 use std::future;
@@ -29,6 +30,12 @@ impl fmt::Display for WaitError {
             WaitError::Disconnected => f.write_str("the other side is gone"),
             WaitError::Refused(error) => error.fmt(f),
         }
+    }
+}
+
+impl From<Error> for WaitError {
+    fn from(error: Error) -> WaitError {
+        WaitError::Refused(error)
     }
 }
 
@@ -138,9 +145,26 @@ impl Consumer {
         let (type_id, len) = until_found(&bed, deadline, || {
             // (this comes first, so the last read finds what was written before the last producer was dropped)
             let is_last = self.is_abandoned();
-            tried(self.read(buffer), is_last)
+            tried(sized(self.read(buffer)), is_last)
         })?;
         Ok(Message { type_id, body: &buffer[..len] })
+    }
+
+    /// Waits for a message, however long it is. The rest is as for [`recv`](Consumer::recv).
+    ///
+    /// ```
+    /// let (mut producer, mut consumer) = felter::one_to_one(8192)?;
+    /// let sender = std::thread::spawn(move || producer.write(1, &[7; 1000]));
+    /// assert_eq!(consumer.recv_owned(None).map(|message| message.body.len()), Ok(1000));
+    /// sender.join().expect("it does not panic")?;
+    /// # Ok::<(), felter::Error>(())
+    /// ```
+    pub fn recv_owned(&mut self, deadline: Option<Instant>) -> Result<OwnedMessage, WaitError> {
+        let bed = self.bed();
+        until_found(&bed, deadline, || {
+            let is_last = self.is_abandoned();
+            tried(self.read_owned(), is_last)
+        })
     }
 }
 
@@ -176,7 +200,7 @@ impl Consumer {
         let bed = self.bed();
         let (type_id, len) = until_woken(&bed, || {
             let is_last = self.is_abandoned();
-            tried(self.read(buffer), is_last)
+            tried(sized(self.read(buffer)), is_last)
         })
         .await?;
         Ok(Message { type_id, body: &buffer[..len] })
@@ -190,7 +214,7 @@ impl Receiver {
         let bed = self.bed();
         let (type_id, len) = until_woken(&bed, || {
             let is_last = self.is_abandoned();
-            tried(self.receive(buffer), is_last)
+            tried(sized(self.receive(buffer)), is_last)
         })
         .await?;
         Ok(Message { type_id, body: &buffer[..len] })
@@ -219,17 +243,31 @@ impl Receiver {
         let bed = self.bed();
         let (type_id, len) = until_found(&bed, deadline, || {
             let is_last = self.is_abandoned();
-            tried(self.receive(buffer), is_last)
+            tried(sized(self.receive(buffer)), is_last)
         })?;
         Ok(Message { type_id, body: &buffer[..len] })
     }
+
+    /// Waits for a message, in a buffer of the receiver, as [`receive_owned`](Receiver::receive_owned) does. The rest
+    /// is as for [`recv`](Receiver::recv).
+    pub fn recv_owned(&mut self, deadline: Option<Instant>) -> Result<OwnedMessage, WaitError> {
+        let bed = self.bed();
+        until_found(&bed, deadline, || {
+            let is_last = self.is_abandoned();
+            tried(self.receive_owned(), is_last)
+        })
+    }
 }
 
-/// Returns the result of a try. A result is the type id and the length of a message, or an error, or `None` if no
-/// message is there yet.
-fn tried(found: Result<Option<Message<'_>>, Error>, is_last: bool) -> Option<Result<(i32, usize), WaitError>> {
+/// Returns the type id and the length of a message that was found.
+fn sized(found: Result<Option<Message<'_>>, Error>) -> Result<Option<(i32, usize)>, Error> {
+    Ok(found?.map(|message| (message.type_id, message.body.len())))
+}
+
+/// Returns the result of a try: what was found, an error, or `None` if no message is there yet.
+fn tried<T>(found: Result<Option<T>, Error>, is_last: bool) -> Option<Result<T, WaitError>> {
     match found {
-        Ok(Some(message)) => Some(Ok((message.type_id, message.body.len()))),
+        Ok(Some(message)) => Some(Ok(message)),
         Err(error) => Some(Err(WaitError::Refused(error))),
         Ok(None) if is_last => Some(Err(WaitError::Disconnected)),
         Ok(None) => None,

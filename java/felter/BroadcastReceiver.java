@@ -1,0 +1,115 @@
+package felter;
+
+import java.nio.ByteBuffer;
+
+/**
+ * Receives records without their bodies. {@link BroadcastTransmitter#subscribeRaw} makes a receiver. The body of a
+ * record is copied only if {@link #buffer} is called. {@link #validate} then says whether the copy is right:
+ *
+ * <pre>{@code
+ * while (receiver.receiveNext()) {
+ *     if (receiver.typeId() == WANTED) {
+ *         final ByteBuffer body = receiver.buffer();
+ *         if (receiver.validate()) {
+ *             use(body, receiver.offset(), receiver.length());
+ *         }
+ *     }
+ * }
+ * }</pre>
+ *
+ * <p>One thread at a time uses a receiver.
+ */
+public final class BroadcastReceiver extends Owner {
+    private final int capacity;
+    private final ByteBuffer out = buffer(16);
+    private final long outAddress = Native.address(out);
+    private ByteBuffer room = buffer(64);
+    private int typeId;
+    private int length;
+    private boolean isCopied = true;
+    private long lapped;
+
+    BroadcastReceiver(final BroadcastTransmitter transmitter) {
+        super(1);
+        Native.must(Native.subscribeRaw(transmitter.handle(0), handle(0)));
+        capacity = transmitter.capacity();
+    }
+
+    /** Returns the capacity of the buffer, in bytes. */
+    public int capacity() {
+        return capacity;
+    }
+
+    /**
+     * Passes the next record, and returns whether there was one. If the transmitter overtook the receiver, {@link
+     * #lappedCount} rises, and the receiver goes on with the record that was transmitted last.
+     */
+    public boolean receiveNext() {
+        int found = -Native.LAPPED;
+        for (int tries = 0; tries < 2 && found == -Native.LAPPED; tries++) {
+            found = Native.receiveNext(handle(0), outAddress);
+            if (found == -Native.LAPPED) {
+                lapped = out.getLong(8);
+            }
+        }
+        if (found == -Native.NO_MESSAGE || found == -Native.LAPPED) {
+            return false;
+        }
+        Native.must(Math.max(0, -found));
+        typeId = out.getInt(0);
+        length = found;
+        isCopied = false;
+        return true;
+    }
+
+    /** Returns the type id of the record that was received last. */
+    public int typeId() {
+        return typeId;
+    }
+
+    /** Returns the length of the body of the record that was received last, in bytes. */
+    public int length() {
+        return length;
+    }
+
+    /** Returns the index at which the body is in the {@link #buffer}. */
+    public int offset() {
+        return 0;
+    }
+
+    /**
+     * Returns a buffer with a copy of the body of the record that was received last. The first call for a record makes
+     * the copy. The copy is certain to be right only if {@link #validate} then returns true. The next record overwrites
+     * the buffer.
+     */
+    public ByteBuffer buffer() {
+        if (!isCopied) {
+            if (room.capacity() < length) {
+                room = buffer(length);
+            }
+            Native.must(Native.loadBody(handle(0), Native.address(room), room.capacity()));
+            isCopied = true;
+        }
+        return room;
+    }
+
+    /**
+     * Tests that the record that was received last is not yet overwritten. If the result is true, the copy that {@link
+     * #buffer} has returned is the body that was transmitted.
+     *
+     * @throws FelterException if no record was received yet.
+     */
+    public boolean validate() {
+        final int code = Native.validate(handle(0));
+        if (code == Native.LAPPED) {
+            return false;
+        }
+        Native.must(code);
+        return true;
+    }
+
+    /** Returns how often the transmitter overtook the receiver. */
+    public long lappedCount() {
+        return lapped;
+    }
+}
