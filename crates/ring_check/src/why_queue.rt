@@ -1,4 +1,4 @@
-//! Why a line cannot be, in words.
+//! Why a line of a queue cannot be, in words.
 use ring_judge::{Message, QueueLine};
 use std::alloc::{AllocError, Global};
 
