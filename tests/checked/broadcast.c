@@ -1,6 +1,6 @@
 /* Records a storm on a broadcast buffer of felter.h: broadcast CAPACITY RECEIVERS MESSAGES SEED FILE. The transmitter
  * makes MESSAGES messages of random lengths, and pauses now and then. Receivers subscribe one after another, from
- * before the first message on. */
+ * before the first message on. Each second one is a raw receiver. */
 #include "felter.h"
 #include "ring_record.h"
 
@@ -14,11 +14,14 @@
 #define LONGEST 8192
 
 struct receiver {
-    felter_receiver handle;
+    felter_receiver copying;
+    felter_raw_receiver raw;
     ring_record_log log;
     pthread_t thread;
+    /* How many calls of the raw receiver reported a lap. */
+    uint64_t laps;
     uint16_t id;
-    int failed;
+    int is_raw, failed;
 };
 
 static struct receiver receivers[MOST];
@@ -41,36 +44,60 @@ static void note(struct receiver *it, const unsigned char *body, size_t length) 
     ring_record_received(&it->log, it->id, number, ring_record_sum(body, length));
 }
 
+static int32_t receive_copy(struct receiver *it, unsigned char *room) {
+    int32_t type_id;
+    size_t length;
+    uint64_t lapped;
+    int32_t code = felter_receive(&it->copying, &type_id, &length, &lapped, room, LONGEST);
+    if (code == FELTER_OK) note(it, room, length);
+    if (code == FELTER_LAPPED) ring_record_lapped(&it->log, it->id, lapped);
+    return code;
+}
+
+/* A copy of a raw receiver counts only if its record was not overwritten meanwhile. */
+static int32_t receive_raw(struct receiver *it, unsigned char *room) {
+    int32_t type_id;
+    size_t length;
+    uint64_t lapped;
+    int32_t code = felter_receive_next(&it->raw, &type_id, &length, &lapped);
+    if (code == FELTER_OK) code = felter_load_body(&it->raw, room, LONGEST);
+    if (code == FELTER_OK) code = felter_validate(&it->raw);
+    if (code == FELTER_OK) note(it, room, length);
+    if (code == FELTER_LAPPED) ring_record_lapped(&it->log, it->id, ++it->laps);
+    return code;
+}
+
 static void *receive(void *its) {
     struct receiver *it = its;
     _Alignas(8) unsigned char room[LONGEST];
     for (;;) {
         int is_last = atomic_load(&has_ended);
-        int32_t type_id;
-        size_t length;
-        uint64_t lapped;
-        int32_t code = felter_receive(&it->handle, &type_id, &length, &lapped, room, sizeof room);
-        if (code == FELTER_OK) {
-            note(it, room, length);
-        } else if (code == FELTER_LAPPED) {
-            ring_record_lapped(&it->log, it->id, lapped);
-        } else if (code != FELTER_NO_MESSAGE) {
-            it->failed = 1;
-            return NULL;
-        } else if (is_last) {
+        int32_t code = it->is_raw ? receive_raw(it, room) : receive_copy(it, room);
+        if (code == FELTER_NO_MESSAGE && is_last) {
             ring_record_caught_up(&it->log, it->id);
             return NULL;
-        } else {
-            sched_yield();
+        }
+        if (code == FELTER_NO_MESSAGE) sched_yield();
+        if (code != FELTER_OK && code != FELTER_LAPPED && code != FELTER_NO_MESSAGE) {
+            it->failed = 1;
+            return NULL;
         }
     }
+}
+
+static int32_t subscribe(struct receiver *it) {
+    return it->is_raw ? felter_subscribe_raw(&transmitter, &it->raw) : felter_subscribe(&transmitter, &it->copying);
+}
+
+static int32_t join(struct receiver *it) {
+    return it->is_raw ? felter_board_join_raw(&transmitter, &it->raw) : felter_board_join(&transmitter, &it->copying);
 }
 
 static int start(uint16_t id) {
     struct receiver *it = &receivers[id];
     it->id = id;
-    return felter_subscribe(&transmitter, &it->handle) != FELTER_OK ||
-           pthread_create(&it->thread, NULL, receive, it) != 0;
+    it->is_raw = id % 2;
+    return subscribe(it) != FELTER_OK || pthread_create(&it->thread, NULL, receive, it) != 0;
 }
 
 /* Transmits all messages, and starts the receivers. Returns 1 if a call failed. */
@@ -108,7 +135,7 @@ int main(int count, char **words) {
         pthread_join(receivers[i].thread, NULL);
         failed |= receivers[i].failed;
         logs[i + 1] = receivers[i].log;
-        failed |= felter_board_join(&transmitter, &receivers[i].handle) != FELTER_OK;
+        failed |= join(&receivers[i]) != FELTER_OK;
     }
     uint64_t tail;
     failed |= felter_board_close(&transmitter, &tail) != FELTER_OK;
