@@ -1,47 +1,52 @@
 /* felter: rings, boards, counters and conductors for the threads of one process. A board is a broadcast buffer.
  *
- * The library of this header is proved. This header is not proved, and callers keep the rules below.
+ * The library of this header is proved. This header is not proved. Callers must keep the rules below.
  *
- * Layouts. The bodies of a ring are in memory of their own, beside the words of headers and positions, and padding has
- * the type id -2. So the memory of these rings does not have the layout of Agrona's rings. Boards and the metadata of
- * counters have Agrona's layout.
+ * Layouts. The bodies of messages are stored separately from the words of headers and positions. Padding has the type
+ * id -2. So the memory of these rings does not have the layout of Agrona's rings. Boards and the metadata of counters
+ * have Agrona's layout.
  *
  * Handles. A handle owns an endpoint (a producer, a consumer, ..) together with its ring. The ring lives as long as one
  * of its handles does. Handles may be freed in any order. These are the rules for callers:
- *   1. Begin each handle as FELTER_EMPTY, and free it by felter_free at the end. Never copy a handle and use both
- *      copies: both would free the same object. Never read or write what is in a handle. A call with an empty or freed
- *      handle returns FELTER_NO_HANDLE.
+ *   1. Begin each handle as FELTER_EMPTY, and free it by felter_free at the end. Never use two copies of a handle,
+ *      since both would free the same object. Never read or write the contents of a handle. A call with an empty or
+ *      freed handle returns FELTER_NO_HANDLE.
  *   2. One call at a time uses a handle. A handle may go to another thread if its last call is ordered before the first
- *      call of that thread: by the start or the join of a thread, a lock, a seq_cst atomic, or a message of a ring that
- *      was written after the last call and read before the first one. Otherwise the two calls race. Different handles
- *      may be used at the same time, also handles of one ring.
- *   3. The handles of one call are different handles. The buffers, numbers and handles of a call do not overlap. A
- *      buffer that is read is readable for its length. A buffer that is written is writable for its room, which is at
- *      most 2^63 - 1 bytes. No other thread touches a buffer during the call.
- *   4. No call comes from a signal handler, or from a forked child of a process with threads. No thread is cancelled
- *      asynchronously during a call: the handle of that call would be empty afterwards.
- *   5. malloc, realloc and free belong to one allocator, and align to 16 bytes. The processor has x86-64-v2.
- *   6. No two rings, boards, conductors or sets of counters that live have the same number. Calls that are not given a
- *      number draw one from a single count, which ensures this rule. A program must ensure the rule itself if it calls
- *      a function whose name ends in _numbered, or if it has two such counts (see below).
+ *      call of that thread. The start or the join of a thread, a lock or a seq_cst atomic can order the two calls. A
+ *      message of a ring orders them too, if it was written after the last call and read before the first one.
+ *      Otherwise the two calls race. Different handles may be used at the same time, even if they are of one ring.
+ *   3. The handles of one call must be different handles. The buffers, numbers and handles of a call must not overlap.
+ *      If a call reads a buffer, all bytes of its length must be readable. If a call writes a buffer, all bytes of its
+ *      room must be writable, and the room must be at most 2^63 - 1 bytes. No other thread may touch a buffer during
+ *      the call.
+ *   4. No call may come from a signal handler, or from a forked child of a process with threads. No thread may be
+ *      cancelled asynchronously during a call, since the handle of that call would be empty afterwards.
+ *   5. malloc, realloc and free must belong to one allocator, and must align to 16 bytes. The processor must have
+ *      x86-64-v2.
+ *   6. No two rings, boards, conductors or sets of counters that exist at the same time may have the same number. Calls
+ *      that take no number draw one from a single count, and so keep this rule. A program must keep the rule itself if
+ *      it calls a function whose name ends in _numbered. It must also do so if it has two such counts, for example
+ *      since dlopen loaded a library that includes this header.
  *
- * Messages. A write copies a body into the ring, and a read copies the body out of the ring. What a thread stored
- * before its felter_write or felter_commit is visible to the consumer after the read that returned the message. So a
- * message may hold the address of an object. The consumer gets messages in the order of their claims. felter_write
+ * Messages. A write copies a body into the ring, and a read copies the body out of the ring. The stores that a thread
+ * made before its felter_write or felter_commit are visible to the consumer after the read that returned the message.
+ * So a message may hold the address of an object. The consumer gets messages in the order of their claims. felter_write
  * makes a claim too.
  *
- * Numbers. If a call takes two handles, both are of one ring, board, conductor or set of counters. Each of these gets a
- * number when it is made, and such a call compares the numbers. felter_close, felter_join and the other joins return
- * FELTER_OTHER_RING if the numbers differ, or if only one handle belongs to a conductor. Several languages of one
- * process can make structures. The library distinguishes these structures only if their numbers differ. So this header
- * counts from 1 on, the Rust crate from 2^62, and the Python module from 2^63.
+ * Numbers. If a call takes two handles, both must be of one ring, board, conductor or set of counters. Each of these
+ * structures gets a number when it is made. A call that takes two handles compares the numbers of their structures.
+ * felter_close, felter_join and the other joins return FELTER_OTHER_RING if the numbers differ. They also return this
+ * code if only one handle belongs to a conductor. Several languages of one process can make structures. The library
+ * distinguishes these structures only if their numbers differ. So this header counts from 1 on, the Rust crate from
+ * 2^62, and the Python module from 2^63.
  *
  * Results. Each call except felter_free and felter_version returns a code of enum felter_code. FELTER_OK is 0, and
- * felter_text(code) says in words what a code means. A call that refuses leaves every handle as it was. FELTER_LAPPED
- * and FELTER_OTHER_REPLY are no refusals: the receiver or the client has moved on. Numbers are written to the caller's
- * variables only if the call returns FELTER_OK, unless its comment says otherwise. No call waits. After
- * FELTER_INSUFFICIENT_CAPACITY, FELTER_CONTENDED or FELTER_NO_MESSAGE the caller may try again, with a pause of its
- * own. Compilers warn if a result is not used.
+ * felter_text(code) says in words what a code means. A refused call writes no message, settles no claim, changes no
+ * counter and empties no handle, unless its comment says otherwise. It may have loaded positions, passed padding and
+ * aborted records, or drawn a correlation id. FELTER_LAPPED and FELTER_OTHER_REPLY are not refusals, since the receiver
+ * or the client has moved on. A call writes numbers to the caller's variables only if it returns FELTER_OK, unless its
+ * comment says otherwise. No call waits. After FELTER_INSUFFICIENT_CAPACITY, FELTER_CONTENDED or FELTER_NO_MESSAGE the
+ * caller may pause and try again. Compilers warn if a result is not used.
  *
  * Codes. The comment of a call lists after "Codes:" the codes other than FELTER_OK that it can return. Every call of a
  * handle can also return:
@@ -49,22 +54,26 @@
  *   - FELTER_NO_HANDLE, if the handle is empty, or is a NULL pointer;
  *   - FELTER_NULL_POINTER, if another pointer is NULL. A buffer may be NULL if its length is 0.
  * The codes for NULL come from felter_inline.h, which this header includes. A program that calls the library without
- * the header must test for NULL itself. The functions that are declared here as inline are in the libraries too, and
+ * the header must test for NULL itself. The functions that are declared here as inline are in the libraries too. They
  * test for NULL there as well.
  *
  * Units. Capacities, lengths, offsets and positions are in bytes. Positions count from the ring's start and never wrap.
- * Moments are in milliseconds, at most 2^62, by a clock of the caller.
+ * Moments are in milliseconds of a clock that the caller chooses, and are at most 2^62.
  *
  * Checked builds. Compile all files of a program with -DFELTER_CHECKED to test the program. Such a build is slower. A
  * call then writes a line to standard error and aborts the program in these cases:
  *   - A pointer is NULL.
- *   - A handle was never made, or is a copy of a handle that was freed. (This is not noticed if another handle has got
- *     the same memory.)
+ *   - A handle was never made, or is a copy of a handle that was freed. The call does not notice such a handle if
+ *     another handle has got the same memory.
  *   - The call is given one handle twice.
- *   - A call on another thread uses the handle.
+ *   - A call on another thread is using the handle.
  *
- * Link: cc program.c -Iinclude lib/libfelter.a, or cc program.c $(pkg-config --cflags --libs felter), or in CMake
- * find_package(felter) and target_link_libraries(program felter::felter). C++ programs can include felter.hpp.
+ * To compile and link a program, use one of these:
+ *   - cc program.c -Iinclude lib/libfelter.a
+ *   - cc program.c $(pkg-config --cflags --libs felter)
+ *   - in CMake: find_package(felter) and target_link_libraries(program felter::felter)
+ *
+ * C++ programs can include felter.hpp.
  */
 #ifndef FELTER_H
 #define FELTER_H
@@ -127,7 +136,7 @@ enum felter_code {
 /* Returns what a code means, in words. */
 static inline const char *felter_text(int32_t code);
 
-/* What a handle is inside. */
+/* The contents of a handle, which callers never use. */
 typedef struct felter_handle { void *at; } felter_handle;
 
 typedef struct felter_producer { felter_handle handle; } felter_producer;
@@ -144,10 +153,10 @@ typedef struct felter_client { felter_handle handle; } felter_client;
 #define FELTER_EMPTY {{0}}
 
 /* Frees what a handle owns, and empties the handle: felter_free(&producer.handle). An empty handle stays empty. The
- * open claims of a producer are aborted, so that the consumer passes them. A ring, a board and a conductor can end
- * without the handles that were freed. But the share of a producer is lost if the producer is freed without
+ * open claims of a producer are aborted, so that the consumer passes them. A ring, a board or a conductor can still be
+ * ended after some of its handles were freed. But the share of a producer is lost if the producer is freed without
  * felter_join. After 65,535 producers were split off and freed in this way, felter_split returns FELTER_NO_SHARES.
- * After the consumer of a ring was freed, writes succeed until the ring is full, and messages that were not read are
+ * After the consumer of a ring was freed, writes succeed until the ring is full. Messages that were not read are
  * lost. */
 void felter_free(felter_handle *handle);
 
@@ -155,21 +164,23 @@ void felter_free(felter_handle *handle);
  * minor number, plus the patch number. The result is not a code. */
 int32_t felter_version(void);
 
-/* Writes the capacity of the ring or board of a handle, and the length of its longest message, which is an eighth of
- * the capacity. The handle is a producer, a consumer, a transmitter, or a receiver of either kind:
+/* Writes the capacity of the ring or board of a handle, and the length of its longest message. This length is an eighth
+ * of the capacity. The handle is a producer, a consumer, a transmitter, or a receiver of either kind:
  * felter_capacity(&producer.handle, ..). */
 int32_t felter_capacity(felter_handle *handle, uint32_t *capacity, uint32_t *longest);
 
-/* Each call that makes a structure has two forms. A function of the library, whose name ends in _numbered, takes a
- * number. A function without that ending draws the number: 1, 2, 3, .. by any threads. No two rings, boards, sets of
- * counters or conductors that live may have the same number. A program must ensure that itself if several languages in
- * its process make structures. */
+/* Each call that makes a structure has two forms. The form whose name ends in _numbered is a function of the library,
+ * and takes a number. The form without that ending is inline, and draws the next number of a count that all threads
+ * share. The numbers are 1, 2, 3 and so on. No two rings, boards, sets of counters or conductors that exist at the same
+ * time may have the same number. A program must ensure this itself if several languages in its process make
+ * structures. */
 
 /* Rings ---------------------------------------------------------------------------------------------------------- */
 
-/* Makes a ring with this capacity: its first producer, which holds all 65,536 shares, and its consumer. Positions begin
- * at `start`, or at 0. Codes: FELTER_HANDLE_IN_USE if a handle is not empty, FELTER_BAD_CAPACITY, FELTER_BAD_START,
- * FELTER_OUT_OF_MEMORY. */
+/* Makes a ring with this capacity, its first producer, and its consumer. The capacity is a number of bytes, and a power
+ * of two from 128 to 2^24. A ring has 65,536 shares, and each producer holds at least one of them. The first producer
+ * holds all shares. Positions begin at `start`, or at 0 if the call takes no start. Codes: FELTER_HANDLE_IN_USE if a
+ * handle is not empty, FELTER_BAD_CAPACITY, FELTER_BAD_START, FELTER_OUT_OF_MEMORY. */
 int32_t felter_many_to_one_new_numbered(uint64_t number, uint32_t capacity, felter_producer *producer,
                                         felter_consumer *consumer);
 int32_t felter_many_to_one_new_at_numbered(uint64_t number, uint32_t capacity, uint64_t start,
@@ -177,7 +188,7 @@ int32_t felter_many_to_one_new_at_numbered(uint64_t number, uint32_t capacity, u
 static inline int32_t felter_many_to_one_new(uint32_t capacity, felter_producer *producer, felter_consumer *consumer);
 static inline int32_t felter_many_to_one_new_at(uint32_t capacity, uint64_t start, felter_producer *producer,
                                                 felter_consumer *consumer);
-/* These make a ring with one producer, which cannot be split, and are otherwise the same. */
+/* These calls make a one-to-one ring, whose only producer cannot be split. Otherwise they are the same. */
 int32_t felter_one_to_one_new_numbered(uint64_t number, uint32_t capacity, felter_producer *producer,
                                        felter_consumer *consumer);
 int32_t felter_one_to_one_new_at_numbered(uint64_t number, uint32_t capacity, uint64_t start,
@@ -186,28 +197,29 @@ static inline int32_t felter_one_to_one_new(uint32_t capacity, felter_producer *
 static inline int32_t felter_one_to_one_new_at(uint32_t capacity, uint64_t start, felter_producer *producer,
                                                felter_consumer *consumer);
 
-/* Tries once to write a message. Codes: FELTER_BAD_TYPE, FELTER_TOO_LONG, FELTER_POSITION_LIMIT,
- * FELTER_INSUFFICIENT_CAPACITY, and FELTER_CONTENDED for a many-to-one ring. */
+/* Tries once to write a message. The type id must be at least 1, and `len` must be at most an eighth of the capacity.
+ * Codes: FELTER_BAD_TYPE, FELTER_TOO_LONG, FELTER_POSITION_LIMIT, FELTER_INSUFFICIENT_CAPACITY, and FELTER_CONTENDED
+ * for a many-to-one ring. */
 int32_t felter_write(felter_producer *producer, int32_t type_id, const void *body, size_t len);
 
-/* Tries once to claim room for a message of `len` bytes. Each byte is 0 until felter_put stores it. Writes the claim's
- * number, which is its place: no other claim of the ring ever has this number.
+/* Tries once to claim room for a message of `len` bytes. Each byte is 0 until felter_put stores it. Writes the number
+ * of the claim, which is its place in the ring. No other claim of the ring ever has this number.
  *
- * Any number of claims may be open at once, and they may be settled in any order. To settle a claim takes about the
- * same time however many claims are open. The consumer passes no open claim, so each claim must be settled.
+ * Any number of claims may be open at once, and they may be settled in any order. The time to settle a claim does not
+ * grow with the number of open claims. The consumer does not pass an open claim, so each claim must be settled.
  *
- * Codes: those of felter_write. If there is no memory to keep one more claim, the result is FELTER_OUT_OF_MEMORY, and
- * nothing was tried. */
+ * Codes: those of felter_write. If there is no memory to keep one more claim, the call returns FELTER_OUT_OF_MEMORY,
+ * and has tried nothing. */
 int32_t felter_claim(felter_producer *producer, int32_t type_id, size_t len, uint64_t *claim);
 /* Puts bytes into an open claim of the producer, from the byte at `offset` on. Codes: FELTER_NO_CLAIM,
  * FELTER_PUT_RANGE. */
 int32_t felter_put(felter_producer *producer, uint64_t claim, size_t offset, const void *bytes, size_t len);
-/* These settle an open claim of the producer. After a commit the consumer is shown the message, and after an abort it
- * passes the claim. Codes: FELTER_NO_CLAIM. */
+/* These calls settle an open claim of the producer. After a commit the consumer is shown the message. After an abort
+ * the consumer passes the claim. Codes: FELTER_NO_CLAIM. */
 int32_t felter_commit(felter_producer *producer, uint64_t claim);
 int32_t felter_abort(felter_producer *producer, uint64_t claim);
 
-/* Makes `other` another producer of a many-to-one ring. `other` gets one share and no claim: open claims stay with
+/* Makes `other` another producer of a many-to-one ring. `other` gets one share of `producer`. Open claims stay with
  * `producer`. Codes: FELTER_NO_SHARES, FELTER_OUT_OF_MEMORY, FELTER_HANDLE_IN_USE, and FELTER_WRONG_HANDLE for a
  * one-to-one ring. */
 int32_t felter_split(felter_producer *producer, felter_producer *other);
@@ -217,7 +229,7 @@ int32_t felter_split(felter_producer *producer, felter_producer *other);
  * to keep the open claims. */
 int32_t felter_join(felter_producer *producer, felter_producer *other);
 
-/* Loads the head, and then the tail. */
+/* Loads the head of the ring, and then its tail. */
 int32_t felter_positions(felter_producer *producer, uint64_t *head, uint64_t *tail);
 /* Draws the ring's next correlation id. */
 int32_t felter_next_id(felter_producer *producer, uint64_t *id);
@@ -229,8 +241,8 @@ int32_t felter_set_heartbeat(felter_consumer *consumer, uint64_t value);
 int32_t felter_shares(felter_producer *producer, uint32_t *shares);
 
 /* Reads the next message into a buffer, and takes it from the ring. Codes: FELTER_NO_MESSAGE, and FELTER_SHORT_BUFFER
- * if the message is longer than the buffer. Then *len is its length and *type_id its type id, and the message stays. A
- * buffer of an eighth of the capacity is always long enough. */
+ * if the message is longer than the buffer. After FELTER_SHORT_BUFFER, *len is the length of the message, and *type_id
+ * is its type id. The message stays in the ring. A buffer of an eighth of the capacity is always long enough. */
 int32_t felter_read(felter_consumer *consumer, int32_t *type_id, size_t *len, void *buffer, size_t room);
 
 /* Copies the next message into a buffer as felter_read does, with the same codes, but leaves the message in the ring.
@@ -240,7 +252,7 @@ int32_t felter_peek(felter_consumer *consumer, int32_t *type_id, size_t *len, vo
  * body into a buffer of the consumer, so it takes time in proportion to the length of the message. Codes:
  * FELTER_NO_MESSAGE.
  *
- * The two calls together are a controlled read: peek, look at the message, and then do what one of Agrona's actions
+ * The two calls together are a controlled read. Peek, look at the message, and then do what one of Agrona's actions
  * does:
  *   - ABORT: stop. The message stays.
  *   - BREAK: take the message, and stop.
@@ -264,44 +276,47 @@ typedef struct felter_record {
 #endif
 
 /* Reads up to `limit` messages into a buffer, one after another. Each message is a felter_record followed by its bytes.
- * It begins at a multiple of 8 bytes, FELTER_SPAN bytes after the message before it. The call writes the number of
- * messages, and how many bytes they take. The call stops when the buffer has no room for the next message, which stays
- * in the ring. The call copies the body of this message into a buffer of the consumer before it stops, which takes time
- * in proportion to the length of the message. The call can return fewer messages than are in the ring. When it returns,
- * the producers have the room of the messages that it read.
+ * The first message begins at the front of the buffer. If a message has the length len, the next message begins
+ * FELTER_SPAN(len) bytes after its beginning. The call writes the number of messages, and how many bytes they take. The
+ * call stops when the buffer has no room for the next message, which stays in the ring. Before it stops, the call
+ * copies the body of this message into a buffer of the consumer. The copy takes time in proportion to the length of the
+ * message. The call can return fewer messages than are in the ring. After the call returns, producers can reuse the
+ * room of the messages that were read.
  *
- * Codes: FELTER_NO_MESSAGE, also if the limit is 0, and FELTER_SHORT_BUFFER if the first message has no room.
- * felter_read then says its length. A buffer of FELTER_SPAN(capacity / 8) bytes is always long enough for one message.
+ * Codes: FELTER_NO_MESSAGE, also if the limit is 0, and FELTER_SHORT_BUFFER if the buffer has no room for the first
+ * message. After FELTER_SHORT_BUFFER, felter_read reports the length of that message. A buffer of FELTER_SPAN(capacity
+ * / 8) bytes is always long enough for one message.
  */
 int32_t felter_read_batch(felter_consumer *consumer, uint32_t limit, uint32_t *count, size_t *used, void *buffer,
                           size_t room);
 
-/* What the consumer of a ring finds next. */
+/* What a consumer finds next in its ring. */
 enum felter_found {
     FELTER_FOUND_MESSAGE = 0, /* a message, which felter_read takes */
     FELTER_FOUND_NONE = 1,    /* nothing is claimed after the head */
-    FELTER_FOUND_CLAIM = 2,   /* a claim that is not settled yet: its producer is slow, or lost */
-    FELTER_FOUND_CHANGE = 3   /* something changed meanwhile: call again */
+    FELTER_FOUND_CLAIM = 2,   /* a claim that is not settled yet, since its producer is slow or lost */
+    FELTER_FOUND_CHANGE = 3   /* something changed meanwhile, so call again */
 };
 
-/* Writes what the consumer finds next, and the head. If a claim is next, the head is the place of that claim. The call
- * takes a producer and the consumer of one ring. It loads the positions, reads into a buffer of no bytes, and loads the
- * positions again. If a message is next, the call takes time in proportion to the length of the message, since the read
- * copies the body into a buffer of the consumer. The call is a function of this header, so it is not proved. */
+/* Writes what the consumer finds next (enum felter_found), and the position of the head. If a claim is next, the head
+ * is the place of that claim. The call takes a producer and the consumer of one ring. The call loads the positions,
+ * reads into a buffer of 0 bytes, and loads the positions again. If a message is next, the read copies its body into a
+ * buffer of the consumer. The call then takes time in proportion to the length of the message. The call is a function
+ * of this header, so it is not proved. */
 static inline int32_t felter_standing(felter_producer *producer, felter_consumer *consumer, int32_t *found,
                                       uint64_t *head);
 
 /* Writes messages, one after another, by felter_write. The messages are laid out in the buffer as felter_read_batch
- * leaves them. The call stops at the first refusal, and returns its code. It always writes how many messages were
- * written, also after a refusal. If the batch has no bytes, the call only tests the handle. The call is a loop of this
- * header, so it is not proved. Codes: those of felter_write, and FELTER_PUT_RANGE if a record is not inside the
- * bytes. */
+ * leaves them. The call stops at the first refusal, and returns its code. Even then it sets `written` to the number of
+ * messages that were written. If the batch has no bytes, the call only tests the handle. The call is a loop of this
+ * header, so it is not proved. Codes: those of felter_write, and FELTER_PUT_RANGE if a record is not
+ * completely inside the bytes. */
 static inline int32_t felter_write_batch(felter_producer *producer, const void *records, size_t bytes,
                                          uint32_t *written);
 
-/* Closes the ring of a consumer, of either kind, with its last producer, and empties the producer's handle. Nothing can
- * be written afterwards. What is in the ring stays, and the consumer reads on as before. Before this call all other
- * producers were joined by felter_join, or freed. Codes, in this order:
+/* Closes a ring of either kind, and empties the handle of its last producer. Nothing can be written afterwards. The
+ * messages in the ring stay there, and the consumer reads on as before. Before this call, all other producers must have
+ * been joined by felter_join, or freed. Codes, in this order:
  *   - FELTER_OTHER_RING, also if the ring was closed before;
  *   - FELTER_CLAIMS_OPEN;
  *   - FELTER_PRODUCERS_OUT if another producer is still in a handle. */
@@ -309,8 +324,8 @@ int32_t felter_close(felter_consumer *consumer, felter_producer *producer);
 /* Ends a ring that was closed, or whose producers were all freed, and empties the consumer's handle. Writes how many
  * committed messages were left unread. These messages are lost. Codes:
  *   - FELTER_PRODUCERS_OUT if the ring was not closed, and a producer is still in a handle;
- *   - FELTER_IN_USE if the ring was closed, and another handle of it is still there. This does not occur if rule 1 was
- *     kept. */
+ *   - FELTER_IN_USE if the ring was closed, and another handle of the ring still exists. This code does not occur if
+ *     rule 1 was kept. */
 int32_t felter_finish(felter_consumer *consumer, uint64_t *left);
 
 /* Boards --------------------------------------------------------------------------------------------------------- */
@@ -318,8 +333,9 @@ int32_t felter_finish(felter_consumer *consumer, uint64_t *left);
 /* A board is a broadcast buffer. Its one transmitter never waits. Each receiver gets every message, or learns that the
  * transmitter overtook it.
  *
- * These make a board with its transmitter, which holds all 65,536 shares. The capacity is a power of two from 256 to
- * 2^24. Codes: FELTER_BAD_CAPACITY, FELTER_BAD_START, FELTER_OUT_OF_MEMORY, FELTER_HANDLE_IN_USE. */
+ * These calls make a board and its transmitter. A board has 65,536 shares, and the transmitter begins with all of them.
+ * The capacity is a power of two from 256 to 2^24. Codes: FELTER_BAD_CAPACITY, FELTER_BAD_START, FELTER_OUT_OF_MEMORY,
+ * FELTER_HANDLE_IN_USE. */
 int32_t felter_board_new_numbered(uint64_t number, uint32_t capacity, felter_transmitter *transmitter);
 int32_t felter_board_new_at_numbered(uint64_t number, uint32_t capacity, uint64_t start,
                                      felter_transmitter *transmitter);
@@ -328,15 +344,16 @@ static inline int32_t felter_board_new_at(uint32_t capacity, uint64_t start, fel
 /* Transmits a message. Codes: FELTER_BAD_TYPE, FELTER_TOO_LONG, FELTER_POSITION_LIMIT. */
 int32_t felter_transmit(felter_transmitter *transmitter, int32_t type_id, const void *body, size_t len);
 /* Makes a receiver, which starts with the message that was transmitted last. The receiver gets one share of the
- * transmitter. This share is lost if the receiver is freed without felter_board_join. Codes: FELTER_NO_SHARES, for
- * example after 65,535 receivers were freed in this way, FELTER_OUT_OF_MEMORY, FELTER_HANDLE_IN_USE. */
+ * transmitter. This share is lost if the receiver is freed without felter_board_join. Codes: FELTER_NO_SHARES,
+ * FELTER_OUT_OF_MEMORY, FELTER_HANDLE_IN_USE. FELTER_NO_SHARES is returned, for example, after 65,535 receivers were
+ * freed in this way. */
 int32_t felter_subscribe(felter_transmitter *transmitter, felter_receiver *receiver);
 /* Copies the next message into a buffer. Codes:
  *   - FELTER_NO_MESSAGE;
- *   - FELTER_LAPPED if the transmitter overtook the receiver. Then *lapped is how often that has happened, and the next
- *     call goes on with the message that was transmitted last;
- *   - FELTER_SHORT_BUFFER if the room is less than an eighth of the capacity, however short the message is. Then *len
- *     is an eighth of the capacity, and nothing is taken. */
+ *   - FELTER_LAPPED if the transmitter overtook the receiver. *lapped is then the number of times that the receiver was
+ *     lapped. The next call goes on with the message that was transmitted last;
+ *   - FELTER_SHORT_BUFFER if the room is less than an eighth of the capacity, even if the message is short. *len is
+ *     then an eighth of the capacity, and no message is taken. */
 int32_t felter_receive(felter_receiver *receiver, int32_t *type_id, size_t *len, uint64_t *lapped, void *buffer,
                        size_t room);
 /* Writes how often the receiver was lapped. */
@@ -344,12 +361,13 @@ int32_t felter_lapped_count(felter_receiver *receiver, uint64_t *count);
 
 /* Writes the position at which the next call looks for a message. */
 int32_t felter_receiver_place(felter_receiver *receiver, uint64_t *place);
-/* Writes the place of the receiver when it was lapped last, and the intent that showed the lap. The intent is the
- * position up to which the transmitter had begun to write. Right after the lap, felter_receiver_place minus this place
- * is the number of bytes that the receiver missed. Codes: FELTER_NO_MESSAGE if the receiver was never lapped. */
+/* Writes the place of the receiver when it was lapped last, and the intent that showed this. The intent is the position
+ * up to which the transmitter had begun to write. Right after FELTER_LAPPED, felter_receiver_place minus this place is
+ * the number of bytes that the receiver missed. Codes: FELTER_NO_MESSAGE if the receiver was never lapped. */
 int32_t felter_receiver_lap(felter_receiver *receiver, uint64_t *place, uint64_t *intent);
 
-/* Makes a raw receiver, which returns each record without its body. The rest is as for felter_subscribe. */
+/* Makes a raw receiver, which returns each record without its body. Otherwise the call is the same as
+ * felter_subscribe. */
 int32_t felter_subscribe_raw(felter_transmitter *transmitter, felter_raw_receiver *receiver);
 /* Passes the next record, and writes its type id and the length of its body. No byte of the body is copied. Codes:
  * FELTER_NO_MESSAGE, and FELTER_LAPPED as for felter_receive. */
@@ -358,32 +376,32 @@ int32_t felter_receive_next(felter_raw_receiver *receiver, int32_t *type_id, siz
  * to be those of this record only if felter_validate then returns FELTER_OK. Codes: FELTER_NO_MESSAGE if no record was
  * returned yet, FELTER_SHORT_BUFFER if the body is longer than the room. */
 int32_t felter_load_body(felter_raw_receiver *receiver, void *buffer, size_t room);
-/* Tests that the record which felter_receive_next returned last is not yet overwritten. Then each copy of its body that
- * was made before is the body that was transmitted. Codes: FELTER_LAPPED if the record may be overwritten,
- * FELTER_NO_MESSAGE if no record was returned yet. */
+/* Tests whether the record that felter_receive_next returned last was overwritten. If the call returns FELTER_OK, each
+ * copy of the body that was made before is the body that was transmitted. Codes: FELTER_LAPPED if the record may
+ * be overwritten, FELTER_NO_MESSAGE if no record was returned yet. */
 int32_t felter_validate(felter_raw_receiver *receiver);
 /* Writes how often felter_receive_next returned FELTER_LAPPED. */
 int32_t felter_raw_lapped_count(felter_raw_receiver *receiver, uint64_t *count);
 
-/* These are felter_receiver_place and felter_receiver_lap of a raw receiver. */
+/* These calls do for a raw receiver what felter_receiver_place and felter_receiver_lap do for a receiver. */
 int32_t felter_raw_receiver_place(felter_raw_receiver *receiver, uint64_t *place);
 int32_t felter_raw_receiver_lap(felter_raw_receiver *receiver, uint64_t *place, uint64_t *intent);
 
-/* These take back a receiver, or a raw receiver, of this board with its share, and empty its handle. Codes:
- * FELTER_OTHER_RING, also if felter_conductor_subscribe made the receiver. */
+/* These calls take back a receiver or a raw receiver of this board, with its share, and empty the receiver's handle.
+ * Codes: FELTER_OTHER_RING if the receiver is of another board, or if felter_conductor_subscribe made it. */
 int32_t felter_board_join(felter_transmitter *transmitter, felter_receiver *receiver);
 int32_t felter_board_join_raw(felter_transmitter *transmitter, felter_raw_receiver *receiver);
 /* Ends a board whose receivers of both kinds were all taken back or freed, and empties the transmitter's handle. Writes
- * the tail: the position at which the last transmission ended. Codes:
+ * the tail, which is the position at which the last transmission ended. Codes:
  *   - FELTER_RECEIVERS_OUT if a receiver is still in a handle;
- *   - FELTER_IN_USE if all receivers were taken back, and another handle of the board is still there. This does not
+ *   - FELTER_IN_USE if all receivers were taken back, and another handle of the board still exists. This code does not
  *     occur if rule 1 was kept. */
 int32_t felter_board_close(felter_transmitter *transmitter, uint64_t *tail);
 
 /* Counters ------------------------------------------------------------------------------------------------------- */
 
-/* Makes counters with the ids below `count`. A freed id is not given again for `reuse_ms` milliseconds. Codes:
- * FELTER_BAD_COUNT, FELTER_OUT_OF_MEMORY, FELTER_HANDLE_IN_USE. */
+/* Makes counters with the ids below `count`, which must be from 1 to 4,096. A freed id is not allocated again for
+ * `reuse_ms` milliseconds. Codes: FELTER_BAD_COUNT, FELTER_OUT_OF_MEMORY, FELTER_HANDLE_IN_USE. */
 int32_t felter_counters_new_numbered(uint64_t number, uint32_t count, uint32_t reuse_ms, felter_counters *counters);
 static inline int32_t felter_counters_new(uint32_t count, uint32_t reuse_ms, felter_counters *counters);
 /* Allocates a counter with the value 0 at the moment `now`, and writes its id. Codes: FELTER_KEY_TOO_LONG,
@@ -391,61 +409,65 @@ static inline int32_t felter_counters_new(uint32_t count, uint32_t reuse_ms, fel
 int32_t felter_counter_allocate(felter_counters *counters, uint64_t now, int32_t type_id, const void *key,
                                 size_t key_len, const void *label, size_t label_len, uint64_t registration,
                                 uint32_t *id);
-/* Allocates a counter with an owner, and is otherwise the same. The owner 0 means that there is none. */
+/* Allocates a counter with an owner. Otherwise the call is the same as felter_counter_allocate. The owner 0 means that
+ * the counter has no owner. */
 int32_t felter_counter_allocate_owned(felter_counters *counters, uint64_t now, int32_t type_id, const void *key,
                                       size_t key_len, const void *label, size_t label_len, uint64_t registration,
                                       uint64_t owner, uint32_t *id);
-/* Each call with an id can return FELTER_BAD_ID and FELTER_NOT_ALLOCATED. The first one frees a counter, and can also
- * return FELTER_BAD_MOMENT. */
+/* Each call with an id can return FELTER_BAD_ID and FELTER_NOT_ALLOCATED. felter_counter_free frees a counter, and can
+ * also return FELTER_BAD_MOMENT. */
 int32_t felter_counter_free(felter_counters *counters, uint64_t now, uint32_t id);
 int32_t felter_counter_set(felter_counters *counters, uint32_t id, int64_t value);
-/* Adds to the value, which wraps, and writes the value before the addition. */
+/* Adds `delta` to the value, and writes the value before the addition. A sum that does not fit in 64 bits wraps. */
 int32_t felter_counter_add(felter_counters *counters, uint32_t id, int64_t delta, int64_t *before);
-/* These two do the same with the number 1 and with -1. */
+/* These calls do the same with 1 and with -1 as `delta`. */
 int32_t felter_counter_increment(felter_counters *counters, uint32_t id, int64_t *before);
 int32_t felter_counter_decrement(felter_counters *counters, uint32_t id, int64_t *before);
-/* Sets the value, and writes the value before. */
+/* Sets the value, and writes the value that the counter had before. */
 int32_t felter_counter_get_and_set(felter_counters *counters, uint32_t id, int64_t value, int64_t *before);
 int32_t felter_counter_value(felter_counters *counters, uint32_t id, int64_t *value);
 int32_t felter_counter_type_id(felter_counters *counters, uint32_t id, int32_t *type_id);
 int32_t felter_counter_registration(felter_counters *counters, uint32_t id, uint64_t *registration);
 int32_t felter_counter_owner(felter_counters *counters, uint32_t id, uint64_t *owner);
-/* Raises the counter's value to `value` if the counter is below it. *raised is 1 if that was so, and otherwise 0. */
+/* Raises the counter's value to `value` if it was less. *raised is 1 if the value was raised, and otherwise 0. */
 int32_t felter_counter_propose_max(felter_counters *counters, uint32_t id, int64_t value, uint32_t *raised);
-/* Sets the counter's value to `value` if it is `expected`. *was_set is 1 if that was so, and otherwise 0. */
+/* Sets the counter's value to `value` if it is `expected`. *was_set is 1 if the value was set, and otherwise 0. */
 int32_t felter_counter_compare_and_set(felter_counters *counters, uint32_t id, int64_t expected, int64_t value,
                                        uint32_t *was_set);
-/* The first call writes the state of an id: 0 if the id was never used, 1 if its counter is in use, -1 if its counter
- * was freed. The second call writes the moment from which the id may be allocated again: 0 if the id was never used,
- * 2^63 - 1 if its counter is in use. Both refuse only with FELTER_BAD_ID. */
+/* felter_counter_state writes the state of an id. The state is 0 if the id was never used, 1 if its counter is in use,
+ * and -1 if its counter was freed. felter_counter_deadline writes the moment from which the id may be allocated again.
+ * This moment is 0 if the id was never used, and 2^63 - 1 if its counter is in use. Both calls refuse only with
+ * FELTER_BAD_ID. */
 int32_t felter_counter_state(felter_counters *counters, uint32_t id, int32_t *state);
 int32_t felter_counter_deadline(felter_counters *counters, uint32_t id, uint64_t *deadline);
-/* Copies the label, which has at most 380 bytes, and writes its length. No 0 is put at its end. Codes:
- * FELTER_SHORT_BUFFER if the room is less than the length. The length is written also then. */
+/* Copies the label, which has at most 380 bytes, and writes its length. No 0 is put at the end of the label. Codes:
+ * FELTER_SHORT_BUFFER if the room is less than the length. After this code the length is written too. */
 int32_t felter_counter_label(felter_counters *counters, uint32_t id, size_t *len, void *buffer, size_t room);
-/* Copies the key, which is filled up to 112 bytes with zeros. Codes: FELTER_SHORT_BUFFER if the room is less. */
+/* Copies the key, which is filled up to 112 bytes with zeros. Codes: FELTER_SHORT_BUFFER if the room is less than 112
+ * bytes. */
 int32_t felter_counter_key(felter_counters *counters, uint32_t id, void *buffer, size_t room);
-/* Finds the lowest id in use that has this type id and registration id. Codes: FELTER_NOT_ALLOCATED if there is
- * none. */
+/* Finds the lowest id in use that has this type id and registration id. Codes: FELTER_NOT_ALLOCATED if there is no such
+ * id. */
 int32_t felter_counter_find(felter_counters *counters, int32_t type_id, uint64_t registration, uint32_t *id);
-/* Writes the number of ids, in use or not. To list the counters in use, ask for the type of each id: the result is
- * FELTER_NOT_ALLOCATED if the id is not in use. */
+/* Writes the number of ids, whether they are in use or not. To list the counters in use, call felter_counter_type_id
+ * with each id. The call returns FELTER_NOT_ALLOCATED if the id is not in use. */
 int32_t felter_counters_count(felter_counters *counters, uint32_t *count);
-/* Writes the number of counters that can be allocated at the moment `now`. A freed id counts from the moment that
+/* Writes the number of counters that can be allocated at the moment `now`. A freed id is counted from the moment that
  * felter_counter_deadline writes. */
 int32_t felter_counters_available(felter_counters *counters, uint64_t now, uint32_t *available);
-/* Frees each counter of an owner, and writes how many there were. Codes: FELTER_BAD_OWNER, FELTER_BAD_MOMENT. */
+/* Frees each counter of an owner, and writes how many counters were freed. Codes: FELTER_BAD_OWNER,
+ * FELTER_BAD_MOMENT. */
 int32_t felter_counters_close_owner(felter_counters *counters, uint64_t now, uint64_t owner, uint32_t *freed);
 
-/* Makes a reader of the values, for another thread. The reader gets one share of the counters, which have 65,536. This
- * share is lost if the reader is freed without felter_counters_join. Codes: FELTER_NO_SHARES, FELTER_OUT_OF_MEMORY,
- * FELTER_HANDLE_IN_USE. */
+/* Makes a reader of the counters' values, for another thread. The counters have 65,536 shares, and the reader gets one
+ * of them. This share is lost if the reader is freed without felter_counters_join. Codes: FELTER_NO_SHARES,
+ * FELTER_OUT_OF_MEMORY, FELTER_HANDLE_IN_USE. */
 int32_t felter_counters_reader(felter_counters *counters, felter_reader *reader);
-/* Loads a value. The value of an id that was never used is 0, and that of a freed id is its last value. A reader never
+/* Loads a value. The value of an id that was never used is 0. The value of a freed id is its last value. A reader never
  * loads an older write of an id after a later one. Codes: FELTER_BAD_ID. */
 int32_t felter_reader_value(felter_reader *reader, uint32_t id, int64_t *value);
-/* Takes back a reader of these counters with its share, and empties its handle. Codes: FELTER_OTHER_RING, also if
- * felter_conductor_reader made the reader. */
+/* Takes back a reader of these counters with its share, and empties its handle. Codes: FELTER_OTHER_RING if the reader
+ * is of other counters, or if felter_conductor_reader made it. */
 int32_t felter_counters_join(felter_counters *counters, felter_reader *reader);
 
 /* Conductors ----------------------------------------------------------------------------------------------------- */
@@ -454,40 +476,41 @@ int32_t felter_counters_join(felter_counters *counters, felter_reader *reader);
  * conductor applies each command to the counters, and transmits one reply on a board. The reply has the correlation id
  * of the command.
  *
- * These make a conductor. The ring for commands has `capacity` bytes, and the board for replies has `replies` bytes.
- * The counters have the ids below `counters`. A freed id is not given again for `reuse_ms` milliseconds. Codes, in this
- * order: FELTER_HANDLE_IN_USE, FELTER_BAD_CAPACITY for the ring, FELTER_BAD_CAPACITY for the board, FELTER_BAD_COUNT,
- * FELTER_OUT_OF_MEMORY. */
+ * These calls make a conductor. The ring for commands has `capacity` bytes, which must be a power of two from 128 to
+ * 2^24. The board for replies has `replies` bytes, which must be a power of two from 256 to 2^24. The ids of the
+ * counters are below `counters`, which must be from 1 to 4,096. A freed id is not allocated again for `reuse_ms`
+ * milliseconds. Codes, in this order: FELTER_HANDLE_IN_USE, FELTER_BAD_CAPACITY for the ring, FELTER_BAD_CAPACITY for
+ * the board, FELTER_BAD_COUNT, FELTER_OUT_OF_MEMORY. */
 int32_t felter_conductor_new_numbered(uint64_t number, uint32_t capacity, uint32_t replies, uint32_t counters,
                                       uint32_t reuse_ms, felter_conductor *conductor);
 static inline int32_t felter_conductor_new(uint32_t capacity, uint32_t replies, uint32_t counters, uint32_t reuse_ms,
                                            felter_conductor *conductor);
-/* Makes a client, which starts with the reply that was transmitted last. The client gets one share of the ring and one
- * of the board, which have 65,536 each. Both shares are lost if the client is freed without felter_conductor_join. The
- * conductor can finish without such a client. If the call refuses, no share is lost. Codes: FELTER_HANDLE_IN_USE,
- * FELTER_NO_SHARES for the ring or the board, FELTER_OUT_OF_MEMORY. */
+/* Makes a client, which starts with the reply that was transmitted last. The ring and the board have 65,536 shares
+ * each, and the client gets one share of each. Both shares are lost if the client is freed without
+ * felter_conductor_join. The conductor can finish without such a client. If the call refuses, no share is lost. Codes:
+ * FELTER_HANDLE_IN_USE, FELTER_NO_SHARES for the ring or the board, FELTER_OUT_OF_MEMORY. */
 int32_t felter_conductor_client(felter_conductor *conductor, felter_client *client);
 
-/* Why felter_conductor_work stopped. */
+/* The reasons why felter_conductor_work stops. */
 enum felter_stop {
     FELTER_STOP_LIMIT = 0,       /* `limit` commands were taken */
-    FELTER_STOP_BLOCK = 1,       /* the end of the ring's buffer was reached: the next call goes on after it */
+    FELTER_STOP_BLOCK = 1,       /* the end of the ring's buffer was reached, and the next call goes on after it */
     FELTER_STOP_UNPUBLISHED = 2, /* no further command was there */
-    FELTER_STOP_BOARD_END = 3    /* a reply might end above 2^62 on the board: the command stays, and is not applied */
+    FELTER_STOP_BOARD_END = 3    /* a reply might end above 2^62 on the board; the command stays and is not applied */
 };
 
 /* Takes up to `limit` commands, applies each at the moment `now`, and transmits its reply. Writes how many commands
- * were taken, which may be 0, and why the call stopped (enum felter_stop). Codes: FELTER_BAD_MOMENT, and then nothing
- * is taken. */
+ * were taken (possibly 0), and why the call stopped (enum felter_stop). Codes: FELTER_BAD_MOMENT. The call then takes
+ * no command. */
 int32_t felter_conductor_work(felter_conductor *conductor, uint64_t now, uint32_t limit, uint64_t *messages,
                               int32_t *stopped);
-/* The conductor stores a heartbeat, which is any number, and clients load it. The heartbeat is 0 before the conductor
- * stores one. */
+/* felter_conductor_set_heartbeat stores a heartbeat, which is any number. felter_client_heartbeat loads the heartbeat
+ * that was stored last. The heartbeat is 0 before the conductor stores one. */
 int32_t felter_conductor_set_heartbeat(felter_conductor *conductor, uint64_t value);
 int32_t felter_client_heartbeat(felter_client *client, uint64_t *value);
 
-/* These calls are about the conductor's counters, for the thread that uses the conductor. Each of them does what the
- * call of felter_counters does whose name has the same ending. */
+/* These calls are about the conductor's counters, for the thread that uses the conductor. Each of them does the same as
+ * the call for felter_counters whose name has the same ending. */
 int32_t felter_conductor_find(felter_conductor *conductor, int32_t type_id, uint64_t registration, uint32_t *id);
 int32_t felter_conductor_count(felter_conductor *conductor, uint32_t *count);
 int32_t felter_conductor_value(felter_conductor *conductor, uint32_t id, int64_t *value);
@@ -499,14 +522,16 @@ int32_t felter_conductor_deadline(felter_conductor *conductor, uint32_t id, uint
 int32_t felter_conductor_label(felter_conductor *conductor, uint32_t id, size_t *len, void *buffer, size_t room);
 int32_t felter_conductor_key(felter_conductor *conductor, uint32_t id, void *buffer, size_t room);
 
-/* Makes a receiver of the replies, for felter_receive and felter_lapped_count. The rest is as for felter_subscribe. */
+/* Makes a receiver of the replies, for felter_receive and felter_lapped_count. Otherwise the call is the same as
+ * felter_subscribe. */
 int32_t felter_conductor_subscribe(felter_conductor *conductor, felter_receiver *receiver);
-/* Makes a reader of the counters' values, for felter_reader_value. The rest is as for felter_counters_reader. */
+/* Makes a reader of the counters' values, for felter_reader_value. Otherwise the call is the same as
+ * felter_counters_reader. */
 int32_t felter_conductor_reader(felter_conductor *conductor, felter_reader *reader);
 
-/* These take back a client, a receiver or a reader of this conductor with its shares, and empty its handle. The client
- * never receives the replies that it has not received by then. Codes: FELTER_OTHER_RING if another conductor made the
- * handle, or felter_subscribe, or felter_counters_reader. */
+/* These calls take back a client, a receiver or a reader of this conductor, with its shares, and empty its handle. A
+ * client that was taken back never receives the replies that it had not received by then. Codes: FELTER_OTHER_RING if
+ * the handle is of another conductor, or if felter_subscribe or felter_counters_reader made it. */
 int32_t felter_conductor_join(felter_conductor *conductor, felter_client *client);
 int32_t felter_conductor_join_receiver(felter_conductor *conductor, felter_receiver *receiver);
 int32_t felter_conductor_join_reader(felter_conductor *conductor, felter_reader *reader);
@@ -515,24 +540,26 @@ int32_t felter_conductor_join_reader(felter_conductor *conductor, felter_reader 
  * how many commands the conductor received in all, and how many commands were still in the ring. Commands that were
  * still in the ring get no reply.
  *
- * If a client, a receiver or a reader is still in a handle, the call refuses, and can be made again later. Codes:
- * FELTER_PRODUCERS_OUT if a client was not taken back, then FELTER_RECEIVERS_OUT if a receiver was not, and otherwise
- * FELTER_IN_USE. */
+ * If a client, a receiver or a reader is still in a handle, the call refuses, and can be made again later. Codes, in
+ * this order:
+ *   - FELTER_PRODUCERS_OUT if a client was not taken back;
+ *   - FELTER_RECEIVERS_OUT if a receiver was not taken back;
+ *   - FELTER_IN_USE otherwise. */
 int32_t felter_conductor_finish(felter_conductor *conductor, uint64_t *received, uint64_t *left);
 
 /* Each of these calls tries once to send one command, and writes the correlation id that was drawn for it. The reply
  * says whether the conductor applied or refused the command. Codes:
- *   - FELTER_TOO_LONG if the command takes more than 520 bytes, for which no id is drawn, or more than an eighth of the
- *     ring's capacity;
+ *   - FELTER_TOO_LONG if the command takes more than 520 bytes, or more than an eighth of the ring's capacity. No id is
+ *     drawn for a command of more than 520 bytes;
  *   - FELTER_POSITION_LIMIT, FELTER_INSUFFICIENT_CAPACITY, FELTER_CONTENDED.
- * If an id was drawn for a command that is refused here, no other command gets that id.
+ * If one of these calls refuses a command for which an id was drawn, no other command gets that id.
  *
- * This one allocates a counter with the value 0. Its registration id is the correlation id. The command takes 20 bytes
- * plus those of key and label. */
+ * felter_send_allocate allocates a counter with the value 0. The registration id of the counter is the correlation id
+ * of the command. The command takes 20 bytes, plus the bytes of the key and the label. */
 int32_t felter_send_allocate(felter_client *client, int32_t type_id, const void *key, size_t key_len,
                              const void *label, size_t label_len, uint64_t *id);
-/* Allocates a counter with an owner, and is otherwise the same. The owner 0 means that there is none. The command takes
- * 8 bytes more. */
+/* Allocates a counter with an owner. Otherwise the call is the same as felter_send_allocate. The owner 0 means that the
+ * counter has no owner. The command takes 8 bytes more. */
 int32_t felter_send_allocate_owned(felter_client *client, int32_t type_id, uint64_t owner, const void *key,
                                    size_t key_len, const void *label, size_t label_len, uint64_t *id);
 /* Frees a counter. */
@@ -542,23 +569,23 @@ int32_t felter_send_set(felter_client *client, uint32_t counter, int64_t value, 
 /* Frees each counter of an owner. */
 int32_t felter_send_close_owner(felter_client *client, uint64_t owner, uint64_t *id);
 
-/* The kinds of replies: the type ids of their messages. */
+/* The kinds of replies. Each number is the type id of the reply's message. */
 enum felter_reply {
-    FELTER_REPLY_ALLOCATED = 101, /* a counter was allocated; the number is its id */
-    FELTER_REPLY_DONE = 102,      /* the counter was freed or set; the number is 0 */
-    FELTER_REPLY_REFUSED = 103,   /* nothing was done; the number is a code of enum felter_code, or 22 if the command
-                                   * could not be read, or 23 if no command has its type id */
-    FELTER_REPLY_CLOSED = 104     /* the owner's counters were freed; the number says how many they were */
+    FELTER_REPLY_ALLOCATED = 101, /* a counter was allocated, and the number is its id */
+    FELTER_REPLY_DONE = 102,      /* the counter was freed or set, and the number is 0 */
+    FELTER_REPLY_REFUSED = 103,   /* nothing was done, and the number is a code of enum felter_code, or 22 if the
+                                   * command could not be read, or 23 if no command has its type id */
+    FELTER_REPLY_CLOSED = 104     /* the owner's counters were freed, and the number says how many were freed */
 };
 
 /* Takes the next message of the board, for a caller that waits for the reply to the command with this correlation id.
  * If the message is that reply, writes its kind (enum felter_reply) and its number. Codes:
  *   - FELTER_NO_MESSAGE if no message is there yet;
- *   - FELTER_OTHER_REPLY if the message is the reply to another command, or no reply. The message was passed over, so
- *     poll again;
- *   - FELTER_LAPPED if the conductor overtook the client. Then *lapped is how often that has happened, and the next
- *     call goes on with the reply that was transmitted last. The client does not learn what became of the
- *     commands that had no reply yet. */
+ *   - FELTER_OTHER_REPLY if the message is the reply to another command, or is not a reply. The message was passed
+ *     over, so poll again;
+ *   - FELTER_LAPPED if the conductor overtook the client. *lapped is then the number of times that the client was
+ *     lapped. The next call goes on with the reply that was transmitted last. The client does not learn what became of
+ *     the commands that had no reply yet. */
 int32_t felter_poll(felter_client *client, uint64_t correlation, int32_t *kind, int64_t *number, uint64_t *lapped);
 
 #include "felter_inline.h"

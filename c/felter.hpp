@@ -1,13 +1,13 @@
 // felter for C++17. Handles free themselves and can be moved but not copied. Bodies are views of bytes, which convert
-// to std::span from C++20 on. A method has the name of a call of felter.h, which says what the call does. A method
-// returns a code, or a result with a value or a code. A board is a broadcast buffer.
+// to std::span from C++20 on. Each method has the name of a call of felter.h. The comment of that call says what the
+// method does. A method returns a code, or a result with a value or a code. A board is a broadcast buffer.
 //
 //     auto ring = felter::many_to_one(65536).value();
 //     ring.producer.write(7, "hello").value();
 //     std::array<std::uint8_t, 64> room;
 //     if (auto message = ring.consumer.read(room)) use(message->type_id, message->body);
 //
-// The rules of felter.h hold here too: for example, one thread at a time uses a handle. This header is tested and not
+// The rules of felter.h apply here too. For example, one thread at a time uses a handle. This header is tested and not
 // proved.
 #ifndef FELTER_HPP
 #define FELTER_HPP
@@ -65,7 +65,7 @@ private:
     std::uint64_t number_;
 };
 
-// How many messages of a batch were written, and the code of the first message that was refused.
+// The number of messages of a batch that were written, and the code of the first message that was refused.
 struct written {
     std::uint32_t count;
     felter::code why;
@@ -95,7 +95,7 @@ public:
         return detail::out<felter::positions>(
             [&](felter::positions *it) { return felter_positions(raw(), &it->head, &it->tail); });
     }
-    // How many bytes of the ring are claimed and not yet read. The call loads the positions once.
+    // Returns how many bytes of the ring are claimed and not yet read. The call loads the positions once.
     result<std::uint64_t> used() {
         const auto its = sizes();
         const auto at = positions();
@@ -104,14 +104,14 @@ public:
         // (the head is loaded first, so the tail may be more than a capacity above it by then)
         return std::min<std::uint64_t>((*at).tail - (*at).head, (*its).capacity);
     }
-    // How many bytes are free. A message also takes some of these bytes for its header, and for padding.
+    // Returns how many bytes are free. A message also takes some of these bytes for its header, and for padding.
     result<std::uint64_t> available() {
         const auto its = sizes();
         const auto claimed = used();
         if (!claimed) return claimed.code();
         return (*its).capacity - *claimed;
     }
-    // Whether everything that was claimed was read.
+    // Returns whether everything that was claimed was read.
     result<bool> is_empty() {
         const auto claimed = used();
         if (!claimed) return claimed.code();
@@ -128,7 +128,7 @@ public:
     }
 };
 
-// What a consumer finds next (enum felter_found), and the head, in bytes.
+// The kind of thing that a consumer finds next (enum felter_found), and the position of the head in bytes.
 struct standing {
     std::int32_t found;
     std::uint64_t head;
@@ -141,19 +141,19 @@ public:
     result<message> read(buffer into) { return copied(felter_read, into); }
     // Copies the next message into a buffer, and leaves it in the ring.
     result<message> peek(buffer into) { return copied(felter_peek, into); }
-    // Takes the next message from the ring. No byte of the message reaches the caller, but the call takes time in
-    // proportion to its length.
+    // Takes the next message from the ring. No byte of the message reaches the caller. But the call takes time in
+    // proportion to the length of the message.
     code take() { return felter_take(raw()); }
-    // Reads up to `limit` messages into a buffer. The batch shows them one after another, and is valid as long as the
-    // buffer: for (auto message : *batch).
+    // Reads up to `limit` messages into a buffer. To see the messages, iterate over the batch: for (auto message :
+    // *batch). The batch is valid as long as the buffer is.
     result<batch> read_batch(std::uint32_t limit, buffer into) {
         std::uint32_t count = 0;
         std::size_t used = 0;
         const std::int32_t why = felter_read_batch(raw(), limit, &count, &used, into.data(), into.size());
         return detail::answer(why, batch(into.data(), count));
     }
-    // Reads up to `limit` messages into a buffer, and calls f with each. If f throws, the messages after that one are
-    // lost: they were taken from the ring, and f is not called with them. To keep these messages, call the overload
+    // Reads up to `limit` messages into a buffer, and calls f with each. If f throws, the later messages of the batch
+    // are lost. They were taken from the ring, and f is not called with them. To keep these messages, call the overload
     // above, which returns a batch.
     template <class F>
     result<std::uint32_t> read_batch(std::uint32_t limit, buffer into, F f) {
@@ -207,7 +207,7 @@ inline result<ring> one_to_one(std::uint32_t capacity, std::uint64_t start = 0) 
     return detail::ring_by(felter_one_to_one_new_at, capacity, start);
 }
 
-// The place of a receiver when it was lapped, and the intent that showed it.
+// The place of a receiver when it was lapped, and the intent that showed this.
 struct lap {
     std::uint64_t place, intent;
 };
@@ -218,13 +218,13 @@ public:
     result<std::uint64_t> place() {
         return detail::out<std::uint64_t>([&](std::uint64_t *it) { return felter_receiver_place(raw(), it); });
     }
-    // How the receiver was lapped last.
+    // Returns the place at which the receiver was lapped last, and the intent.
     result<felter::lap> lap() {
         return detail::out<felter::lap>(
             [&](felter::lap *it) { return felter_receiver_lap(raw(), &it->place, &it->intent); });
     }
     // Copies the next message into a buffer of at least an eighth of the capacity. After FELTER_LAPPED, lapped_count
-    // says how often the receiver was lapped.
+    // returns how often the receiver was lapped.
     result<message> receive(buffer into) {
         message found{};
         std::size_t len = 0;
@@ -238,7 +238,7 @@ public:
     }
 };
 
-// What a raw receiver returns of a record: its type id, and the length of its body, which is not yet copied.
+// The type id of a record, and the length of its body, which is not yet copied.
 struct raw_record {
     std::int32_t type_id;
     std::size_t len;

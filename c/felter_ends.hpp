@@ -1,5 +1,5 @@
-// For is_abandoned: counts of the ends of a ring, a broadcast buffer or a conductor. The library does not count
-// handles, so only the handles of felter.hpp are counted. felter.hpp includes this.
+// Counts of the ends of a ring, a broadcast buffer or a conductor, for is_abandoned. The library does not count
+// handles, so only the handles of felter.hpp are counted. felter.hpp includes this header.
 #ifndef FELTER_ENDS_HPP
 #define FELTER_ENDS_HPP
 
@@ -63,8 +63,8 @@ struct with_end {
     end end_;
 };
 
-// A handle that is an end of a structure. The end is counted until its object was freed. The free can settle claims,
-// and the other side must find them settled when the count falls.
+// A handle that is an end of a structure. To free the object of a handle can settle claims. So the count of ends falls
+// only after the object was freed, and the other side then finds these claims settled.
 template <class Raw>
 class end_of : private with_end, public owner<Raw> {
 public:
@@ -76,13 +76,13 @@ public:
         return *this;
     }
 
-    // Whether every end of the other side was freed, closed or joined. If this end is a consumer or a receiver, nothing
-    // more will be written for it then. It can still read what was written before. The result is also true if this end
-    // is empty.
+    // Returns whether every end of the other side was freed, closed or joined. If the result is true and this end is a
+    // consumer or a receiver, no further message will come. Messages that were written before can still be read. The
+    // result is also true if this end is empty.
     bool is_abandoned() const noexcept { return end_.is_abandoned(); }
 
-    // For felter.hpp: this end is the first one of a new structure, or one more end of it. Both return whether there
-    // was memory.
+    // felter.hpp calls begin() for the first end of a new structure, and follow() for each other end of this structure.
+    // Both return whether there was memory.
     bool begin(bool writes) noexcept { return end_.begin(writes); }
     template <class Other>
     bool follow(const end_of<Other> &other, bool writes) noexcept {
@@ -90,7 +90,8 @@ public:
         return true;
     }
     const end &its_end() const noexcept { return end_; }
-    // The result of a call that takes this handle if it succeeds.
+    // If a call that takes this handle has succeeded, this end is no longer counted. Both functions return the result
+    // of the call.
     felter::code given(felter::code why) noexcept {
         if (why) end_.leave();
         return why;
@@ -102,7 +103,7 @@ public:
     }
 
 protected:
-    // Another end of the same structure, which a call fills.
+    // Returns another end of the same structure, which a call fills.
     template <class Kind, class Call>
     result<Kind> other(bool writes, Call call) {
         Kind kind;
@@ -112,7 +113,7 @@ protected:
     }
 };
 
-// The writing end of a new structure, which a call fills.
+// Returns the writing end of a new structure, which a call fills.
 template <class Kind, class Call>
 result<Kind> first(Call call) {
     Kind kind;

@@ -2,7 +2,8 @@
  *
  * The functions that are inline in felter.h are here functions of the libraries, for programs that load a library
  * without the header. This file is compiled into an object of its own, beside the proved archive. It is tested and not
- * proved. Its constructors draw numbers from the count of the header: a program and the library use one variable. */
+ * proved. Its constructors draw numbers from the count of the header, since a program and the library share one
+ * variable. */
 
 #define felter_text felter_inline_text
 #define felter_many_to_one_new felter_inline_many_to_one_new

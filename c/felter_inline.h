@@ -1,7 +1,8 @@
 /* Written by c/bindings from felter.h. To change this file, change felter.h and run c/bindings.
  *
- * A program includes felter.h, which includes this file. Each function of the library has a function here, which tests
- * for NULL pointers before it calls the library. The name of the first one is a macro for the second one. */
+ * A program includes felter.h, which includes this file. For each function of the library there is a function here,
+ * which tests for NULL pointers before it calls the library. The name of the library's function is a macro for the
+ * function here. */
 #ifndef FELTER_INLINE_H
 #define FELTER_INLINE_H
 
@@ -20,9 +21,9 @@ static inline int32_t felter_refuse(const char *call, int32_t code) {
 #define FELTER_LEAVE2() (void)0
 #endif
 
-/* How many numbers were drawn. The variable is weak, so all files of a program share it, in C and in C++. But a shared
- * library that includes this header can have a variable of its own, for example if dlopen loads the library. Then the
- * program and the library draw the same numbers. */
+/* The count of the numbers that were drawn. This variable is weak, so all files of a program share it, in C and in C++.
+ * But a shared library that includes this header can have a second variable, for example if dlopen loads the library.
+ * Then the program and the library draw the same numbers. */
 __attribute__((weak)) uint64_t felter_numbers_drawn = 0;
 
 /* Draws the number of the next structure: 1, 2, 3, .. by any threads. */

@@ -1,4 +1,5 @@
-// What the methods of felter.hpp take and return: codes, results, views of bytes, and handles that free themselves.
+// The types that the methods of felter.hpp take and return: codes, results, views of bytes, and handles that free
+// themselves.
 #ifndef FELTER_RESULT_HPP
 #define FELTER_RESULT_HPP
 
@@ -25,14 +26,15 @@
 
 namespace felter {
 
-// Why a call did not succeed (enum felter_code). It is also the result of a call that returns no value.
+// A code of enum felter_code, which says why a call did not succeed. A call that returns no value returns its code.
 class [[nodiscard]] code {
 public:
     constexpr code(std::int32_t number = FELTER_OK) noexcept : number_(number) {}
     constexpr explicit operator bool() const noexcept { return number_ == FELTER_OK; }
     constexpr std::int32_t number() const noexcept { return number_; }
     const char *text() const noexcept { return felter_text(number_); }
-    // Whether the same call may succeed later: the ring was full, another producer was faster, or no message was there.
+    // Returns whether the same call may succeed later. This is so if the ring was full, another producer was faster, or
+    // no message was there.
     constexpr bool is_passing() const noexcept {
         return number_ == FELTER_INSUFFICIENT_CAPACITY || number_ == FELTER_CONTENDED || number_ == FELTER_NO_MESSAGE;
     }
@@ -45,7 +47,7 @@ private:
     std::int32_t number_;
 };
 
-// What value() throws.
+// The exception that value() throws.
 class error : public std::runtime_error {
 public:
     explicit error(code why) : std::runtime_error(std::to_string(why.number()) + ' ' + why.text()), why_(why) {}
@@ -70,7 +72,7 @@ public:
     T &operator*() & noexcept { return *value_; }
     const T &operator*() const & noexcept { return *value_; }
     T *operator->() noexcept { return &*value_; }
-    // The value. Throws felter::error if there is none.
+    // Returns the value, or throws felter::error if there is none.
     T &value() & { return why_.value(), *value_; }
     T &&value() && { return why_.value(), std::move(*value_); }
 
@@ -79,7 +81,8 @@ private:
     felter::code why_;
 };
 
-// Bytes that another object owns. A view is made from any container or text of bytes. Byte is const void or void.
+// Bytes that another object owns. A view can be made from any container or text of bytes. The parameter Byte is const
+// void or void.
 template <class Byte>
 class view {
     template <class C>
@@ -92,10 +95,10 @@ public:
     constexpr view(Byte *data, std::size_t size) noexcept : data_(data), size_(size) {}
     template <class C, class = if_bytes<C>>
     constexpr view(C &&from) noexcept : data_(from.data()), size_(from.size()) {}
-    // A text in quotes, without the 0 at its end.
+    // Views a text in quotes, without the 0 at its end.
     template <std::size_t N, class B = Byte, class = std::enable_if_t<std::is_const_v<B>>>
     constexpr view(const char (&text)[N]) noexcept : data_(text), size_(N - 1) {}
-    // An array that can be written is not taken for a text: pass {array, size}.
+    // An array that can be written is not a text. To view such an array, pass {array, size}.
     template <std::size_t N, class B = Byte, class = std::enable_if_t<std::is_const_v<B>>>
     view(char (&array)[N]) = delete;
 
@@ -121,7 +124,7 @@ struct message {
     bytes body;
 };
 
-// Messages, one after another in a buffer of the caller.
+// Messages that follow one another in a buffer of the caller.
 class batch {
 public:
     class iterator {
@@ -170,7 +173,7 @@ private:
     std::uint32_t count_ = 0;
 };
 
-// A handle whose destructor frees what the handle owns. It can be moved, and is empty afterwards.
+// A handle whose destructor frees what the handle owns. The handle can be moved, and is empty afterwards.
 template <class Raw>
 class owner {
 public:
@@ -184,7 +187,7 @@ public:
         return *this;
     }
     ~owner() { felter_free(&raw_.handle); }
-    // The handle, for a call of felter.h.
+    // Returns the handle, for a call of felter.h.
     Raw *raw() noexcept { return &raw_; }
 
 private:
@@ -198,7 +201,7 @@ result<T> answer(std::int32_t number, T value) {
     return value;
 }
 
-// The value that a call writes through its last argument.
+// Returns the value that a call writes through its last argument.
 template <class T, class Call>
 result<T> out(Call call) {
     T value{};

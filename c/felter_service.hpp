@@ -1,4 +1,4 @@
-// Counters, readers of their values, and conductors with their clients, for C++17. felter.hpp includes this.
+// Counters, readers of their values, and conductors with their clients, for C++17. felter.hpp includes this header.
 #ifndef FELTER_SERVICE_HPP
 #define FELTER_SERVICE_HPP
 
@@ -91,11 +91,11 @@ public:
         return detail::out<std::uint32_t>(
             [&](std::uint32_t *it) { return felter_counters_close_owner(raw(), now, of, it); });
     }
-    // The number of ids, in use or not.
+    // Returns the number of ids, whether they are in use or not.
     result<std::uint32_t> count() {
         return detail::out<std::uint32_t>([&](std::uint32_t *it) { return felter_counters_count(raw(), it); });
     }
-    // The number of counters that can be allocated at the moment `now`.
+    // Returns the number of counters that can be allocated at the moment `now`.
     result<std::uint32_t> available(std::uint64_t now) {
         return detail::out<std::uint32_t>(
             [&](std::uint32_t *it) { return felter_counters_available(raw(), now, it); });

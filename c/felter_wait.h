@@ -1,11 +1,11 @@
 /* felter_wait: calls that wait, requests, and doorbells for epoll. The calls of the proved library never wait. The
- * calls of this header make calls of the library. They are tested and not proved. This header needs Linux and POSIX:
- * -D_POSIX_C_SOURCE=200809L, or the default of a compiler.
+ * calls of this header make calls of the library. They are tested and not proved. This header needs Linux and the
+ * declarations of POSIX. Compile with -D_POSIX_C_SOURCE=200809L, or with the default of a compiler.
  *
  * A timeout is in milliseconds. With the timeout 0 a call tries once, and with a negative timeout it waits for ever.
  *
  * To wait for a message, use felter_read_asleep or felter_receive_asleep, and call felter_wake after each write. The
- * reader then wakes after some tens of microseconds, and a write costs one load more while no reader sleeps.
+ * reader then wakes after some tens of microseconds. A write costs one more load while no reader sleeps.
  *
  * felter_read_wait and felter_receive_wait are for rings and boards whose writers do not call felter_wake. They try
  * again and again with pauses, so they find a message up to about a millisecond late. */
@@ -35,14 +35,15 @@ extern "C" {
 extern long syscall(long number, ...);
 #endif
 
-/* How long a call has waited. A pause begins as {0, 0, timeout}. */
+/* Stores how long a call has waited. A pause begins as {0, 0, timeout}. */
 typedef struct felter_pause {
     int64_t began; /* in nanoseconds, 0 before the first pause */
     int turns;
     int64_t timeout; /* in milliseconds */
 } felter_pause;
 
-/* Pauses, each time longer, up to a millisecond. Returns 1, or 0 without a pause if the timeout has come. */
+/* Pauses, each time for longer, up to a millisecond. Returns 1 after the pause. Returns 0 without a pause if the
+ * timeout has passed. */
 static inline int felter_pauses(felter_pause *it) {
     struct timespec now;
     int64_t left = 1000000, nanos;
@@ -54,7 +55,7 @@ static inline int felter_pauses(felter_pause *it) {
         left = (it->timeout < INT64_MAX / 1000000 ? it->timeout * 1000000 : INT64_MAX) - (nanos - it->began);
         if (left <= 0) return 0;
     }
-    /* (the count stays at 16, from which on all pauses are equally long: a wait may last for months) */
+    /* (the count stays at 16, since a wait may last for months; the pauses are equally long from there on) */
     if (it->turns < 16) it->turns++;
     if (it->turns <= 10) {
         sched_yield();
@@ -103,10 +104,10 @@ FELTER_GUARD int32_t felter_receive_wait(felter_receiver *receiver, int32_t *typ
 
 /* Sleepers ---------------------------------------------------------------------------------------------------------
  *
- * A reader sleeps until a writer wakes it, which takes some tens of microseconds. The writers and the reader share a
- * felter_sleepers. It begins as FELTER_NO_SLEEPERS, and lives as long as a thread uses it.
+ * A reader sleeps until a writer wakes it. The reader wakes some tens of microseconds later. The writers and the reader
+ * share a felter_sleepers. This object begins as FELTER_NO_SLEEPERS, and must live as long as a thread uses it.
  *
- * Each writer calls felter_wake after each write, commit, abort or transmission. This costs one load if no reader
+ * Each writer calls felter_wake after each write, commit, abort or transmission. The call costs one load if no reader
  * sleeps. Only felter_wake and the timeout wake a reader, so call felter_wake also when the last writer ends.
  */
 typedef struct felter_sleepers {
@@ -116,8 +117,9 @@ typedef struct felter_sleepers {
 
 #define FELTER_NO_SLEEPERS {0, 0}
 
-/* Wakes all readers that sleep. Any thread may call this. A reader that is woken finds what was written before the
- * call: a write ends with an exchange, and no x86-64 processor moves an exchange after the load here. */
+/* Wakes all readers that sleep. Any thread may call this. A reader that is woken finds the messages that were written
+ * before this call. The reason is that a write ends with an exchange, and no x86-64 processor moves an exchange after
+ * the load here. */
 static inline void felter_wake(felter_sleepers *it) {
     if (__atomic_load_n(&it->count, __ATOMIC_SEQ_CST) == 0) return;
     __atomic_add_fetch(&it->turn, 1, __ATOMIC_SEQ_CST);
@@ -136,7 +138,8 @@ static inline int64_t felter_time_left(felter_pause *it) {
     return left > 0 ? left : 0;
 }
 
-/* Sleeps, unless readers were woken after `turn` was loaded. Returns 1, or 0 without a sleep if the timeout has come.
+/* Sleeps, unless readers were woken after `turn` was loaded. Returns 1 after the sleep. Returns 0 without a sleep if
+ * the timeout has passed.
  * */
 static inline int felter_sleeps(felter_sleepers *it, uint32_t turn, felter_pause *pause) {
     const int64_t left = felter_time_left(pause);
@@ -178,16 +181,16 @@ FELTER_GUARD int32_t felter_receive_asleep(felter_receiver *receiver, felter_sle
 
 /* Requests ---------------------------------------------------------------------------------------------------------
  *
- * A request is a command of a client together with its reply, until a deadline. The call sends the command, and sends
- * it again while the ring is full or another client is faster. Then the call polls for the reply, and passes over the
- * replies to other commands. So a client has one request at a time.
+ * A request sends a command of a client, and waits for its reply until a deadline. The call sends the command, and
+ * sends it again while the ring is full or another client is faster. Then the call polls for the reply, and passes over
+ * the replies to other commands. So a client has one request at a time.
  *
- * If the conductor overtakes the client, the reply may be lost. Then the call soon sends a command that changes
- * nothing: to free an id that no counter has. Replies to one client come in the order of its commands, so the reply to
- * the second command shows that the conductor took the first one before.
+ * If the conductor overtakes the client, the reply may be lost. Then the call soon sends a second command, which frees
+ * an id that no counter has, and so changes nothing. Replies to one client come in the order of its commands. So the
+ * reply to the second command shows that the conductor took the first one before.
  */
 
-/* What is known of the command when the call ends, and what the call returns then. */
+/* The outcomes of a request. Each comment says what is known of the command, and which code the call returns. */
 enum felter_outcome {
     FELTER_OUTCOME_REPLIED = 0,  /* the reply came: FELTER_OK */
     FELTER_OUTCOME_NOT_SENT = 1, /* the command was not sent: the code of the refusal */
@@ -232,17 +235,17 @@ FELTER_GUARD int32_t felter_await(felter_client *client, int32_t sent, felter_pa
             continue;
         }
         if (code != FELTER_NO_MESSAGE && code != FELTER_OTHER_REPLY) return code;
-        /* (while other replies come the call does not sleep, but looks at the time now and then) */
+        /* While replies to other commands come, the call does not sleep. It looks at the time once in 64 replies. */
         if (code == FELTER_OTHER_REPLY) pause->turns = 0;
         if (code == FELTER_OTHER_REPLY && ++others % 64 != 0) continue;
         if (!felter_pauses(pause)) return is_lapped ? FELTER_LAPPED : FELTER_NO_MESSAGE;
-        /* (the reply may still come: so the call waits for it first) */
+        /* The reply may still come, so the call first waits for the reply. */
         if (is_lapped && !has_after && ++waits > 16)
             has_after = felter_send_free(client, FELTER_NO_COUNTER, &after) == FELTER_OK;
     }
 }
 
-/* Requests what felter_send_allocate_owned commands. The owner 0 means that there is none. */
+/* Makes a request with the command of felter_send_allocate_owned. The owner 0 means that the counter has no owner. */
 FELTER_GUARD int32_t felter_request_allocate(felter_client *client, int32_t type_id, uint64_t owner, const void *key,
                                              size_t key_len, const void *label, size_t label_len, int64_t timeout,
                                              felter_answer *answer) {
@@ -256,7 +259,7 @@ FELTER_GUARD int32_t felter_request_allocate(felter_client *client, int32_t type
     return felter_await(client, code, &pause, answer);
 }
 
-/* Requests what felter_send_free commands. */
+/* Makes a request with the command of felter_send_free. */
 FELTER_GUARD int32_t felter_request_free(felter_client *client, uint32_t counter, int64_t timeout,
                                          felter_answer *answer) {
     felter_pause pause = {0, 0, timeout};
@@ -267,7 +270,7 @@ FELTER_GUARD int32_t felter_request_free(felter_client *client, uint32_t counter
     return felter_await(client, code, &pause, answer);
 }
 
-/* Requests what felter_send_set commands. */
+/* Makes a request with the command of felter_send_set. */
 FELTER_GUARD int32_t felter_request_set(felter_client *client, uint32_t counter, int64_t value, int64_t timeout,
                                         felter_answer *answer) {
     felter_pause pause = {0, 0, timeout};
@@ -278,7 +281,7 @@ FELTER_GUARD int32_t felter_request_set(felter_client *client, uint32_t counter,
     return felter_await(client, code, &pause, answer);
 }
 
-/* Requests what felter_send_close_owner commands. */
+/* Makes a request with the command of felter_send_close_owner. */
 FELTER_GUARD int32_t felter_request_close_owner(felter_client *client, uint64_t owner, int64_t timeout,
                                                 felter_answer *answer) {
     felter_pause pause = {0, 0, timeout};
@@ -291,12 +294,13 @@ FELTER_GUARD int32_t felter_request_close_owner(felter_client *client, uint64_t 
 
 /* Doorbells --------------------------------------------------------------------------------------------------------
  *
- * A doorbell is an eventfd, for poll and epoll. Its descriptor is readable after the doorbell was rung, until it is
- * cleared. Writers ring the doorbell after they have written: a ring does not do that itself. The reader clears the
- * doorbell first, and then reads until no message is there.
+ * A doorbell is an eventfd, for poll and epoll. The descriptor becomes readable when the doorbell is rung, and stays
+ * readable until the doorbell is cleared. Writers ring the doorbell after they have written, since no write does this
+ * itself. The reader clears the doorbell first, and then reads until no message is there.
  */
 
-/* Opens a doorbell, and returns its descriptor, or -1 with errno. Close the descriptor by close. */
+/* Opens a doorbell, and returns its descriptor, or -1 with errno. To close the doorbell, call close with the
+ * descriptor. */
 static inline int felter_doorbell(void) {
     return eventfd(0, EFD_CLOEXEC | EFD_NONBLOCK);
 }
@@ -314,8 +318,8 @@ static inline int felter_clear_doorbell(int bell) {
     return errno == EAGAIN ? 0 : -1;
 }
 
-/* Waits until a doorbell is rung, for at most `timeout` milliseconds, or for ever if that is negative. Returns what
- * poll returns. */
+/* Waits until a doorbell is rung, for at most `timeout` milliseconds. If `timeout` is negative, waits for ever. Returns
+ * the result of poll. */
 static inline int felter_wait_doorbell(int bell, int timeout) {
     struct pollfd it;
     it.fd = bell;

@@ -2,8 +2,8 @@
 // header needs Linux, and is tested and not proved.
 //
 // To wait for a message, use read_asleep or receive_asleep, and call sleepers::wake after each write. read_wait and
-// receive_wait are for writers that do not call wake. They pause between tries, and find a message up to about a
-// millisecond late. These two also return FELTER_NO_MESSAGE if the other side is gone and no message is left.
+// receive_wait are for writers that do not call wake. They pause between tries, so they find a message up to about a
+// millisecond late. These two calls also return FELTER_NO_MESSAGE if the other side is gone and no message is left.
 #ifndef FELTER_WAIT_HPP
 #define FELTER_WAIT_HPP
 
@@ -15,13 +15,14 @@
 
 namespace felter {
 
-// The timeout that never comes.
+// The timeout of a call that waits for ever.
 inline constexpr std::chrono::milliseconds for_ever{-1};
 
 namespace detail {
 inline std::int64_t as_timeout(std::chrono::milliseconds it) noexcept { return static_cast<std::int64_t>(it.count()); }
 
-// Looks again and again until there is a message, the timeout comes, or the other side is gone and left no message.
+// Looks again and again until there is a message, the timeout has passed, or the other side is gone and left no
+// message.
 template <class End, class Look>
 result<message> until_found(End &end, std::chrono::milliseconds timeout, Look look) {
     felter_pause pause = {0, 0, as_timeout(timeout)};
@@ -85,7 +86,7 @@ inline result<message> receive_asleep(receiver &from, sleepers &in, buffer into,
     return detail::answer(why, found);
 }
 
-// How a request ended, and what is known of its command.
+// The outcome of a request, and what is known of its command.
 struct requested {
     felter::code why;
     felter_answer answer;

@@ -1,11 +1,11 @@
 /* ring_record: records a run of a ring or a queue, of any kind, for the program ring-check.
  *
- * Each thread has a log of its own, which begins as RING_RECORD_EMPTY, and notes in it what each of its calls returned.
- * Once all threads have ended, ring_record_write writes the logs into a file, one after another. A message is named by
- * its producer, by a number that the producer gave to the call, and by a checksum of its bytes, such as
- * ring_record_sum. A call that is tried again may keep its number: each refusal is noted with it, and then the call
- * that was accepted. In a run of a broadcast buffer, a message is named by its number alone: the first message that was
- * transmitted is message 0.
+ * Each thread has a log of its own. The log begins as RING_RECORD_EMPTY, and the thread notes in it the result of each
+ * of its calls. After all threads have ended, ring_record_write writes the logs into a file, one after another. A
+ * message is named by its producer, by a number that the producer gave to the call, and by a checksum of its bytes. The
+ * checksum can be that of ring_record_sum. A call that is tried again may keep its number. Note each refusal with this
+ * number, and then the call that was accepted. In a run of a broadcast
+ * buffer, a message is named by its number alone. The first message that was transmitted is message 0.
  *
  * docs/CHECKING.md shows a whole program. Nothing here needs another header of felter. */
 #ifndef RING_RECORD_H
@@ -17,9 +17,10 @@
 #include <stdio.h>
 #include <stdlib.h>
 
-/* What a line of a log says: the call was accepted, or refused; the consumer was shown a message, or found nothing
- * after all producers had returned. Then what a line says of a broadcast buffer: a message was transmitted; a receiver
- * was given a copy, or was lapped, or found nothing after the transmitter had returned. */
+/* The kinds of lines of a log. Either a call of a producer was accepted or refused, or the consumer was shown a
+ * message, or the consumer found nothing after all producers had returned. These are the kinds for a broadcast buffer:
+ * a message was transmitted, or a receiver was given a copy, or a receiver was lapped, or a receiver found nothing after
+ * the transmitter had returned. */
 enum ring_record_kind {
     RING_RECORD_SENT,
     RING_RECORD_REFUSED,
@@ -38,7 +39,7 @@ typedef struct ring_record_line {
     uint8_t kind;
 } ring_record_line;
 
-/* The log of a thread. `is_short` is 1 if memory ran out, and lines are missing. */
+/* The log of a thread. `is_short` is 1 if lines are missing because memory ran out. */
 typedef struct ring_record_log {
     ring_record_line *lines;
     size_t count, room;
@@ -107,7 +108,7 @@ static inline void ring_record_caught_up(ring_record_log *log, uint16_t receiver
     ring_record_note(log, RING_RECORD_CAUGHT_UP, receiver, 0, 0);
 }
 
-/* A checksum of these bytes: FNV-1a of 64 bits. */
+/* Returns a checksum of these bytes: FNV-1a of 64 bits. */
 static inline uint64_t ring_record_sum(const void *bytes, size_t length) {
     const unsigned char *at = (const unsigned char *)bytes;
     uint64_t sum = UINT64_C(14695981039346656037);
@@ -148,7 +149,7 @@ static inline int ring_record_write_broadcast(FILE *file, const ring_record_log 
     return ring_record_write_as(file, "broadcast", logs, count);
 }
 
-/* Gives the memory of a log back, and empties it. */
+/* Frees the memory of a log, and empties the log. */
 static inline void ring_record_free(ring_record_log *log) {
     free(log->lines);
     log->lines = NULL;

@@ -1,4 +1,4 @@
-# Claims: room is claimed first, and the body is put later. No read goes past an open claim.
+# Claims. Room is claimed first, and the body is put later. No read goes past an open claim.
 # Run it with: ./ring-run examples/claims.ring
 
 # Two claims are open at once, and the second one is settled first.
@@ -8,8 +8,8 @@ put 1 0 48656c6c6f
 put 2 0 7365636f6e64
 commit 2
 
-# The first claim is at the head and is open, so nothing is read. The tail is beyond the head: the ring is not empty,
-# but the reader is blocked.
+# The first claim is at the head and is open, so a read shows nothing. The tail is beyond the head, so the ring is not
+# empty. The reader is blocked.
 read 9
 positions
 put 1 5 20776f726c64
@@ -17,14 +17,14 @@ commit 1
 read 9
 positions
 
-# An aborted claim is passed, and its message is never shown.
+# The reader passes an aborted claim, and its message is never shown.
 claim 3 4
 abort 3
 write 3 01
 read 9
 
-# The reader returns a letter for each message: n takes the message and goes on, b takes it and stops, and a leaves it
-# in the ring and stops.
+# The reader returns a letter for each message. The letter n takes the message and goes on. The letter b takes it and
+# stops. The letter a leaves it in the ring and stops.
 write 1 61
 write 1 62
 write 1 63
@@ -41,7 +41,7 @@ read 9
 commit 4
 read 9
 
-# The trailer has correlation ids, each of which is given once, and the reader's heartbeat.
+# The trailer has correlation ids and the reader's heartbeat. Each correlation id is given only once.
 correlation
 correlation
 heartbeat

@@ -2,20 +2,20 @@
 # broadcast buffer.
 # Run it with: ./ring-run examples/conductor.ring
 
-# A listener gets the replies that come after it was made, and a watcher reads values.
+# A listener gets the replies that come after it was made. A watcher reads values.
 listen
 watch
 
-# Three commands wait in the ring. Each has a correlation id, which its reply will have too. The label is `ab`, and the
-# counter will have the id 0.
+# Three commands wait in the ring. Each command has a correlation id, and its reply will have the same id. The label is
+# `ab`. The counter will have the id 0.
 allocate 5 - 6162
 set 0 42
 set 3 1
 counters
 peek 1 0
 
-# The conductor takes two of them at 100 milliseconds, and then the third one. It refuses that with the number 21: no
-# counter has the id 3.
+# The conductor takes two of the commands at 100 milliseconds, and then the third one. It refuses the third one with the
+# number 21, since no counter has the id 3.
 work 100 2
 work 100 9
 hear 1
@@ -25,7 +25,7 @@ hear 1
 peek 1 0
 counters
 
-# An owner's counters are freed when the owner is closed. The reply says that they were two.
+# An owner's counters are freed when the owner is closed. The reply says that there were two counters.
 own 9 6 - 78
 own 9 6 - 79
 close 9
@@ -36,8 +36,8 @@ hear 1
 owner 0
 owner 1
 
-# A freed id is given again 50 milliseconds after it was freed, and not before. The ids 1 and 2 are free from 160 on, so
-# this counter gets the id 3.
+# A freed id can be allocated again 50 milliseconds after it was freed, and not before. The ids 1 and 2 can be allocated
+# again from 160 milliseconds on. So this counter gets the id 3.
 allocate 7 - 7a
 work 159 9
 allocate 7 - 7b
@@ -46,8 +46,8 @@ hear 1
 hear 1
 counters
 
-# Bytes that are no command get a reply too, and change nothing. 22 says that they are malformed, and 23 that no command
-# has this type id.
+# Bytes that are no command get a reply too, and change nothing. The number 22 says that they are malformed, and 23 that
+# no command has this type id.
 send 1 0700000000000000
 send 99 0800000000000000
 work 200 9

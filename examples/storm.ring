@@ -1,10 +1,10 @@
-# Storms: clients on threads of their own against one conductor. The numbers are the same in every order of the threads.
-# Run it with: ./ring-run --commands 256 examples/storm.ring
+# Storms. Clients on several threads send commands to one conductor. The numbers are the same in every order of the
+# threads. Run it with: ./ring-run --commands 256 examples/storm.ring
 
-# One client with one command. Its counter is allocated, and its value stays 0.
+# One client sends one command. Its counter is allocated, and its value stays 0.
 storm 1 1
 
-# Four clients with 1,000 commands each through a ring of 256 bytes. Each client
+# Four clients send 1,000 commands each through a ring of 256 bytes. Each client
 # sets its counter to 2, 3, .. 1000, so the last values add up to 4,000.
 storm 4 1000
 storm 64 10

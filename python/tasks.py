@@ -1,4 +1,4 @@
-"""The tasks of docs/USING.md in Python. It prints c/examples/tasks.out, as the same tasks in C and Rust do."""
+"""The tasks of docs/USING.md in Python. The program prints c/examples/tasks.out, as the same tasks in C and Rust do."""
 
 import struct
 import threading
@@ -10,8 +10,8 @@ NUMBER, TEXT, LAST = 1, 7, 1000
 
 
 def add_up() -> None:
-    """Sends messages to another thread: one thread sends numbers, and this one adds them up. Both wait, without a
-    deadline."""
+    """Sends messages to another thread. One thread sends numbers, and this thread adds them up. Both threads wait
+    without a deadline."""
     producer, consumer = felter.one_to_one(1024)
 
     def send_numbers() -> None:

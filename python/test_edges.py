@@ -153,7 +153,7 @@ class Edges(Case):
                 call()
         names = list(inspect.signature(felter.Producer.write).parameters)
         self.assertEqual(names, ["self", "type_id", "body", "timeout"])
-        self.assertIn("any object with bytes", felter.Producer.write.__doc__)
+        self.assertIn("any object that has a buffer of bytes", felter.Producer.write.__doc__)
 
     def test_batches_have_the_room_that_was_given(self):
         producer, consumer = felter.many_to_one(1 << 20)

@@ -1,5 +1,5 @@
-/* A conductor, two clients and a monitor, each on a thread of its own. The program does and prints what
- * crates/ring_example does. To compile it: cc -pthread -o driver c/examples/driver.c -Ic/out c/out/libfelter.a */
+/* A conductor, two clients and a monitor, each on a thread of its own. The program does the same and prints the same as
+ * crates/ring_example. To compile it: cc -pthread -o driver c/examples/driver.c -Ic/out c/out/libfelter.a */
 #include "felter.h"
 
 #include <inttypes.h>
@@ -11,7 +11,7 @@
 
 /* The capacity of the command ring, in bytes. The ring takes commands of up to 32 bytes, and is often full. */
 #define RING 256
-/* The capacity of the board, in bytes. A reply takes at most 24 bytes, so the board has room for all 2,002 replies, and
+/* The capacity of the board, in bytes. A reply takes at most 24 bytes. So the board has room for all 2,002 replies, and
  * no client is lapped. */
 #define BOARD 65536
 #define CLIENTS 2
@@ -32,8 +32,8 @@ static struct caller callers[CLIENTS] = {{"requests", FELTER_EMPTY, -1, 0, 0}, {
 static atomic_int stop;
 static int saw_fall;
 
-/* Whether to send again. Another client was faster: try again at once. The ring is full: the conductor must take a
- * command first. */
+/* Returns whether to send again. If another client was faster, the caller tries again at once. If the ring is full, the
+ * conductor must take a command first. */
 static int again(int32_t code) {
     if (code == FELTER_INSUFFICIENT_CAPACITY) sched_yield();
     return code == FELTER_INSUFFICIENT_CAPACITY || code == FELTER_CONTENDED;
@@ -117,7 +117,7 @@ static void *watch(void *unused) {
     return unused;
 }
 
-/* Makes the conductor, its clients and its reader. Afterwards only the conductor's thread uses the conductor. */
+/* Makes the conductor, its clients and its reader. After that only the conductor's thread uses the conductor. */
 static int make(void) {
     if (felter_conductor_new(RING, BOARD, CLIENTS, 0, &conductor) != FELTER_OK) return 0;
     for (int i = 0; i < CLIENTS; i++)

@@ -1,5 +1,5 @@
-/* The tasks of docs/USING.md in C: cc -pthread -o tasks c/examples/tasks.c -Ic/out c/out/libfelter.a
- * It prints c/examples/tasks.out, as the same tasks in Rust and Python do. */
+/* The tasks of docs/USING.md in C. The program prints c/examples/tasks.out, as the same tasks in Rust and Python do. To
+ * compile it: cc -pthread -o tasks c/examples/tasks.c -Ic/out c/out/libfelter.a */
 #include "felter.h"
 #include "felter_wait.h"
 
@@ -20,7 +20,7 @@ static void *send_numbers(void *given) {
     return producer;
 }
 
-/* Sends messages to another thread: one thread sends numbers, and this one adds them up. */
+/* Sends messages to another thread. One thread sends numbers, and this thread adds them up. */
 static int add_up(void) {
     felter_producer producer = FELTER_EMPTY;
     felter_consumer consumer = FELTER_EMPTY;
@@ -145,7 +145,7 @@ static void *serve(void *unused) {
     }
 }
 
-/* Sends a Set and waits for its reply. After FELTER_OK the kind and the number of the reply are there. */
+/* Sends a Set and waits for its reply. After FELTER_OK the call has written the kind and the number of the reply. */
 static int32_t set_counter(felter_client *client, uint32_t counter, int64_t value, int32_t *kind, int64_t *number) {
     uint64_t id = 0, laps = 0;
     int32_t code;

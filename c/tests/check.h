@@ -1,4 +1,4 @@
-/* What the tests of C share. A test ends with status 1 at the first check that fails, and says where. */
+/* Macros that the tests in C share. A test ends with status 1 at the first check that fails, and prints the place of that check. */
 #ifndef CHECK_H
 #define CHECK_H
 
@@ -9,7 +9,7 @@
 #include <stdlib.h>
 #include <string.h>
 
-/* Refuses to go on where this is not so. */
+/* Ends the test if the condition is false. */
 #define CHECK(that)                                                     \
     do {                                                                \
         if (!(that)) {                                                  \
@@ -18,7 +18,7 @@
         }                                                               \
     } while (0)
 
-/* Refuses to go on where a call answers another code. */
+/* Ends the test if the call returns another code. */
 #define EXPECT(code, call)                                                                                    \
     do {                                                                                                      \
         int32_t answered = (call);                                                                            \

@@ -1,10 +1,10 @@
-/* What tests of rings share: reads whose message, or whose lack of one, is compared whole. */
+/* Reads that tests of rings share. Each compares the whole message, or expects that there is no message. */
 #ifndef READING_H
 #define READING_H
 
 #include "check.h"
 
-/* Reads one message and compares it whole. */
+/* Reads one message, and compares all of it. */
 static inline void expect_message(felter_consumer *consumer, int32_t type_id, const uint8_t *body, size_t len) {
     uint8_t buffer[512];
     int32_t type_read = -7;

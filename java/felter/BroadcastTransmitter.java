@@ -3,13 +3,13 @@ package felter;
 import java.nio.ByteBuffer;
 
 /**
- * Transmits on a broadcast buffer. A transmitter never waits: a receiver that is too slow is overtaken. One thread at a
- * time uses a transmitter.
+ * Transmits messages on a broadcast buffer. A transmitter never waits, so a receiver that is too slow is overtaken. One
+ * thread at a time uses a transmitter.
  */
 public final class BroadcastTransmitter extends Owner {
     private final int capacity;
 
-    /** Makes a broadcast buffer of {@code capacity} bytes, a power of two from 256 to 2^24. */
+    /** Makes a broadcast buffer of {@code capacity} bytes, which must be a power of two from 256 to 2^24. */
     public BroadcastTransmitter(final int capacity) {
         super(1);
         Native.must(Native.boardNew(capacity, handle(0)));

@@ -6,7 +6,7 @@ import java.nio.ByteBuffer;
  * message. */
 @FunctionalInterface
 public interface ControlledMessageHandler {
-    /** What a controlled read does after a message was shown. */
+    /** The ways in which a controlled read goes on after a message was shown. */
     enum Action {
         /** Stops. The message stays in the ring. */
         ABORT,
@@ -15,12 +15,12 @@ public interface ControlledMessageHandler {
         /** Takes the message, and goes on. */
         COMMIT,
         /**
-         * Takes the message, and goes on. This does the same as COMMIT: the producers get the room of each message at
-         * once.
+         * Takes the message, and goes on. This does the same as COMMIT, since the producers get the room of each
+         * message at once.
          */
         CONTINUE
     }
 
-    /** Handles a message, which is at an index of the buffer. The buffer is used again after the call. */
+    /** Handles a message, which is at an index of the buffer. The buffer is reused after the call. */
     Action onMessage(int msgTypeId, ByteBuffer buffer, int index, int length);
 }

@@ -21,9 +21,9 @@ public final class CopyBroadcastReceiver extends Owner {
     }
 
     /**
-     * Calls the handler with the next message, if there is one, and returns the number of messages: 0 or 1. If the
-     * transmitter overtook the receiver, {@link #lappedCount} rises, and the receiver goes on with the message that was
-     * transmitted last.
+     * Calls the handler with the next message, if there is one. Returns the number of messages, which is 0 or 1. If the
+     * transmitter overtook the receiver, {@link #lappedCount} rises. The receiver then goes on with the message that
+     * was transmitted last.
      */
     public int receive(final MessageHandler handler) {
         int length = Native.receive(handle(0), Native.address(scratch), scratch.capacity(), outAddress);

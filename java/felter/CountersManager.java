@@ -5,15 +5,15 @@ import java.nio.charset.StandardCharsets;
 import java.util.function.IntConsumer;
 
 /**
- * Counters with the ids from 0 on. One thread allocates and sets them. {@link #reader} makes a reader for another
- * thread.
+ * Counters with the ids from 0 on. One thread allocates and sets the counters. {@link #reader} makes a reader for
+ * another thread.
  */
 public final class CountersManager extends Owner {
-    /** What {@link #getCounterState} returns for an id that was never used. */
+    /** The state that {@link #getCounterState} returns for an id that was never used. */
     public static final int RECORD_UNUSED = 0;
-    /** What {@link #getCounterState} returns for a counter that is in use. */
+    /** The state that {@link #getCounterState} returns for a counter that is in use. */
     public static final int RECORD_ALLOCATED = 1;
-    /** What {@link #getCounterState} returns for a counter that was freed. */
+    /** The state that {@link #getCounterState} returns for a counter that was freed. */
     public static final int RECORD_RECLAIMED = -1;
 
     private static final int MAX_LABEL_LENGTH = 380;
@@ -23,7 +23,8 @@ public final class CountersManager extends Owner {
     private final ByteBuffer out = buffer(MAX_LABEL_LENGTH);
     private final long outAddress = Native.address(out);
 
-    /** Makes {@code count} counters. A freed id is not given again for {@code freeToReuseTimeoutMs} milliseconds. */
+    /** Makes {@code count} counters. A freed id is not allocated again for {@code freeToReuseTimeoutMs}
+     * milliseconds. */
     public CountersManager(final int count, final int freeToReuseTimeoutMs) {
         super(1);
         Native.must(Native.countersNew(count, freeToReuseTimeoutMs, handle(0)));
@@ -36,8 +37,8 @@ public final class CountersManager extends Owner {
     }
 
     /**
-     * Returns the number of counters that can be allocated at a moment. A freed id counts once the timeout after its
-     * free has passed.
+     * Returns the number of counters that can be allocated at a moment. A freed id is counted after the timeout that
+     * began with its free.
      */
     public int available(final long now) {
         Native.must(Native.countersAvailable(handle(0), now, outAddress));
@@ -49,14 +50,14 @@ public final class CountersManager extends Owner {
         return allocate(label, 0, NOTHING, 0, 0, 0);
     }
 
-    /** Allocates a counter with a type id, and is otherwise the same. */
+    /** Allocates a counter with a type id. Otherwise the call is the same as {@link #allocate(String)}. */
     public int allocate(final String label, final int typeId) {
         return allocate(label, typeId, NOTHING, 0, 0, 0);
     }
 
     /**
-     * Allocates a counter at a moment, with a key, a registration id and an owner. The owner 0 means that there is
-     * none.
+     * Allocates a counter at a moment, with a key, a registration id and an owner. The owner 0 means that the counter
+     * has no owner.
      */
     public int allocate(
         final String label, final int typeId, final byte[] key, final long now, final long registrationId,
@@ -77,31 +78,31 @@ public final class CountersManager extends Owner {
         Native.must(Native.counterSet(handle(0), counterId, value));
     }
 
-    /** Adds to a counter's value, which wraps, and returns the value before the addition. */
+    /** Adds {@code delta} to a counter's value, and returns the value before the addition. The sum wraps. */
     public long getAndAdd(final int counterId, final long delta) {
         Native.must(Native.counterAdd(handle(0), counterId, delta, outAddress));
         return out.getLong(0);
     }
 
-    /** Adds 1 to a counter's value, which wraps, and returns the value before. */
+    /** Adds 1 to a counter's value, and returns the value before the addition. The sum wraps. */
     public long increment(final int counterId) {
         Native.must(Native.counterIncrement(handle(0), counterId, outAddress));
         return out.getLong(0);
     }
 
-    /** Subtracts 1 from a counter's value, which wraps, and returns the value before. */
+    /** Subtracts 1 from a counter's value, and returns the value before the subtraction. The difference wraps. */
     public long decrement(final int counterId) {
         Native.must(Native.counterDecrement(handle(0), counterId, outAddress));
         return out.getLong(0);
     }
 
-    /** Sets a counter's value, and returns the value before. */
+    /** Sets a counter's value, and returns the value that it had before. */
     public long getAndSet(final int counterId, final long value) {
         Native.must(Native.counterGetAndSet(handle(0), counterId, value, outAddress));
         return out.getLong(0);
     }
 
-    /** Sets a counter's value if it is the expected one. Returns whether that was so. */
+    /** Sets a counter's value if the counter has the expected value. Returns whether the value was set. */
     public boolean compareAndSet(final int counterId, final long expectedValue, final long updateValue) {
         Native.must(Native.counterCompareAndSet(handle(0), counterId, expectedValue, updateValue, outAddress));
         return out.getInt(0) == 1;
@@ -139,7 +140,7 @@ public final class CountersManager extends Owner {
         }
     }
 
-    /** Makes a reader of the values, for another thread. */
+    /** Makes a reader of the counters' values, for another thread. */
     public CountersReader reader() {
         return new CountersReader(this);
     }

@@ -12,7 +12,7 @@ public final class CountersReader extends Owner {
         Native.must(Native.countersReader(counters.handle(0), handle(0)));
     }
 
-    /** Loads a value. The value of an id that was never used is 0, and that of a freed id is its last value. */
+    /** Loads a value. The value of an id that was never used is 0. The value of a freed id is its last value. */
     public long getCounterValue(final int counterId) {
         Native.must(Native.readerValue(handle(0), counterId, outAddress));
         return out.getLong(0);

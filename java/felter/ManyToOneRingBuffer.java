@@ -1,15 +1,15 @@
 package felter;
 
 /**
- * A ring that any threads write and one thread reads. Each thread that writes gets a producer of its own. After the
- * thread has ended and the garbage collector has found its producer, a claim that the thread left open is aborted, and
- * the producer goes back to the ring. There are at most 65,536 producers at a time.
+ * A ring that any number of threads write, and that one thread reads. Each thread that writes gets a producer of its
+ * own. After a thread has ended, the garbage collector finds its producer. A claim that the thread left open is then
+ * aborted, and the producer goes back to the ring. There are at most 65,536 producers at a time.
  */
 public final class ManyToOneRingBuffer extends RingBuffer {
     private final Object lock = new Object();
     private final ThreadLocal<Producer> producers = ThreadLocal.withInitial(this::split);
 
-    /** Makes a ring of {@code capacity} bytes, a power of two from 128 to 2^24. */
+    /** Makes a ring of {@code capacity} bytes, which must be a power of two from 128 to 2^24. */
     public ManyToOneRingBuffer(final int capacity) {
         super(false, capacity);
     }
@@ -36,14 +36,15 @@ public final class ManyToOneRingBuffer extends RingBuffer {
         return producer;
     }
 
-    /** Aborts the open claim of a thread that has ended, and joins its producer, or frees it if the ring is closed. */
+    /** Aborts the open claim of a thread that has ended. Joins the thread's producer, or frees it if the ring is
+     * closed. */
     private static void giveBack(
             final Object lock, final Handles first, final Handles its, final Producer.OpenClaim open) {
         try {
             synchronized (lock) {
                 if (first.isOpen()) {
                     open.abort(its.at(0));
-                    // (out of memory: then the producer is freed, and its share is lost)
+                    // (after out of memory the producer is freed, and its share is lost)
                     Native.join(first.at(0), its.at(0));
                 }
             }

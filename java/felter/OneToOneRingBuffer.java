@@ -1,10 +1,10 @@
 package felter;
 
-/** A ring that one thread at a time writes and another one reads. */
+/** A ring that one thread at a time writes, and that another thread reads. */
 public final class OneToOneRingBuffer extends RingBuffer {
     private final Producer producer;
 
-    /** Makes a ring of {@code capacity} bytes, a power of two from 128 to 2^24. */
+    /** Makes a ring of {@code capacity} bytes, which must be a power of two from 128 to 2^24. */
     public OneToOneRingBuffer(final int capacity) {
         super(true, capacity);
         producer = new Producer(handles(), 0, maxMsgLength(), new Producer.OpenClaim());

@@ -6,7 +6,7 @@ import java.nio.ByteOrder;
 
 /**
  * An owner of handles of the library. The handles are freed when the owner is closed, or when nothing refers to the
- * owner any more.
+ * owner any longer.
  */
 abstract class Owner implements AutoCloseable {
     private static final Cleaner CLEANER = Cleaner.create();
@@ -25,7 +25,7 @@ abstract class Owner implements AutoCloseable {
             }
         }
 
-        /** Returns a handle, for a call. */
+        /** Returns a handle for a call. */
         long at(final int index) {
             final long handle = all[index];
             if (handle == 0) {
@@ -57,7 +57,7 @@ abstract class Owner implements AutoCloseable {
         cleanable = CLEANER.register(this, handles);
     }
 
-    /** Frees handles that another object held, when nothing refers to that object any more. */
+    /** Frees handles that another object held, when nothing refers to that object any longer. */
     static Cleaner.Cleanable whenGone(final Object owner, final Runnable free) {
         return CLEANER.register(owner, free);
     }
@@ -79,7 +79,7 @@ abstract class Owner implements AutoCloseable {
         return ByteBuffer.allocateDirect(capacity).order(ByteOrder.nativeOrder());
     }
 
-    /** Returns the address of an index in a direct buffer. */
+    /** Returns the address of the byte at an index of a direct buffer. */
     static long addressOf(final ByteBuffer buffer, final int index, final int length) {
         if (index < 0 || length < 0 || index > buffer.capacity() - length) {
             throw new IndexOutOfBoundsException("index " + index + ", length " + length);

@@ -2,11 +2,11 @@ package felter;
 
 import java.nio.ByteBuffer;
 
-/** What a thread writes with: a handle, and a buffer for its claim. */
+/** The means by which a thread writes, which are a handle and a buffer for its claim. */
 final class Producer {
     /**
      * The number of the open claim of a producer, if there is one. This object does not refer to the producer. So the
-     * number can be read after nothing refers to the producer any more.
+     * number can be read after nothing refers to the producer any longer.
      */
     static final class OpenClaim {
         private static final long NONE = -1;

@@ -4,13 +4,13 @@ import java.nio.ByteBuffer;
 
 /**
  * A ring of messages between threads, in the shape of Agrona's class of this name. Bodies are copied into the ring and
- * out of it. One thread reads. A message has at most {@link #maxMsgLength} bytes and a type id of at least 1.
+ * out of it. Only one thread reads. A message has at most {@link #maxMsgLength} bytes and a type id of at least 1.
  *
  * <p>A read calls its handler with messages, which are in a buffer of this object. If the handler throws, the read
  * throws the same exception. The next read then begins with the messages that the handler has not seen.
  */
 public abstract class RingBuffer extends Owner {
-    /** What {@link #tryClaim} returns if the ring has no room, or another producer was faster. */
+    /** The value that {@link #tryClaim} returns if the ring has no room, or another producer was faster. */
     public static final int INSUFFICIENT_CAPACITY = -2;
 
     private static final int RECORD = 16;
@@ -21,7 +21,7 @@ public abstract class RingBuffer extends Owner {
     private final long batchAddress;
     private final ByteBuffer out = buffer(16);
     private final long outAddress = Native.address(out);
-    /** How many messages of the batch the handler has not seen, and the place of the first of them. */
+    /** The number of messages of the batch that the handler has not seen, and the place of the first of them. */
     private int left;
     private int next;
 
@@ -49,7 +49,7 @@ public abstract class RingBuffer extends Owner {
     /**
      * Writes the message at an index of a buffer. The buffer's position and limit are not used.
      *
-     * @return false if the ring is full, or another producer was faster: then try again.
+     * @return false if the ring is full, or another producer was faster. Then try again.
      */
     public final boolean write(final int msgTypeId, final ByteBuffer buffer, final int index, final int length) {
         if (!buffer.isDirect()) {
@@ -62,7 +62,11 @@ public abstract class RingBuffer extends Owner {
         return isWritten(Native.write(producer().handle(), msgTypeId, addressOf(buffer, index, length), length));
     }
 
-    /** Writes a part of an array. The result is that of the other form. */
+    /**
+     * Writes a part of an array.
+     *
+     * @return false if the ring is full, or another producer was faster. Then try again.
+     */
     public final boolean write(final int msgTypeId, final byte[] body, final int index, final int length) {
         if (index < 0 || length < 0 || index > body.length - length) {
             throw new IndexOutOfBoundsException("index " + index + ", length " + length);
@@ -95,7 +99,7 @@ public abstract class RingBuffer extends Owner {
         producer().abort(index);
     }
 
-    /** Reads all messages that are there and fit into a batch. Returns how many messages the handler got. */
+    /** Reads all messages that are there and fit into a batch. Returns how many messages the handler received. */
     public final int read(final MessageHandler handler) {
         return read(handler, Integer.MAX_VALUE);
     }
@@ -109,7 +113,7 @@ public abstract class RingBuffer extends Owner {
             }
             final int at = next;
             final int length = (int) batch.getLong(at);
-            // (this comes first: a message is not shown again if the handler throws)
+            // (this comes first, so that a message is not shown again if the handler throws)
             next = at + RECORD + (length + 7) / 8 * 8;
             left--;
             count++;
@@ -134,16 +138,16 @@ public abstract class RingBuffer extends Owner {
     }
 
     /**
-     * Calls the handler with one message after another, and does with each what the handler returns. Returns how many
-     * messages were taken.
+     * Calls the handler with one message after another. The result of the handler says whether the message is taken,
+     * and whether the read goes on. Returns how many messages were taken.
      */
     public final int controlledRead(final ControlledMessageHandler handler) {
         return controlledRead(handler, Integer.MAX_VALUE);
     }
 
     /**
-     * Calls the handler with up to {@code messageCountLimit} messages, and is otherwise the same. If the handler
-     * throws, its message stays in the ring.
+     * Calls the handler with up to {@code messageCountLimit} messages. Otherwise the call is the same as the form
+     * without a limit. If the handler throws, its message stays in the ring.
      */
     public final int controlledRead(final ControlledMessageHandler handler, final int messageCountLimit) {
         if (left != 0) {
@@ -180,12 +184,12 @@ public abstract class RingBuffer extends Owner {
         return (int) Math.min(capacity, its.position(1) - its.position(0));
     }
 
-    /** Returns the position at which the next read begins, in bytes. It only rises. */
+    /** Returns the position at which the next read begins, in bytes. The position never falls. */
     public final long consumerPosition() {
         return producer().position(0);
     }
 
-    /** Returns the position at which the next claim begins, in bytes. It only rises. */
+    /** Returns the position at which the next claim begins, in bytes. The position never falls. */
     public final long producerPosition() {
         return producer().position(1);
     }
@@ -195,7 +199,7 @@ public abstract class RingBuffer extends Owner {
         Native.must(Native.setHeartbeat(handle(CONSUMER), time));
     }
 
-    /** Loads the consumer's heartbeat. It is 0 before the first one. */
+    /** Loads the consumer's heartbeat. The heartbeat is 0 before the consumer stores one. */
     public final long consumerHeartbeatTime() {
         return producer().heartbeat();
     }

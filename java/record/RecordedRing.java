@@ -16,7 +16,7 @@ public final class RecordedRing {
         this.ring = ring;
     }
 
-    /** A producer with its number. Its thread alone uses it. */
+    /** A producer with its number. Only the thread of the producer uses it. */
     public final class Producer {
         public final RunLog log = new RunLog();
         private final int id;
@@ -26,7 +26,8 @@ public final class RecordedRing {
             this.id = id;
         }
 
-        /** Writes a message of a type, and returns whether there was room. A second try has the same number. */
+        /** Writes a message of a type, and returns whether there was room. A second try of a message has the same
+         * number. */
         public boolean write(final int type, final byte[] payload) {
             final ByteBuffer made = ByteBuffer.allocate(NAME + payload.length);
             final byte[] body = made.putLong(id).putLong(number).put(payload).array();
@@ -40,7 +41,8 @@ public final class RecordedRing {
         }
     }
 
-    /** Reads what is there, and notes it in the consumer's log. Returns how many messages there were. */
+    /** Reads the messages that are there, and notes them in the consumer's log. Returns how many messages there
+     * were. */
     public int read(final RunLog log) {
         return ring.read((type, buffer, index, length) -> {
             final byte[] body = new byte[length];

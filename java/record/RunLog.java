@@ -4,10 +4,10 @@ import java.util.Arrays;
 
 /**
  * The log of one thread in a run of a ring or a queue, of any kind, for the program ring-check. Each thread notes in
- * its own log what its calls returned; once all threads have ended, {@link #write} writes the logs, one after another.
+ * its own log what its calls returned. After all threads have ended, {@link #write} writes the logs, one after another.
  *
  * <p>A message is named by its producer (0 to 65,535), by a number that the producer gave to the call, and by a
- * checksum of its bytes, such as {@link #sum}. A call that is tried again may keep its number.
+ * checksum of its bytes. The checksum can be that of {@link #sum}. A call that is tried again may keep its number.
  */
 public final class RunLog {
     private static final String[] WORDS = {"sent", "refused", "got", "empty"};
@@ -45,7 +45,7 @@ public final class RunLog {
         note(3, 0, 0, 0);
     }
 
-    /** A checksum of these bytes: FNV-1a of 64 bits. */
+    /** Returns a checksum of these bytes: FNV-1a of 64 bits. */
     public static long sum(final byte[] bytes, final int index, final int length) {
         long sum = 0xcbf29ce484222325L;
         for (int i = 0; i < length; i++) {

@@ -5,34 +5,36 @@
     for message in consumer:
         print(message.type_id, message.body)
 
-Calls. A read returns None if no message is there. With a timeout a call waits. A refused call raises an `Error`, whose
-`number` says why: "raises OTHER_RING" means an Error with the number OTHER_RING. If the ring is full or another
-producer was faster, the Error is a `Full` or a `Contended`, and its `is_passing` is true. `is_abandoned` says that the
-other side is gone, and a `Doorbell` wakes event loops. Capacities, lengths and positions are in bytes. Moments are in
-milliseconds, by a clock of the caller.
+Calls. A read returns None if no message is there. With a timeout a call waits. A refused call raises an `Error`, and
+its `number` says why. "Raises OTHER_RING" means an Error with the number OTHER_RING. If the ring is full, the Error is
+a `Full`. If another producer was faster, the Error is a `Contended`. In both cases `is_passing` is True, and the same
+call may succeed later. `is_abandoned` returns whether the other side is gone. A `Doorbell` wakes event loops.
+Capacities, lengths and positions are in bytes. Moments are in milliseconds of a clock that the caller chooses.
 
-Layouts. The bodies of a ring are in memory of their own, beside the words of headers and positions. So rings do not
-have the memory layout of Agrona's rings.
+Layouts. The bodies of messages are stored separately from the words of headers and positions. So rings do not have the
+memory layout of Agrona's rings.
 
 Handles. A handle is a producer, a consumer, or another object with calls. Any thread may use a handle, but only one
 call at a time works on it. Handles are context managers, and free what they own at the end. The rules are:
 
-- A handle is not copied or pickled.
-- A handle is not used in a forked child, nor by a signal handler that interrupted a call of the same handle. Such a
-  call raises RuntimeError.
+- A handle must not be copied or pickled.
+- A handle must not be used in a forked child, nor by a signal handler that interrupted a call of the same handle. A
+  call that breaks this rule raises RuntimeError.
 - If two handles of a call belong to different rings, boards, sets of counters or conductors, the call raises
-  OTHER_RING. This module gives each of them a number, from one count. Both the module and the library compare the
-  numbers.
+  OTHER_RING. This module gives each of these structures a number, from one count. Both the module and the library
+  compare the numbers.
 
-The library. It is libfelter.so in the folder that FELTER_DIR names, otherwise in this package, otherwise in the
-repository's c/out, which c/build fills. `implementation` says how calls reach it:
+The library. If FELTER_DIR names a folder, the library is libfelter.so in that folder. Otherwise the library is in this
+package, or in the repository's c/out, which c/build fills. `implementation` says how calls reach the library:
 
-- "extension": through an extension in C beside the library. It keeps the global interpreter lock, since no call waits.
-- "ctypes": if FELTER_PURE is 1. With an ImportWarning also if there is no extension for this Python, or if another copy
-  of this package in the process has the extension, for example in another interpreter.
+- "extension": The calls use an extension in C, which is in the folder of the library. The extension keeps the global
+  interpreter lock, since no call waits.
+- "ctypes": The calls use ctypes if FELTER_PURE is 1. They also use ctypes, with an ImportWarning, if there is no
+  extension for this Python, or if another copy of this package in the process has the extension. Such a copy can be in
+  another interpreter.
 
-Through ctypes, before Python 3.10, a Ctrl-C during a call can leave its handle locked. Later calls of that handle are
-then refused.
+Before Python 3.10, a Ctrl-C during a call through ctypes can leave the handle of this call locked. Later calls of the
+handle are then refused.
 
 The library is proved. This module is tested and not proved.
 """

@@ -1,9 +1,10 @@
-"""The library, and how it is called: by an extension in C if there is one for this Python, and otherwise by ctypes.
+"""Loads the library, and chooses how it is called. Calls go through an extension in C if there is one for this Python,
+and otherwise through ctypes.
 
-The library is libfelter.so, and the extension is a file named _fast beside it. With FELTER_PURE=1 ctypes is used even
-if there is an extension. A second copy of this package in the process, for example in another interpreter, uses ctypes
-too. The extension and `felter._pure` both have `Handle` and `call`, and do the same. `implementation` says which one is
-used.
+The library is libfelter.so, and the extension is a file named _fast beside it. With FELTER_PURE=1 calls go through
+ctypes even if there is an extension. A second copy of this package in the process, for example in another interpreter,
+also uses ctypes. The extension and `felter._pure` both have `Handle` and `call`, and do the same. `implementation` says
+which of them is used.
 """
 
 import ctypes
@@ -27,8 +28,8 @@ TABLE = {
 
 
 def find() -> str:
-    """The path of the library: in the folder that FELTER_DIR names, otherwise in this package, otherwise in this
-    repository's c/out."""
+    """Returns the path of the library. If FELTER_DIR names a folder, the library must be there. Otherwise it is in this
+    package, or in this repository's c/out."""
     here = os.path.dirname(os.path.abspath(__file__))
     folder = os.environ.get("FELTER_DIR")
     folders = [folder] if folder else [here, os.path.normpath(os.path.join(here, "..", "..", "c", "out"))]
@@ -43,7 +44,7 @@ def find() -> str:
 
 
 def load(path: str) -> typing.Any:
-    """Loads the library at a path. The library stays loaded, since it frees the handles that live."""
+    """Loads the library at a path. The library stays loaded, since it frees the handles that still exist."""
     try:
         found = ctypes.CDLL(path)
     except OSError as why:
@@ -55,12 +56,12 @@ def load(path: str) -> typing.Any:
 
 
 def address(function: typing.Any) -> int:
-    """The address of a function of the library."""
+    """Returns the address of a function of the library."""
     return ctypes.cast(function, ctypes.c_void_p).value or 0
 
 
 def is_wanted() -> bool:
-    """Whether the extension is used if it is there."""
+    """Returns whether the extension is used if there is one."""
     return os.environ.get("FELTER_PURE", "0") in ("", "0")
 
 
@@ -83,7 +84,7 @@ def extension(path: str, found: typing.Any) -> typing.Optional[types.ModuleType]
     return None
 
 
-# What the implementation gets together with the library.
+# The objects that the implementation gets together with the library.
 GIVEN = TABLE, refusal, Lapped, Message
 
 library = find()
@@ -109,8 +110,8 @@ Method = typing.TypeVar("Method", bound=typing.Callable[..., typing.Any])
 
 
 def direct(method: Method) -> Method:
-    """Replaces a method by a method of the extension, if the extension is used. That method does the same, without the
-    generic call in between."""
+    """Replaces a method by a method of the extension, if the extension is used. The method of the extension does the
+    same, without the generic call in between."""
     found: Method = method if fast is None else made.method(method.__qualname__, method.__doc__)
     return found
 

@@ -1,4 +1,4 @@
-"""The base of all handles, and the ends of rings and boards."""
+"""The base class of all handles, and the ends of rings and boards."""
 
 import collections
 import itertools
@@ -12,8 +12,8 @@ from felter.waiting import wake
 if typing.TYPE_CHECKING:
     from felter.claims import Trace
 
-# Each ring, board, set of counters and conductor has a number, by which the library distinguishes them too. The header
-# for C counts from 1 on, and the Rust crate from 2^62.
+# Each ring, board, set of counters and conductor has a number. The library distinguishes structures by their numbers
+# too. The header for C counts from 1 on, and the Rust crate from 2^62.
 numbers = itertools.count(1 << 63)
 
 Self = typing.TypeVar("Self", bound="Unique")
@@ -27,7 +27,7 @@ class Sizes(typing.NamedTuple):
 
 
 class Unique:
-    """An object that cannot be copied: two copies would own the same thing."""
+    """An object that cannot be copied, since two copies would own the same thing."""
 
     __slots__ = ()
 
@@ -44,14 +44,15 @@ class Unique:
 class Ends:
     """The ends of a ring or a board, and the traces of its claims.
 
-    The weak references have no callbacks, since a callback in Python would swallow an interrupt that came while it ran.
-    So the references to ends that are gone are dropped when new ends are added."""
+    The ends are kept as weak references. A weak reference could have a callback, which Python calls when the end is
+    gone. Such a callback would swallow an interrupt that came while the callback ran. So there are no callbacks.
+    Instead the references to ends that are gone are dropped when new ends are added."""
 
     def __init__(self) -> None:
         self.writers: "typing.Dict[int, weakref.ref[Owner]]" = {}
         self.readers: "typing.Dict[int, weakref.ref[Owner]]" = {}
-        # These are used with ctypes alone. `traces` has the trace of each claim of the ring. `dropped` has the trace of
-        # each claim that was dropped.
+        # `traces` and `dropped` are used only with ctypes. `traces` has the trace of each claim of the ring. `dropped`
+        # has the trace of each claim that was dropped.
         self.traces: "typing.Dict[int, Trace]" = {}
         self.dropped: "typing.Deque[Trace]" = collections.deque()
         # The locks on which readers sleep.
@@ -71,14 +72,14 @@ class Ends:
             self._most = max(16, 2 * len(its))
 
     def are_gone(self, writers: bool) -> bool:
-        """Whether every end of a side was freed, closed or joined, and so is empty."""
+        """Returns whether every end of a side is empty, because it was freed, closed or joined."""
         others = [it() for it in list((self.writers if writers else self.readers).values())]
         return all(it is None or it._is_empty() for it in others)
 
 
 class Owner(Unique, Handle):
     """A handle that owns an object of the library, and frees it. `number` is the number of its ring, board, counters or
-    conductor. `ends` are the ends of that structure. This end is one of them, and writes or reads."""
+    conductor. `ends` are the ends of that structure. This end is one of `ends`, and either writes or reads."""
 
     def __init__(self, number: int, ends: typing.Optional["Ends"] = None, writes: bool = True) -> None:
         self._ends = ends or Ends()
@@ -89,7 +90,8 @@ class Owner(Unique, Handle):
         self._number = number
 
     def free(self) -> None:
-        """Frees what the handle owns. Afterwards its other calls raise `Closed`. This may be called again."""
+        """Frees what the handle owns. Afterwards the other calls of the handle raise `Closed`. This call may be made
+        again."""
         self._free()
         self._wake()
 
@@ -105,7 +107,7 @@ class Owner(Unique, Handle):
         self.free()
 
     def _is_abandoned(self) -> bool:
-        """Whether every end of the other side was freed, closed or joined, and so is empty."""
+        """Returns whether every end of the other side is empty, because it was freed, closed or joined."""
         return self._ends.are_gone(writers=not self._writes)
 
     def _sizes(self) -> Sizes:

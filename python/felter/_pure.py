@@ -1,6 +1,6 @@
 """Handles and calls of the library through ctypes, for a Python without the extension in C.
 
-A call releases the interpreter's lock, so each handle has a lock of its own.
+A call releases the interpreter's lock, so each handle has a lock.
 """
 
 import ctypes
@@ -12,7 +12,7 @@ import weakref
 
 from felter._codes import Number
 
-# The number of forks between the first process and this one. A call may have been using a handle at the time of a fork,
+# The number of forks between the first process and this one. At the time of a fork a call may have been using a handle,
 # on a thread that the child does not have. So calls with such a handle are refused.
 forks = 0
 
@@ -45,7 +45,7 @@ TYPES: typing.Dict[str, typing.Any] = {
     **{word: ctypes.POINTER(kind) for word, kind in OUTS.items()},
 }
 
-# The range of each number. ctypes alone would cut off larger numbers.
+# The range of each number. ctypes alone would cut off digits of larger numbers.
 RANGES = {
     "i32": (-(2**31), 2**31),
     "u32": (0, 2**32),
@@ -54,7 +54,7 @@ RANGES = {
     "usize": (0, 2**64),
 }
 
-# The calls whose last number says how often a receiver was lapped, each with the calls that say more about the lap.
+# The calls whose last number is how often a receiver was lapped. Each has the calls that return how it was lapped.
 LAPPING: typing.Dict[str, typing.Tuple[str, ...]] = {
     "felter_receive": ("felter_receiver_lap", "felter_receiver_place"),
     "felter_receive_next": ("felter_raw_receiver_lap", "felter_raw_receiver_place"),
@@ -81,7 +81,7 @@ def open(
 
 
 def forked() -> None:
-    """This is called in a forked child. Calls with the parent's handles are refused there."""
+    """This function is called in a forked child. Calls with the parent's handles are refused there."""
     global forks
     forks += 1
     # (a forked child owns nothing)
@@ -93,11 +93,12 @@ def call(name: str, *given: typing.Any) -> typing.Any:
     return functions[name].ask(given)
 
 
-# How a call takes its parameters from Python. Each of these functions returns parameters for ctypes.
+# Functions that say how a call takes its parameters from Python. Each of these functions returns parameters for ctypes.
 
 
 def take_bytes(given: typing.Any) -> typing.Tuple[typing.Any, ...]:
-    """The bytes of an object, by its buffer, and their number. The object's own `__len__` is not used."""
+    """Returns the bytes of an object's buffer, and their number. The object's own `__len__` is not
+    used."""
     if type(given) is bytes:
         return given, len(given)
     try:
@@ -114,14 +115,14 @@ def take_handle(given: typing.Any) -> typing.Tuple[typing.Any, ...]:
 
 
 def shown(number: int) -> str:
-    """A number as text. (Python refuses to write a very long number.)"""
+    """Returns a number as text. (Python refuses to write a very long number.)"""
     bits = number.bit_length()
     return str(number) if bits <= 256 else "a number of %d bits" % bits
 
 
 def taker(low: int, end: int) -> typing.Callable[[typing.Any], typing.Tuple[typing.Any, ...]]:
-    """Returns a function that takes a number from `low` to `end` - 1. Numbers are tested here and not by ctypes, in
-    which an interrupt would become another exception."""
+    """Returns a function that takes a number from `low` to `end` - 1. Numbers are tested here and not by ctypes. In
+    ctypes an interrupt would become another exception."""
 
     def take(given: typing.Any, index: typing.Callable[[typing.Any], int] = operator.index) -> typing.Tuple[int]:
         number = index(given)
@@ -136,27 +137,29 @@ TAKES = {"bytes": take_bytes, "*handle": take_handle, **{word: taker(*its) for w
 
 
 class Function:
-    """A function of the library. It takes values, then writes other values, and last may fill a buffer with bytes."""
+    """A function of the library. A function takes values, then writes other values, and last may fill a buffer with
+    bytes."""
 
     def __init__(self, name: str, function: typing.Any, words: typing.List[str]) -> None:
         function.argtypes = [TYPES[it] for it in words]
         function.restype = None if name == "felter_free" else ctypes.c_int32
         self.call, self.lap = function, LAPPING.get(name)
-        # (the length of bytes or of a buffer follows it as a parameter of its own)
+        # (the length of bytes or of a buffer follows it as another parameter)
         words = [it for before, it in zip(["", *words], words) if before not in ("bytes", "*u8")]
         self.takes = [TAKES[it] for it in words if it in TAKES]
         self.handles = [i for i, it in enumerate(words) if it == "*handle"]
         self.outs = [OUTS[it] for it in words if it in OUTS]
         self.has_room = "*u8" in words
         self.given = len(self.takes) + self.has_room
-        # The position of the number of bytes that were put into the buffer, and of the number of laps.
+        # The position of the number of bytes that were put into the buffer, and of the number of times that the
+        # receiver was lapped.
         has_length = self.has_room and ctypes.c_size_t in self.outs
         self.length = self.outs.index(ctypes.c_size_t) if has_length else None
         lapped = len(self.outs) - 1 if name in LAPPING else None
         self.found = [i for i in range(len(self.outs)) if i not in (self.length, lapped)]
 
     def ask(self, given: typing.Sequence[typing.Any], is_trying: bool = False) -> typing.Any:
-        """Makes the call, and returns what it wrote, or raises its refusal."""
+        """Makes the call, and returns what the call wrote, or raises the exception of its refusal."""
         parameters, outs = self.take(given)
         handles = [given[i] for i in self.handles]
         for it in handles:
@@ -189,7 +192,7 @@ class Function:
         raise self.refused(code, parameters, outs)
 
     def take(self, given: typing.Sequence[typing.Any]) -> typing.Tuple[typing.Any, typing.Any]:
-        """The parameters for ctypes, and those of them that the call writes."""
+        """Returns the parameters for ctypes, and those parameters that the call writes."""
         outs = [it() for it in self.outs]
         if len(given) == self.given + 1 and outs and type(given[-1]) is Cell:
             outs[-1] = given[-1]
@@ -217,7 +220,7 @@ class Function:
         return code, room
 
     def refused(self, code: int, parameters: typing.Any, outs: typing.Any) -> Exception:
-        """The exception of a code."""
+        """Returns the exception for a code."""
         if code != Number.LAPPED or self.lap is None:
             refusal: Exception = makes["refusal"](code)
             return refusal
@@ -239,13 +242,14 @@ else:
 
 class Freeing(Reference):
     """Frees what a handle owns when the handle is gone. The callback of this weak reference is a function of the
-    library. Its parameter is the reference itself, which ctypes replaces by the handle. So no code of Python runs: an
-    interrupt would be swallowed in it."""
+    library. Its parameter is the reference itself, which ctypes replaces by the handle. So no code of Python runs. An
+    interrupt would be swallowed in such code."""
 
     _as_parameter_: typing.Any = None
 
 
-# The references to all handles, and to some that are gone. Those are dropped when new handles are made.
+# The references to all handles, and to some handles that are gone. References to handles that are gone are dropped when
+# new handles are made.
 freeings: typing.Dict[int, Freeing] = {}
 most_freeings = 256
 
@@ -280,15 +284,15 @@ class Handle:
         return self
 
     def _check(self) -> None:
-        """Refuses calls that would wait for ever: by a signal handler that interrupted a call of the handle, and in a
-        forked child."""
+        """Refuses calls that would wait for ever. Such a call comes from a signal handler that interrupted a call of
+        the handle, or from a forked child."""
         if self._lock._is_owned():
             raise RuntimeError("a call of this handle was interrupted, and cannot be made inside of itself")
         if self._is_forked():
             raise RuntimeError("the handle belongs to the process that forked this one")
 
     def _do(self, name: str, *given: typing.Any) -> typing.Any:
-        """Calls, and returns what was put out, or raises what was refused."""
+        """Makes a call, and returns what the call wrote, or raises the exception of its refusal."""
         return functions[name].ask((self, *given))
 
     def _try(self, name: str, *given: typing.Any) -> typing.Any:
@@ -329,9 +333,9 @@ class Handle:
                 self._was_emptied = self._raw.at is None
 
     def _is_empty(self) -> bool:
-        """Whether the handle owned nothing when its last call ended. During a call this is not known."""
+        """Returns whether the handle owned nothing when its last call ended. This is not known during a call."""
         return self._was_emptied
 
     def _is_forked(self) -> bool:
-        """Whether the handle belongs to the process that forked this one."""
+        """Returns whether the handle belongs to the process that forked this one."""
         return self._forks != forks

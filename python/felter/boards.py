@@ -1,4 +1,4 @@
-"""Boards, which are broadcast buffers: a transmitter never waits, and a receiver learns what it missed."""
+"""Boards, which are broadcast buffers. A transmitter never waits, and a receiver learns what it missed."""
 
 import typing
 
@@ -10,7 +10,7 @@ from felter.waiting import wait_as_task, wait_for
 
 
 class Lap(typing.NamedTuple):
-    """The place of a receiver when it was lapped, and the intent that showed the lap. The intent is the position up to
+    """The place of a receiver when it was lapped, and the intent that showed this. The intent is the position up to
     which the transmitter had begun to write."""
 
     place: int
@@ -18,20 +18,20 @@ class Lap(typing.NamedTuple):
 
 
 class Transmitter(Owner):
-    """Transmits on a board, which it makes with a capacity, a power of two from 256 to 2^24. A transmitter never waits.
-    A receiver that is too slow is overtaken, and learns that."""
+    """Transmits messages on a board. The transmitter makes the board with a capacity, which is a power of two from 256
+    to 2^24. A transmitter never waits. A receiver that is too slow is overtaken, and learns this from `Lapped`."""
 
     def __init__(self, capacity: int, start: int = 0) -> None:
         super().__init__(next(numbers))
         call("felter_board_new_at_numbered", self._number, capacity, start, self)
 
     def sizes(self) -> Sizes:
-        """The capacity, and the length of the longest message, in bytes."""
+        """Returns the capacity, and the length of the longest message, in bytes."""
         return self._sizes()
 
     @direct
     def transmit(self, type_id: int, body: Buffer) -> None:
-        """Transmits a message. The body is any object with bytes."""
+        """Transmits a message. The body is any object that has a buffer of bytes."""
         self._do("felter_transmit", type_id, body)
         self._wake()
 
@@ -44,7 +44,8 @@ class Transmitter(Owner):
         return receiver
 
     def subscribe_raw(self) -> "RawReceiver":
-        """Makes a raw receiver, which returns each record without its body. The rest is as for `subscribe`."""
+        """Makes a raw receiver, which returns each record without its body. Otherwise the call is the same as
+        `subscribe`."""
         receiver = RawReceiver(self._number, self._ends, writes=False)
         self._do("felter_subscribe_raw", receiver)
         return receiver
@@ -59,8 +60,8 @@ class Transmitter(Owner):
 
     def close(self) -> int:
         """Ends a board whose receivers were all taken back or freed, and frees the transmitter. Returns the position at
-        which the last transmission ended. The call raises RECEIVERS_OUT while a receiver is there. Then the transmitter
-        is as before."""
+        which the last transmission ended. The call raises RECEIVERS_OUT while a receiver exists. In this case
+        the transmitter is unchanged."""
         return self._do("felter_board_close")
 
 
@@ -68,29 +69,29 @@ class Receiver(Owner):
     """Receives the messages that are transmitted on a board."""
 
     def sizes(self) -> Sizes:
-        """The capacity, and the length of the longest message, in bytes."""
+        """Returns the capacity, and the length of the longest message, in bytes."""
         return self._sizes()
 
     def place(self) -> int:
-        """The position, in bytes, at which the next call looks for a message."""
+        """Returns the position, in bytes, at which the next call looks for a message."""
         return self._do("felter_receiver_place")
 
     def lap(self) -> typing.Optional[Lap]:
-        """How the receiver was lapped last, or None if it never was."""
+        """Returns the positions at which the receiver was lapped last, or None if it never was."""
         found = self._try("felter_receiver_lap")
         return found and Lap(*found)
 
     def is_abandoned(self) -> bool:
-        """Whether the transmitter, or the conductor that transmits, was freed or ended. Then nothing more will come,
-        but what was transmitted before can still be received."""
+        """Returns whether the transmitter, or the conductor that transmits, was freed or ended. No further message will
+        then come, but earlier messages can still be received."""
         return self._is_abandoned()
 
     @direct
     def receive(self, timeout: typing.Optional[float] = 0) -> typing.Optional[Message]:
         """Receives the next message. Returns None if no message came within `timeout` seconds. With the timeout 0 the
-        call does not wait, and with None it waits for ever. It raises Lapped if the transmitter overtook the receiver.
-        The next call then goes on with the message that was transmitted last. A call that waits raises Disconnected if
-        the transmitter is gone and all messages were received."""
+        call does not wait. With None it waits for ever. The call raises Lapped if the transmitter overtook the
+        receiver. The next call then goes on with the message that was transmitted last. A call that waits raises
+        Disconnected if the transmitter is gone and all messages were received."""
         return self._receive() if timeout == 0 else self._next_within(timeout)
 
     def _next_within(self, timeout: typing.Optional[float]) -> typing.Optional[Message]:
@@ -110,12 +111,12 @@ class Receiver(Owner):
         return iter(self._receive, None)
 
     def lapped_count(self) -> int:
-        """How often the receiver was lapped."""
+        """Returns how often the receiver was lapped."""
         return self._do("felter_lapped_count")
 
 
 class RawRecord(typing.NamedTuple):
-    """What a raw receiver returns of a record, whose body is not yet copied."""
+    """A record that a raw receiver passed, and whose body is not yet copied."""
 
     type_id: int
     length: int
@@ -125,36 +126,38 @@ class RawReceiver(Owner):
     """Receives records that are transmitted on a board, without their bodies."""
 
     def sizes(self) -> Sizes:
-        """The capacity, and the length of the longest message, in bytes."""
+        """Returns the capacity, and the length of the longest message, in bytes."""
         return self._sizes()
 
     def place(self) -> int:
-        """The position, in bytes, at which the next call looks for a message."""
+        """Returns the position, in bytes, at which the next call looks for a message."""
         return self._do("felter_raw_receiver_place")
 
     def lap(self) -> typing.Optional[Lap]:
-        """How the receiver was lapped last, or None if it never was."""
+        """Returns the positions at which the receiver was lapped last, or None if it never was."""
         found = self._try("felter_raw_receiver_lap")
         return found and Lap(*found)
 
     def is_abandoned(self) -> bool:
-        """Whether the transmitter was freed or closed. Then nothing more will come."""
+        """Returns whether the transmitter was freed or closed. No further record will then come."""
         return self._is_abandoned()
 
     def receive_next(self) -> typing.Optional[RawRecord]:
         """Passes the next record, and returns its type id and the length of its body. Returns None if no record is
-        there. Raises Lapped as Receiver.receive does."""
+        there. The call raises Lapped as Receiver.receive does."""
         found = self._try("felter_receive_next")
         return found and RawRecord(*found)
 
     def load_body(self, length: int) -> bytes:
-        """Copies the body of the record that was returned last. `length` is the length in that record. The bytes are
-        certain to be those of this record only if `validate` then returns True."""
+        """Copies the body of the record that was returned last. `length` is the length of the body, which
+        `receive_next` returned. The bytes are certain to be those of this record only if `validate` then returns
+        True."""
         return self._do("felter_load_body", length)
 
     def validate(self) -> bool:
-        """Tests that the record which was returned last is not yet overwritten. If the result is True, each copy of its
-        body that was made before is the body that was transmitted."""
+        """Returns True if the record that was returned last was not overwritten, and False if it may have been
+        overwritten. If the result is True, each copy of the body that was made before is the body that was
+        transmitted."""
         try:
             self._do("felter_validate")
         except Error as refused:
@@ -164,5 +167,5 @@ class RawReceiver(Owner):
         return True
 
     def lapped_count(self) -> int:
-        """How often `receive_next` raised Lapped."""
+        """Returns how often `receive_next` raised Lapped."""
         return self._do("felter_raw_lapped_count")

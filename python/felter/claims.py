@@ -1,8 +1,8 @@
 """Claims of a producer.
 
-The extension in C has claims of its own, which abort themselves when they are dropped. The claims for ctypes are in
-this file. When such a claim is dropped no code of Python runs, since an interrupt in it would be swallowed. Instead a
-weak reference appends the trace of the claim to a queue, and the next call of the ring aborts the claim.
+The extension in C has other claims, which abort themselves when they are dropped. The claims for ctypes are in this
+file. These claims have no method __del__, because Python swallows an interrupt that comes during such a method. Instead
+a weak reference appends the trace of a dropped claim to a queue, and the next call of the ring aborts the claim.
 """
 
 import contextlib
@@ -24,25 +24,27 @@ if typing.TYPE_CHECKING:
 else:
     from weakref import ref as Reference
 
-# The number for a claim that was not made yet. No claim has this number, since places are at most 2^62.
+# The number of a claim that was not made yet. No claim has this number, since positions are at most 2^62.
 NONE = 2**64 - 1
 
 
 class Trace(Reference):
-    """The trace of a claim, which stays when the claim is dropped."""
+    """The trace of a claim, which stays after the claim was dropped."""
 
-    # (if an interrupt left the trace like this, nothing was claimed)
+    # (if an interrupt left the trace in this state, nothing was claimed)
     producer: "typing.Optional[Producer]" = None
     number = Cell(NONE)
 
     def owner(self) -> "typing.Optional[Producer]":
-        """The producer of the claim, or the producer to which that one was joined. None if the claim was settled."""
+        """Returns the producer of the claim, or the producer to which this producer was joined. Returns None if the
+        claim was settled."""
         while self.producer is not None and self.producer._joined is not None:
             self.producer = self.producer._joined
         return self.producer
 
     def is_over(self) -> bool:
-        """Whether there is nothing to abort: the claim was settled or never made, or its producer was freed."""
+        """Returns whether there is nothing to abort. This is so if the claim was settled or never made, or its producer
+        was freed."""
         producer = self.owner()
         return producer is None or self.number.value == NONE or producer._is_empty() or producer._is_forked()
 
@@ -54,13 +56,13 @@ class Trace(Reference):
 
 
 class Claim(Unique):
-    """Room in a ring for one message. As a context manager a claim is committed at the end, and aborted by an
-    exception. A claim that is dropped is aborted, at the latest by the next call of the ring. A settled claim no longer
+    """Room in a ring for one message. As a context manager, a claim is committed at the end, or aborted after an
+    exception. A claim that is dropped is aborted by the next call of the ring, or earlier. A settled claim no longer
     keeps its producer."""
 
     def __init__(self, producer: "Producer") -> None:
-        # The trace is there before the claim is made. So the trace is left if an interrupt comes right after the call,
-        # and no caller gets the claim.
+        # The trace exists before the claim is made. So the trace is left even if an interrupt comes right after the
+        # call, and no caller gets the claim.
         ends = producer._ends
         trace = Trace(self, ends.dropped.append)
         trace.producer, trace.number = producer, Cell(NONE)
@@ -99,7 +101,7 @@ class Claim(Unique):
 if fast is not None and not typing.TYPE_CHECKING:
 
     class Claim(Unique, fast.Claim):
-        """Room in a ring for one message. As a context manager a claim is committed at the end, and aborted by an
+        """Room in a ring for one message. As a context manager, a claim is committed at the end, or aborted after an
         exception. A claim that is dropped is aborted. A settled claim no longer keeps its producer."""
 
         __slots__ = ("__weakref__",)
@@ -119,7 +121,7 @@ def settle_dropped(ends: Ends) -> None:
 
 
 class Settling(Owner):
-    """An end of a ring. If ctypes is used, its calls first abort the claims that were dropped."""
+    """An end of a ring. If ctypes is used, the calls of the end first abort the claims that were dropped."""
 
     if fast is None:
 

@@ -13,33 +13,35 @@ from felter.errors import Contended, Disconnected, Error, Full, Lapped, Number
 from felter.message import Buffer
 from felter.waiting import wait_for
 
-# An id that no counter has, and how often a client that was lapped looks for its reply before it sends another command.
+# An id that no counter has, and the number of times that a lapped client looks for its reply before it sends another
+# command.
 NO_COUNTER = 2**32 - 1
 LOOKS = 16
 
 
 class WorkStop(enum.IntEnum):
-    """Why a call of `Conductor.work` stopped, by the numbers of felter.h."""
+    """The reasons why a call of `Conductor.work` stops, by the numbers of felter.h."""
 
     # The limit was reached.
     LIMIT = 0
-    # The end of the ring's buffer was reached: the next call goes on after it.
+    # The end of the ring's buffer was reached. The next call goes on after it.
     BLOCK = 1
     # No further command was there.
     UNPUBLISHED = 2
-    # A reply might end above 2^62 on the board: the command stays, and is not applied.
+    # A reply might end above 2^62 on the board. The command stays in the ring, and is not applied.
     BOARD_END = 3
 
 
 class Work(typing.NamedTuple):
-    """How many commands a call of `Conductor.work` took, which may be 0, and why it stopped."""
+    """The number of commands that a call of `Conductor.work` took (possibly 0), and the reason why the call stopped."""
 
     messages: int
     stopped: WorkStop
 
 
 class Finished(typing.NamedTuple):
-    """How many commands a conductor received in all, and how many were still in the ring. Those get no reply."""
+    """The number of commands that a conductor received in all, and the number of commands that were still in the ring.
+    The commands that were still in the ring get no reply."""
 
     received: int
     left: int
@@ -48,13 +50,13 @@ class Finished(typing.NamedTuple):
 class ReplyKind(enum.IntEnum):
     """The kinds of replies, which are the type ids of their messages on the board."""
 
-    # A counter was allocated; the number is its id.
+    # A counter was allocated. The number is its id.
     ALLOCATED = 101
-    # The counter was freed or set; the number is 0.
+    # The counter was freed or set. The number is 0.
     DONE = 102
-    # Nothing was done; the number says why (Number).
+    # Nothing was done. The number says why (Number).
     REFUSED = 103
-    # The owner's counters were freed; the number says how many they were.
+    # The owner's counters were freed. The number says how many counters they were.
     CLOSED = 104
 
 
@@ -66,7 +68,7 @@ class Reply(typing.NamedTuple):
 
 
 class Outcome(enum.Enum):
-    """What is known of a command whose reply did not come."""
+    """The states of a command whose reply did not come."""
 
     PENDING = "no reply came in time, and the command may still be applied"
     TAKEN = "the command was applied or refused, and which of them is lost: replies were overtaken"
@@ -74,7 +76,8 @@ class Outcome(enum.Enum):
 
 
 class Unanswered(Exception):
-    """A request ended without its reply. `outcome` says what is known of the command, and `correlation` is its id."""
+    """A request ended without its reply. `outcome` says what is known of the command, and `correlation` is the id of
+    the command."""
 
     def __init__(self, outcome: Outcome, correlation: int) -> None:
         super().__init__("command %d: %s" % (correlation, outcome.value))
@@ -86,19 +89,19 @@ class Unanswered(Exception):
 
 
 class Conductor(Owner):
-    """Owns counters with the ids below `counters`. A freed id is not given again for `reuse_ms` milliseconds. The
-    conductor takes the commands of its clients from a ring of `capacity` bytes, and transmits one reply to each on a
-    board of `replies` bytes.
+    """Owns counters with the ids below `counters`. A freed id is not allocated again for `reuse_ms` milliseconds. The
+    conductor takes the commands of its clients from a ring of `capacity` bytes. It transmits one reply to each command
+    on a board of `replies` bytes.
 
-    The share of a client or a receiver that is freed is lost, and the conductor can finish without it."""
+    If a client or a receiver is freed, its shares are lost, and the conductor can finish without it."""
 
     def __init__(self, capacity: int, replies: int, counters: int, reuse_ms: int = 0) -> None:
         super().__init__(next(numbers))
         call("felter_conductor_new_numbered", self._number, capacity, replies, counters, reuse_ms, self)
 
     def client(self) -> "Client":
-        """Makes a client, which starts with the reply that was transmitted last. The client gets one share of the ring
-        and one of the board, which have 65,536 each."""
+        """Makes a client, which starts with the reply that was transmitted last. The ring and the board have 65,536
+        shares each, and the client gets one share of each."""
         client = Client(self._number, self._ends, writes=False)
         self._do("felter_conductor_client", client)
         return client
@@ -125,7 +128,7 @@ class Conductor(Owner):
         return Work(messages, WorkStop(stopped))
 
     def find(self, type_id: int, registration: int) -> typing.Optional[int]:
-        """The lowest id in use with this type id and registration id, or None."""
+        """Returns the lowest id in use with this type id and registration id, or None."""
         try:
             return self._do("felter_conductor_find", type_id, registration)
         except Error as refused:
@@ -134,40 +137,41 @@ class Conductor(Owner):
             return None
 
     def count(self) -> int:
-        """The number of ids, in use or not."""
+        """Returns the number of ids, whether they are in use or not."""
         return self._do("felter_conductor_count")
 
     def value(self, counter: int) -> int:
-        """A counter's value."""
+        """Returns a counter's value."""
         return self._do("felter_conductor_value", counter)
 
     def type_id(self, counter: int) -> int:
-        """A counter's type id."""
+        """Returns a counter's type id."""
         return self._do("felter_conductor_type_id", counter)
 
     def registration(self, counter: int) -> int:
-        """A counter's registration id."""
+        """Returns a counter's registration id."""
         return self._do("felter_conductor_registration", counter)
 
     def owner(self, counter: int) -> int:
-        """A counter's owner, 0 if it has none."""
+        """Returns a counter's owner, or 0 if the counter has no owner."""
         return self._do("felter_conductor_owner", counter)
 
     def state(self, counter: int) -> int:
-        """The state of an id: 0 if it was never used, 1 if its counter is in use, -1 if its counter was freed."""
+        """Returns the state of an id. The state is 0 if the id was never used, 1 if its counter is in use, and -1 if
+        its counter was freed."""
         return self._do("felter_conductor_state", counter)
 
     def deadline(self, counter: int) -> int:
-        """The moment from which an id may be allocated again: 0 if it was never used, 2^63 - 1 if its counter is in
-        use."""
+        """Returns the moment from which an id may be allocated again. This moment is 0 if the id was never used, and
+        2^63 - 1 if its counter is in use."""
         return self._do("felter_conductor_deadline", counter)
 
     def label(self, counter: int) -> bytes:
-        """A counter's label."""
+        """Returns a counter's label."""
         return self._do("felter_conductor_label", counter, 380)
 
     def key(self, counter: int) -> bytes:
-        """A counter's key, which is filled up to 112 bytes with zeros."""
+        """Returns a counter's key, which is filled up to 112 bytes with zeros."""
         return self._do("felter_conductor_key", counter, 112)
 
     def set_heartbeat(self, value: int) -> None:
@@ -187,9 +191,14 @@ class Conductor(Owner):
         self._with("felter_conductor_join_reader", reader)
 
     def finish(self) -> Finished:
-        """Ends a conductor whose clients, receivers and readers were all taken back or freed. While one of them is
-        there the call raises PRODUCERS_OUT if a client was not taken back, then RECEIVERS_OUT if a receiver was not,
-        and otherwise IN_USE. Then the conductor is as before."""
+        """Ends a conductor whose clients, receivers and readers were all taken back or freed. While a client, a
+        receiver or a reader exists, the call raises an Error, and leaves the conductor as it was. The number of the
+        Error is the first of these that applies:
+
+        - PRODUCERS_OUT if a client was not taken back;
+        - RECEIVERS_OUT if a receiver was not taken back;
+        - IN_USE otherwise.
+        """
         return Finished(*self._do("felter_conductor_finish"))
 
 
@@ -198,8 +207,9 @@ class Client(Owner):
     correlation id that was drawn for the command. `poll` asks for the reply."""
 
     def allocate(self, type_id: int, key: Buffer = b"", label: Buffer = b"", owner: int = 0) -> int:
-        """Asks for a counter with the value 0. Its registration id is the correlation id. The owner 0 means that there
-        is none. The command takes 20 bytes plus those of key and label, and 8 bytes more with an owner."""
+        """Asks for a counter with the value 0. The registration id of the counter is the correlation id of the command.
+        The owner 0 means that the counter has no owner. The command takes 20 bytes, plus the bytes of the key and the
+        label. With an owner it takes 8 bytes more."""
         if owner == 0:
             return self._do("felter_send_allocate", type_id, key, label)
         return self._do("felter_send_allocate_owned", type_id, owner, key, label)
@@ -217,7 +227,7 @@ class Client(Owner):
         return self._do("felter_send_close_owner", owner)
 
     def is_abandoned(self) -> bool:
-        """Whether the conductor was freed, or has finished. Then no further reply will come."""
+        """Returns whether the conductor was freed, or has finished. No further reply will then come."""
         return self._is_abandoned()
 
     def poll(self, correlation: int) -> typing.Optional[Reply]:
@@ -225,8 +235,8 @@ class Client(Owner):
         over replies to other commands. So ask for the replies of one client in the order in which its commands were
         sent.
 
-        Raises Lapped if the conductor overtook the client. The next call goes on with the reply that was transmitted
-        last. The client does not learn what became of the commands that had no reply yet."""
+        The call raises Lapped if the conductor overtook the client. The next call goes on with the reply that was
+        transmitted last. The client does not learn the results of the commands that had no reply yet."""
         while True:
             try:
                 found = self._try("felter_poll", correlation)
@@ -239,16 +249,16 @@ class Client(Owner):
     def request(
         self, send: typing.Callable[..., int], *parameters: typing.Any, timeout: typing.Optional[float] = None
     ) -> Reply:
-        """Sends a command, and waits for its reply, for `timeout` seconds, or for ever if that is None:
-        `client.request(client.set, 3, 7, timeout=1)`. The call sends again while the ring is full or another client is
-        faster. It passes over replies to other commands, so a client has one request at a time.
+        """Sends a command, and waits for its reply for `timeout` seconds: `client.request(client.set, 3, 7,
+        timeout=1)`. If `timeout` is None, waits for ever. The call sends again while the ring is full or another client
+        is faster. The call passes over the replies to other commands. So a client has only one request at a time.
 
-        If the conductor overtakes the client, the reply may be lost. Then the call soon sends a command that changes
-        nothing: to free an id that no counter has. Replies to one client come in the order of its commands, so the
-        reply to the second command shows that the conductor took the first one before.
+        If the conductor overtakes the client, the reply may be lost. Then the call soon sends a second command, which
+        frees an id that no counter has, and so changes nothing. Replies to one client come in the order of its
+        commands. So the reply to the second command shows that the conductor took the first one before.
 
-        Raises Full or Contended if the command was not sent in time, Unanswered if no reply came, and Disconnected if
-        the conductor is gone."""
+        The call raises Full or Contended if the command was not sent in time. It raises Unanswered if no reply came,
+        and Disconnected if the conductor is gone."""
         end = None if timeout is None else time.monotonic() + timeout
         correlation = self._sent(lambda: send(*parameters), timeout)
         return self._reply_to(correlation, end)

@@ -1,4 +1,4 @@
-"""Controlled reads: the caller decides after each message how the read goes on."""
+"""Controlled reads. After each message the caller decides how the read goes on."""
 
 import enum
 import typing
@@ -10,12 +10,12 @@ from felter.message import Message
 
 
 class Action(enum.Enum):
-    """What a controlled read does after a message was shown."""
+    """The ways in which a controlled read goes on after a message was shown."""
 
     ABORT = "stops, and the message stays in the ring"
     BREAK = "takes the message, and stops"
     COMMIT = "takes the message, and goes on"
-    # The producers get the room of each message as soon as it was taken, so this does the same as COMMIT.
+    # CONTINUE does the same as COMMIT, since the producers get the room of each message as soon as it was taken.
     CONTINUE = "takes the message, and goes on with the next"
 
 
@@ -41,9 +41,9 @@ class Controlled(Settling):
     def controlled_read(
         self, show: typing.Callable[[Message], Action], limit: typing.Optional[int] = None
     ) -> int:
-        """Calls `show` with one message after another, with at most `limit` of them unless that is None. The Action
-        that `show` returns says what happens to the message. Returns how many messages were taken. If `show` raises,
-        its message stays in the ring."""
+        """Calls `show` with one message after another. If `limit` is not None, `show` is called with at most `limit`
+        messages. The Action that `show` returns says whether the message is taken, and whether the read goes on.
+        Returns how many messages were taken. If `show` raises, its message stays in the ring."""
         taken = 0
         while limit is None or taken < limit:
             message = self.peek()

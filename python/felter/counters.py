@@ -10,7 +10,7 @@ from felter.message import Buffer
 
 
 class Counters(Owner):
-    """Counters with the ids below `count`. A freed id is not given again for `reuse_ms` milliseconds."""
+    """Counters with the ids below `count`. A freed id is not allocated again for `reuse_ms` milliseconds."""
 
     def __init__(self, count: int, reuse_ms: int = 0) -> None:
         super().__init__(next(numbers))
@@ -25,8 +25,8 @@ class Counters(Owner):
         registration: int = 0,
         owner: int = 0,
     ) -> int:
-        """Allocates a counter with the value 0 at the moment `now`, and returns its id. The owner 0 means that there is
-        none."""
+        """Allocates a counter with the value 0 at the moment `now`, and returns its id. The owner 0 means that the
+        counter has no owner."""
         return self._do("felter_counter_allocate_owned", now, type_id, key, label, registration, owner)
 
     def release(self, now: int, counter: int) -> None:
@@ -38,64 +38,66 @@ class Counters(Owner):
         self._do("felter_counter_set", counter, value)
 
     def add(self, counter: int, delta: int) -> int:
-        """Adds to a counter's value, which wraps, and returns the value before the addition."""
+        """Adds `delta` to a counter's value, and returns the value before the addition. A sum that does not fit in 64
+        bits wraps."""
         return self._do("felter_counter_add", counter, delta)
 
     def increment(self, counter: int) -> int:
-        """Adds 1 to a counter's value, which wraps, and returns the value before."""
+        """Adds 1 to a counter's value, and returns the value before the addition. The sum wraps."""
         return self._do("felter_counter_increment", counter)
 
     def decrement(self, counter: int) -> int:
-        """Subtracts 1 from a counter's value, which wraps, and returns the value before."""
+        """Subtracts 1 from a counter's value, and returns the value before the subtraction. The difference wraps."""
         return self._do("felter_counter_decrement", counter)
 
     def get_and_set(self, counter: int, value: int) -> int:
-        """Sets a counter's value, and returns the value before."""
+        """Sets a counter's value, and returns the value that it had before."""
         return self._do("felter_counter_get_and_set", counter, value)
 
     def value(self, counter: int) -> int:
-        """A counter's value."""
+        """Returns a counter's value."""
         return self._do("felter_counter_value", counter)
 
     def type_id(self, counter: int) -> int:
-        """A counter's type id."""
+        """Returns a counter's type id."""
         return self._do("felter_counter_type_id", counter)
 
     def registration(self, counter: int) -> int:
-        """A counter's registration id."""
+        """Returns a counter's registration id."""
         return self._do("felter_counter_registration", counter)
 
     def owner(self, counter: int) -> int:
-        """A counter's owner, 0 if it has none."""
+        """Returns a counter's owner, or 0 if the counter has no owner."""
         return self._do("felter_counter_owner", counter)
 
     def label(self, counter: int) -> bytes:
-        """A counter's label."""
+        """Returns a counter's label."""
         return self._do("felter_counter_label", counter, 380)
 
     def key(self, counter: int) -> bytes:
-        """A counter's key, which is filled up to 112 bytes with zeros."""
+        """Returns a counter's key, which is filled up to 112 bytes with zeros."""
         return self._do("felter_counter_key", counter, 112)
 
     def propose_max(self, counter: int, value: int) -> bool:
-        """Raises a counter's value to `value` if the counter is below it. Returns whether that was so."""
+        """Raises a counter's value to `value` if it was less. Returns whether the value was raised."""
         return self._do("felter_counter_propose_max", counter, value) == 1
 
     def compare_and_set(self, counter: int, expected: int, value: int) -> bool:
-        """Sets a counter's value to `value` if it is `expected`. Returns whether that was so."""
+        """Sets a counter's value to `value` if it is `expected`. Returns whether the value was set."""
         return self._do("felter_counter_compare_and_set", counter, expected, value) == 1
 
     def state(self, counter: int) -> int:
-        """The state of an id: 0 if it was never used, 1 if its counter is in use, -1 if its counter was freed."""
+        """Returns the state of an id. The state is 0 if the id was never used, 1 if its counter is in use, and -1 if
+        its counter was freed."""
         return self._do("felter_counter_state", counter)
 
     def deadline(self, counter: int) -> int:
-        """The moment from which an id may be allocated again: 0 if it was never used, 2^63 - 1 if its counter is in
-        use."""
+        """Returns the moment from which an id may be allocated again. This moment is 0 if the id was never used, and
+        2^63 - 1 if its counter is in use."""
         return self._do("felter_counter_deadline", counter)
 
     def find(self, type_id: int, registration: int) -> typing.Optional[int]:
-        """The lowest id in use with this type id and registration id, or None."""
+        """Returns the lowest id in use with this type id and registration id, or None."""
         try:
             return self._do("felter_counter_find", type_id, registration)
         except Error as refused:
@@ -104,31 +106,32 @@ class Counters(Owner):
             return None
 
     def count(self) -> int:
-        """The number of ids, in use or not."""
+        """Returns the number of ids, whether they are in use or not."""
         return self._do("felter_counters_count")
 
     def available(self, now: int) -> int:
-        """The number of counters that can be allocated at the moment `now`. A freed id counts from its deadline on."""
+        """Returns the number of counters that can be allocated at the moment `now`. A freed id is counted from its
+        deadline on."""
         return self._do("felter_counters_available", now)
 
     def __len__(self) -> int:
-        """The number of ids, in use or not."""
+        """Returns the number of ids, whether they are in use or not."""
         return self.count()
 
     def __iter__(self) -> typing.Iterator[int]:
-        """The ids in use, in rising order."""
+        """Yields the ids in use, in rising order."""
         for counter in range(len(self)):
             with contextlib.suppress(Error):
                 self.type_id(counter)
                 yield counter
 
     def close_owner(self, now: int, owner: int) -> int:
-        """Frees each counter of an owner at the moment `now`, and returns how many there were."""
+        """Frees each counter of an owner at the moment `now`, and returns how many counters were freed."""
         return self._do("felter_counters_close_owner", now, owner)
 
     def reader(self) -> "Reader":
-        """Makes a reader of the values, for another thread. The reader gets one of the counters' 65,536 shares. If the
-        reader is freed, this share is lost."""
+        """Makes a reader of the counters' values, for another thread. The reader gets one of the counters' 65,536
+        shares. If the reader is freed, this share is lost."""
         reader = Reader(self._number)
         self._do("felter_counters_reader", reader)
         return reader
@@ -142,5 +145,5 @@ class Reader(Owner):
     """Loads values of counters."""
 
     def value(self, counter: int) -> int:
-        """Loads a value. The value of an id that was never used is 0, and that of a freed id is its last value."""
+        """Loads a value. The value of an id that was never used is 0. The value of a freed id is its last value."""
         return self._do("felter_reader_value", counter)

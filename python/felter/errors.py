@@ -1,4 +1,4 @@
-"""Why a call is refused."""
+"""The exceptions of refused calls."""
 
 import typing
 
@@ -8,7 +8,7 @@ __all__ = ["Closed", "Contended", "Disconnected", "Error", "Full", "Lapped", "Nu
 
 
 class Error(Exception):
-    """A call was refused. `number` says why, and the text says it in words."""
+    """A call was refused. `number` says why, and the text says the same in words."""
 
     number: Number
 
@@ -24,34 +24,35 @@ class Error(Exception):
 
     @property
     def is_passing(self) -> bool:
-        """Whether the same call may succeed later: the ring was full, or another producer was faster."""
+        """Returns whether the same call may succeed later. This is so if the ring was full, or another producer was
+        faster."""
         return self.number in (Number.INSUFFICIENT_CAPACITY, Number.CONTENDED)
 
 
 class Full(Error):
-    """The ring is full: try again after the consumer has read on."""
+    """The ring is full. Try again after the consumer has read messages."""
 
     def __init__(self, number: int = Number.INSUFFICIENT_CAPACITY) -> None:
         super().__init__(number)
 
 
 class Contended(Error):
-    """Another producer was faster: try again."""
+    """Another producer was faster. Try again."""
 
     def __init__(self, number: int = Number.CONTENDED) -> None:
         super().__init__(number)
 
 
 class Closed(Error):
-    """The handle is empty: it was freed, closed or joined."""
+    """The handle is empty, because it was freed, closed or joined."""
 
     def __init__(self, number: int = Number.NO_HANDLE) -> None:
         super().__init__(number)
 
 
 class Lapped(Error):
-    """The transmitter overtook the receiver. `count` says how often the receiver was overtaken by now. `missed_bytes`
-    says how many bytes the receiver passed over. It is 0 if that is not known, as for a client."""
+    """The transmitter overtook the receiver. `count` says how often the receiver was overtaken so far. `missed_bytes`
+    says how many bytes the receiver missed. This number is 0 if it is not known, as for a client."""
 
     count: int
     missed_bytes: int
@@ -66,8 +67,8 @@ class Lapped(Error):
 
 
 class Disconnected(Exception):
-    """The other side is gone: every producer, or the consumer, the transmitter or the conductor was freed, and nothing
-    is left to read. Calls that wait raise this."""
+    """The other side is gone, and nothing is left to read. This is so if every producer was freed. It is also so
+    if the consumer, the transmitter or the conductor was freed. Calls that wait raise this exception."""
 
 
 CAUSES: typing.Dict[int, typing.Type[Error]] = {
@@ -78,5 +79,5 @@ CAUSES: typing.Dict[int, typing.Type[Error]] = {
 
 
 def refusal(number: int) -> Error:
-    """The exception for a code."""
+    """Returns the exception for a code."""
     return CAUSES.get(number, Error)(number)

@@ -6,7 +6,7 @@ if typing.TYPE_CHECKING:
     # (type checkers know this type, even if its package is not installed)
     from typing_extensions import Buffer as Buffer
 else:
-    # Any object with bytes: bytes, a bytearray, a memoryview, an array.
+    # Any object that has a buffer of bytes, such as a `bytes`, a `bytearray`, a `memoryview` or an `array`.
     Buffer = typing.Union[bytes, bytearray, memoryview]
 
 

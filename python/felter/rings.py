@@ -1,4 +1,4 @@
-"""Rings: a producer writes, a consumer reads."""
+"""Rings. A producer writes messages, and a consumer reads them."""
 
 import contextlib
 import enum
@@ -16,27 +16,28 @@ from felter.waiting import wait_as_task, wait_for
 
 
 class Positions(typing.NamedTuple):
-    """The positions at which the next read and the next claim of a ring begin, in bytes. Both only rise."""
+    """The positions at which the next read and the next claim of a ring begin, in bytes. Both positions never fall."""
 
     head: int
     tail: int
 
 
 class Found(enum.IntEnum):
-    """What is next in a ring, by the numbers of felter.h."""
+    """The kind of thing that is next in a ring, by the numbers of felter.h."""
 
     # A message, which the consumer reads next.
     MESSAGE = 0
     # Nothing is claimed after the head.
     NONE = 1
-    # A claim that is not settled yet: its producer is slow, or lost.
+    # A claim that is not settled yet. Its producer is slow, or lost.
     CLAIM = 2
-    # Something changed during the call: call again.
+    # Something changed during the call. Call again.
     CHANGE = 3
 
 
 class Standing(typing.NamedTuple):
-    """What is next in a ring, and the head, in bytes. If a claim is next, the head is its place."""
+    """Says what is next in a ring, and gives the head, in bytes. If a claim is next, the head is the position of this
+    claim."""
 
     found: Found
     head: int
@@ -49,19 +50,19 @@ class Consumer(Controlled):
         super().__init__(number, ends, writes=False)
 
     def sizes(self) -> Sizes:
-        """The capacity, and the length of the longest message, in bytes."""
+        """Returns the capacity, and the length of the longest message, in bytes."""
         return self._sizes()
 
     def is_abandoned(self) -> bool:
-        """Whether every producer was freed, or given to `close`. Then nothing more will be written, but what was
-        written before can still be read."""
+        """Returns whether every producer was freed, or given to `close`. Nothing more will then be written, but earlier
+        messages can still be read."""
         return self._is_abandoned()
 
     @direct
     def read(self, timeout: typing.Optional[float] = 0) -> typing.Optional[Message]:
         """Reads the next message, and takes it from the ring. Returns None if no message came within `timeout` seconds.
-        With the timeout 0 the call does not wait, and with None it waits for ever. A call that waits raises
-        Disconnected if every producer is gone and all messages were read."""
+        With the timeout 0 the call does not wait. With None it waits for ever. A call that waits raises Disconnected if
+        every producer is gone and all messages were read."""
         return self._read() if timeout == 0 else self._next_within(timeout)
 
     def _next_within(self, timeout: typing.Optional[float]) -> typing.Optional[Message]:
@@ -90,10 +91,10 @@ class Consumer(Controlled):
 
     @direct
     def read_batch(self, limit: int, room: int = 65536) -> typing.List[Message]:
-        """Reads up to `limit` messages by one call, and returns them as a list, which is empty if no message is there.
-        The call can return fewer messages than are in the ring. The call has a buffer of `room` bytes. A message takes
-        16 bytes of the buffer, and the bytes of its body rounded up to a multiple of 8. A message that has no room
-        stays in the ring."""
+        """Reads up to `limit` messages by one call, and returns a list of them. The list is empty if no message is
+        there. The call can return fewer messages than are in the ring. The call has a buffer of `room` bytes. A message
+        takes 16 bytes of the buffer, plus the bytes of its body, rounded up to a multiple of 8. A message for which the
+        buffer has no room stays in the ring."""
         count, records = self._try("felter_read_batch", limit, operator.index(room)) or (0, b"")
         messages, at = [], 0
         for _ in range(count):
@@ -103,9 +104,9 @@ class Consumer(Controlled):
         return messages
 
     def standing(self, producer: "Producer") -> Standing:
-        """Returns what is next in the ring. The call needs a producer of the same ring. It loads the positions, reads
-        into a buffer of no bytes, and loads the positions again. The read passes padding and aborted claims before the
-        next message. If it passed any, the result is CHANGE unless a message is next."""
+        """Returns what is next in the ring. The call needs a producer of the same ring. The call loads the positions,
+        reads into a buffer of no bytes, and loads the positions again. The read passes padding and aborted claims
+        before the next message. If the read passed any of these, the result is CHANGE unless a message is next."""
         if self._number != producer._number:
             raise Error(Number.OTHER_RING)
         first, is_message = producer.positions(), False
@@ -128,22 +129,24 @@ class Consumer(Controlled):
         self._do("felter_set_heartbeat", value)
 
     def close(self, producer: "Producer") -> None:
-        """Closes the ring with its last producer. Nothing can be written afterwards, and the producer's calls raise
-        `Closed`. What is in the ring can still be read. The call raises CLAIMS_OPEN if a claim of the producer is open,
-        and PRODUCERS_OUT if another producer was neither joined nor freed. Then consumer and producer are as before."""
+        """Closes the ring with its last producer. Nothing can be written afterwards. The calls of the producer raise
+        `Closed`. The messages in the ring can still be read. The call raises CLAIMS_OPEN if a claim of the producer is
+        open. It raises PRODUCERS_OUT if another producer was neither joined nor freed. After such an error the consumer
+        and the producer are as before."""
         if isinstance(producer, Producer):
             settle_dropped(self._ends)
         self._with("felter_close", producer)
 
     def finish(self) -> int:
         """Ends a ring that was closed, or whose producers were all freed, and frees the consumer. Returns how many
-        committed messages were left unread. The call raises PRODUCERS_OUT if the ring was not closed and a producer is
-        still there. Then the consumer is as before."""
+        committed messages were left unread. The call raises PRODUCERS_OUT if the ring was not closed and a producer
+        still exists. The consumer is then as before."""
         return self._do("felter_finish")
 
 
 class Producer(Settling):
-    """Writes into a ring. If a producer is freed, its open claims are aborted, and the ring can end without it."""
+    """Writes messages into a ring. If a producer is freed, its open claims are aborted, and the ring can end without
+    this producer."""
 
     # The producer to which this one was joined.
     _joined: typing.Optional["Producer"] = None
@@ -152,19 +155,19 @@ class Producer(Settling):
         super().__init__(number, first._ends if first else None)
 
     def sizes(self) -> Sizes:
-        """The capacity, and the length of the longest message, in bytes."""
+        """Returns the capacity, and the length of the longest message, in bytes."""
         return self._sizes()
 
     def is_abandoned(self) -> bool:
-        """Whether the consumer was freed. Then nothing that is written will be read."""
+        """Returns whether the consumer was freed. Messages that are written afterwards are never read."""
         return self._is_abandoned()
 
     @direct
     def write(self, type_id: int, body: Buffer, timeout: typing.Optional[float] = 0) -> None:
-        """Writes a message. The body is any object with bytes: bytes, a bytearray, an array. While the ring is full, or
-        another producer is faster, the call tries again for `timeout` seconds, and then raises Full or Contended. With
-        the timeout 0 the call tries once, and with None it tries for ever. It raises Disconnected if it would have to
-        wait and the consumer is gone."""
+        """Writes a message. The body is any object that has a buffer of bytes, such as a `bytes`, a `bytearray` or an
+        `array`. While the ring is full, or another producer is faster, the call tries again for `timeout` seconds.
+        After that it raises Full or Contended. With the timeout 0 the call tries once. With None it tries for ever. The
+        call raises Disconnected if it would have to wait and the consumer is gone."""
         if timeout == 0:
             self._do("felter_write", type_id, body)
             self._wake()
@@ -187,8 +190,8 @@ class Producer(Settling):
             raise refused[0]
 
     def write_all(self, messages: typing.Iterable[typing.Tuple[int, Buffer]]) -> int:
-        """Writes messages one after another, and returns how many were written. Each message is a type id and a body.
-        The call stops if the ring is full or another producer is faster. Other refusals are raised."""
+        """Writes messages one after another, and returns how many messages were written. Each message is a type id and
+        a body. The call stops if the ring is full or another producer is faster. Other refusals are raised."""
         written = 0
         with contextlib.suppress(Full, Contended):
             for type_id, body in messages:
@@ -213,31 +216,33 @@ class Producer(Settling):
         return other
 
     def join(self, other: "Producer") -> None:
-        """Joins another producer of the same ring to this one, with its shares and its open claims."""
+        """Joins another producer of the same ring to this one. This producer gets the shares and the open claims of the
+        other one."""
         was_there = not other._is_empty()
         try:
             self._with("felter_join", other)
         finally:
-            # (from now on its claims belong to this producer, also if an interrupt came after the call)
+            # (from now on the claims of `other` belong to this producer, also if an interrupt came after the call)
             if was_there and other._is_empty():
                 other._joined = self
 
     def positions(self) -> Positions:
-        """Loads the head, and then the tail."""
+        """Loads the head of the ring, and then its tail."""
         return Positions(*self._do("felter_positions"))
 
     def used(self) -> int:
-        """How many bytes of the ring are claimed and not yet read. The call loads the positions once."""
+        """Returns how many bytes of the ring are claimed and not yet read. The call loads the positions once."""
         head, tail = self.positions()
         # (the head is loaded first, so the tail may be more than a capacity above it by then)
         return min(tail - head, self.sizes().capacity)
 
     def available(self) -> int:
-        """How many bytes are free. A message also takes some of these bytes for its header, and for padding."""
+        """Returns how many bytes are free. A message also takes some of these bytes for its header, and possibly for
+        padding."""
         return self.sizes().capacity - self.used()
 
     def is_empty(self) -> bool:
-        """Whether everything that was claimed was read."""
+        """Returns whether everything that was claimed was read."""
         return self.used() == 0
 
     def next_id(self) -> int:
@@ -249,7 +254,7 @@ class Producer(Settling):
         return self._do("felter_heartbeat")
 
     def shares(self) -> int:
-        """How many of the ring's 65,536 shares this producer holds."""
+        """Returns how many of the ring's 65,536 shares this producer holds."""
         return self._do("felter_shares")
 
 

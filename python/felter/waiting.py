@@ -1,4 +1,4 @@
-"""Waiting, and doorbells for event loops. The library itself never waits."""
+"""Calls that wait, and doorbells for event loops. The library itself never waits."""
 
 import contextlib
 import functools
@@ -22,7 +22,7 @@ def refuse_none_number(timeout: typing.Optional[float]) -> None:
 
 
 # The locks on which readers of a ring or a board sleep. After each write the writer releases the locks in the list, if
-# there are any.
+# the list has any.
 Sleepers = typing.List[typing.Any]
 
 # The longest pause between two looks, and the longest sleep of a reader, in seconds. (The sleep is bounded, since
@@ -43,8 +43,7 @@ def wake(sleepers: Sleepers) -> None:
 def sleep(
     sleepers: Sleepers, attempt: typing.Callable[[], typing.Optional[T]], left: typing.Optional[float]
 ) -> typing.Optional[T]:
-    """Makes an attempt, and sleeps if that returns None, until a writer wakes the thread, or for `left` seconds at
-    most."""
+    """Makes an attempt. If it returns None, sleeps until a writer wakes the thread, or for at most `left` seconds."""
     lock = threading.Lock()
     lock.acquire()
     sleepers.append(lock)
@@ -64,17 +63,17 @@ def wait_for(
     is_abandoned: typing.Callable[[], bool],
     sleepers: typing.Optional[Sleepers] = None,
 ) -> typing.Optional[T]:
-    """Makes an attempt again and again until it returns something that is not None, for `timeout` seconds. With the
-    timeout 0 there is one attempt, and with None there is no end. Returns None after the timeout. With a list of
-    sleepers the thread sleeps between attempts until a writer wakes it, and otherwise it pauses. Raises Disconnected if
-    the other side is gone, and an attempt after that returned None."""
+    """Makes an attempt again and again for `timeout` seconds, until an attempt returns something that is not None. With
+    the timeout 0 there is one attempt. With the timeout None the attempts never end. Returns None after the timeout.
+    With a list of sleepers the thread sleeps between attempts until a writer wakes it. Otherwise the thread pauses
+    between attempts. Raises Disconnected if the other side is gone and a later attempt returned None."""
     refuse_none_number(timeout)
     if timeout == 0:
         return attempt()
     end = None if timeout is None else time.monotonic() + timeout
     pause = 0.0
     while True:
-        # (this comes first: so the last attempt finds what was written before the other side was gone)
+        # (this comes first, so the last attempt finds what was written before the other side was gone)
         is_last = is_abandoned()
         found = attempt()
         if found is not None:
@@ -99,7 +98,7 @@ async def wait_as_task(
     is_abandoned: typing.Callable[[], bool],
     sleepers: Sleepers,
 ) -> typing.Optional[T]:
-    """Does what `wait_for` does, in a task of asyncio. The loop goes on meanwhile, and a write wakes the task by a
+    """Does what `wait_for` does, in a task of asyncio. The loop goes on meanwhile. A write wakes the task by a
     doorbell."""
     import asyncio
 
@@ -131,7 +130,7 @@ async def wait_as_task(
 
 class Listed:
     """Puts a doorbell into a list of sleepers, so that the next wake rings it. The wake runs no code of Python, since
-    destructors of claims and handles wake sleepers too."""
+    the destructors of claims and handles wake sleepers too."""
 
     def __init__(self, sleepers: Sleepers, bell: "Doorbell") -> None:
         self._sleepers, self._bell = sleepers, bell
@@ -144,19 +143,20 @@ class Listed:
         try:
             self._sleepers.remove(self._waker)
         except ValueError:
-            # (another thread has taken the waker out, and rings soon: until then the descriptor must stay open)
+            # (another thread has taken the waker out, and will soon ring, so the descriptor must stay open until then)
             self._bell.wait(1)
             self._bell.clear()
 
 
-# What `Doorbell.ring` writes.
+# The bytes that `Doorbell.ring` writes.
 ONE = (1).to_bytes(8, "little")
 
 
 class Doorbell:
-    """An eventfd of Linux, for event loops. `fileno` is readable after the doorbell was rung, until it is cleared.
+    """An eventfd of Linux, for event loops. The descriptor `fileno` becomes readable when the doorbell is rung, and
+    stays readable until the doorbell is cleared.
 
-    Writers ring the doorbell after they have written: a ring does not do that itself. The reader clears the doorbell
+    Writers ring the doorbell after they have written, since no write does this itself. The reader clears the doorbell
     first, and then reads until no message is there.
 
         loop.add_reader(bell.fileno(), on_ring)     # asyncio
@@ -165,7 +165,8 @@ class Doorbell:
     """
 
     def __init__(self) -> None:
-        # (the files close themselves when they are dropped: in a destructor in Python an interrupt would be swallowed)
+        # (the files close themselves when they are dropped, since an interrupt would be swallowed in a destructor in
+        # Python)
         if hasattr(os, "eventfd"):
             self._reads = self._writes = io.FileIO(os.eventfd(0, os.EFD_CLOEXEC | os.EFD_NONBLOCK), "r+")
         else:
@@ -176,12 +177,12 @@ class Doorbell:
             os.set_blocking(writes, False)
 
     def fileno(self) -> int:
-        """The descriptor for event loops."""
+        """Returns the descriptor for event loops."""
         return -1 if self._reads.closed else self._reads.fileno()
 
     def ring(self) -> None:
         """Rings the doorbell. Any thread may call this."""
-        # (None means that the count or the pipe is full: the doorbell is rung already)
+        # (None means that the count or the pipe is full, so the doorbell is rung already)
         self._writes.write(ONE)
 
     def clear(self) -> bool:
@@ -189,8 +190,8 @@ class Doorbell:
         return bool(self._reads.read(8 if self._reads is self._writes else 65536))
 
     def wait(self, timeout: typing.Optional[float] = None) -> bool:
-        """Waits until the doorbell is rung, for at most `timeout` seconds, or for ever if that is None. Returns whether
-        it was rung."""
+        """Waits until the doorbell is rung, for at most `timeout` seconds. If `timeout` is None, waits for ever.
+        Returns whether the doorbell was rung."""
         refuse_none_number(timeout)
         poll = select.poll()
         poll.register(self._reads, select.POLLIN)

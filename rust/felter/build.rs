@@ -1,21 +1,21 @@
-//! Links libfelter.a. Its folder is the one that FELTER_DIR names; a relative path counts from where cargo was started.
-//! Otherwise it is the first of these that has the archive: `native` in this crate, the folder that pkg-config names for
-//! felter, and the repository's `c/out`, in which `c/build` puts it. If no folder has the archive, the documentation can
-//! still be built with DOCS_RS.
+//! Links libfelter.a. FELTER_DIR can name the folder of the archive. If the path is relative, it begins at the folder
+//! in which cargo was started. Otherwise it is the first of these folders that has the archive: `native` in this crate,
+//! the folder that pkg-config names for felter, and the repository's `c/out`. `c/build` puts the archive into `c/out`.
+//! If no folder has the archive, the documentation can still be built with DOCS_RS.
 use std::env;
 use std::path::{Path, PathBuf};
 use std::process::Command;
 
 const ARCHIVE: &str = "libfelter.a";
 
-/// The folder that FELTER_DIR names.
+/// Returns the folder that FELTER_DIR names.
 fn named() -> Option<PathBuf> {
     let folder = PathBuf::from(env::var_os("FELTER_DIR").filter(|it| !it.is_empty())?);
     let started = env::var_os("PWD").map(PathBuf::from).unwrap_or_default();
     Some(started.join(folder))
 }
 
-/// The folder where pkg-config has the library.
+/// Returns the folder in which pkg-config has the library.
 fn packaged() -> Option<PathBuf> {
     let said = Command::new("pkg-config").args(["--variable=libdir", "felter"]).output().ok()?;
     let folder = String::from_utf8(said.stdout).ok()?;
@@ -23,7 +23,7 @@ fn packaged() -> Option<PathBuf> {
     said.status.success().then(|| PathBuf::from(folder.trim().replace("\\ ", " ")))
 }
 
-/// The folders in which the archive may be, the first one first.
+/// Returns the folders in which the archive may be, the first one first.
 fn candidates(here: &Path) -> Vec<PathBuf> {
     if let Some(folder) = named() {
         return vec![folder];

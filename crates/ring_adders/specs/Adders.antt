@@ -12,7 +12,7 @@ IsAdderOf counter adder = adder.seat.table_id ≡ counter.table.shared.table_id
 abbrev pub shares_of : Adder → ℕ
 shares_of adder = adder.shares
 
--- what was added with the adder, and with those that it took in
+-- what was added with the adder, and with the adders that it took back
 abbrev pub added_by : Adder → List ℤ
 added_by adder = adder.seat.me.0.added
 
@@ -20,14 +20,14 @@ added_by adder = adder.seat.me.0.added
 abbrev pub seen_by : Adder → List ℤ
 seen_by adder = adder.seat.me.0.seen
 
--- it is an adder of this counter with which nothing was added, and has seen this
+-- the adder is one of this counter, nothing was added with it, and it has seen these amounts
 pub record IsNewAdderOf (counter : SharedCounter) (seen : List ℤ) (adder : Adder) : Type 0 where
   pub of_this : IsAdderOf counter adder
   pub added : added_by adder ≡ []
   pub seen_is : seen_by adder ≡ seen
 
--- this amount was added after all that had been added before, of which nothing is missing that the adder had seen, and
--- the value before is the sum of that
+-- The amount was added after all that had been added before. These amounts include all that the adder had seen, and the
+-- value before is their sum.
 pub record AddsAmount (amount value : ℤ) (old new : Adder) : Type 0 where
   pub before : List ℤ
   pub later : Begins (seen_by old) before
@@ -35,7 +35,7 @@ pub record AddsAmount (amount value : ℤ) (old new : Adder) : Type 0 where
   pub seen : seen_by new ≡ before ++ amount ∷ []
   pub added : added_by new ≡ added_by old ++ amount ∷ []
 
--- the value is the sum of all that was added until then, of which nothing is missing that the adder had seen
+-- The value is the sum of all that was added until then. These amounts include all that the adder had seen.
 pub record SeesSum (value : ℤ) (old new : Adder) : Type 0 where
   pub later : Begins (seen_by old) (seen_by new)
   pub value_is : value ≡ sum_of (seen_by new)

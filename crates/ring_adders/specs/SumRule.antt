@@ -1,4 +1,4 @@
--- The rule of a shared counter: its word is the sum of what all adders added.
+-- The rule of a shared counter. Its word is the sum of what all adders added.
 use Rattle.std.specs.Prelude.{◌≡◌, ℕ, ℤ, List, [], length, slice_index}
 use mathlib.Core.Option.{some}
 use lib.ListN.{get_elem?}
@@ -7,12 +7,12 @@ use Rattle.ring_adders.specs.Sums.{patterns, sum_word}
 use Rattle.ring_layout.specs.Lists.{Begins, total}
 use Rattle.ring_layout.specs.Refusals.{all_shares}
 
--- an adder has seen a first part of what all added, and without shares it added nothing
+-- An adder has seen a first part of what all adders added. An adder without shares added nothing.
 pub record KnowsAdds (all : List ℤ) (v : AdderView) : Type 0 where
   pub seen : Begins v.seen all
   pub none : v.shares ≡ 0 → v.added ≡ []
 
--- there is one list of all that was added; the word is its sum, and what each adder added sums up to the same
+-- There is one list of all that was added. The word is its sum, and what each adder added sums up to the same.
 pub record SumRule (words : List ℕ) (views : List AdderView) : Type 0 where
   pub all : List ℤ
   pub wide : length words ≡ 1

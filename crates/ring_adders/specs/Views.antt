@@ -1,4 +1,4 @@
--- What an adder knows.
+-- The view of an adder.
 use Rattle.std.specs.Prelude.{ℕ, ℤ, List}
 use Rattle.ring_adders.specs.declared.view.AdderView.{AdderView}
 

@@ -1,4 +1,4 @@
-//! The calls of a shared counter and its adders, with their steps.
+//! The calls of a shared counter and its adders, with the steps of these calls.
 ghost use Rattle.std.specs.Prelude.{◌≡◌, ◌+◌, ◌<◌, ◌↔◌, [], ◌++◌, IfOk, IsOk, OnErr};
 ghost use Rattle.ring_layout.specs.Lists.{Begins};
 ghost use Rattle.ring_layout.specs.Refusals.{all_shares};
@@ -13,7 +13,8 @@ use ring_layout::{ALL_SHARES, NoShares, has_spare_share};
 use std::alloc::Global;
 
 impl Adder {
-    /// The shares of this adder: 65,536 for the first one. If it has all of them, there is no other adder.
+    /// Returns the number of shares of this adder. The first adder has 65,536. If an adder has all shares, there is no
+    /// other adder.
     pub fn shares(&self) -> u32
         ensures { result ≡ shares_of self.now }
     {
@@ -39,9 +40,9 @@ impl SharedCounter {
         Ok((SharedCounter { table }, adder))
     }
 
-    /// Adds to the counter, and returns the value before. It takes one step and no memory.
+    /// Adds to the counter, and returns the value before the addition. The call takes one step and no memory.
     ///
-    /// The sum is taken modulo 2^64: above 2^63 - 1 it wraps to -2^63, below -2^63 to 2^63 - 1.
+    /// The sum is taken modulo 2^64. Above 2^63 - 1 it wraps to -2^63, and below -2^63 it wraps to 2^63 - 1.
     pub fn add(&self, adder: &mut Adder, delta: i64) -> i64
         requires { IsAdderOf self.now adder.old }
         ensures adder { IsAdderOf self.now adder.new }
@@ -54,14 +55,15 @@ impl SharedCounter {
             .cast_signed()
     }
 
-    /// Returns the value: the sum of all that was added until then. It takes one step and no memory.
+    /// Returns the value, which is the sum of all amounts that were added until then. The call takes one step and no
+    /// memory.
     pub fn value(&self, adder: &mut Adder) -> i64
         requires { IsAdderOf self.now adder.old }
         ensures adder { IsAdderOf self.now adder.new }
         ensures sees { SeesSum result adder.old adder.new }
 
         // If the adder has all shares, the value is exactly the sum of what was added with it and with the adders that
-        // it took in.
+        // it took back.
         ensures total { shares_of adder.old ≡ all_shares → result ≡ sum_of (added_by adder.old) }
         ensures shares { shares_of adder.new ≡ shares_of adder.old }
     {
@@ -71,9 +73,9 @@ impl SharedCounter {
             .cast_signed()
     }
 
-    /// Makes another adder, for another thread. It takes one share of this one's.
+    /// Makes another adder, for another thread. The other adder takes one share of this one.
     ///
-    /// Returns `NoShares` if this adder has one share; nothing has changed then.
+    /// Returns `NoShares` if this adder has only one share. Nothing has then changed.
     pub fn split(&self, adder: &mut Adder) -> Result<Adder, NoShares>
         requires { IsAdderOf self.now adder.old }
         ensures adder { IsAdderOf self.now adder.new }
@@ -93,7 +95,7 @@ impl SharedCounter {
         Ok(Adder { seat, shares: 1 })
     }
 
-    /// Takes another adder of this counter in, with its shares and with what was added with it.
+    /// Takes another adder of this counter back, with its shares and with what was added with it.
     pub fn join(&self, adder: &mut Adder, other: Adder)
         requires adder { IsAdderOf self.now adder.old }
         requires other { IsAdderOf self.now other }
@@ -107,7 +109,7 @@ impl SharedCounter {
         self.table
             .shared
             .join_seat::<JoinAdder>(&mut adder.seat, seat);
-        // Only the next step says that the shares are no more than all.
+        // Only the next step says that the shares are at most all shares.
         self.table.shared.load::<LoadSum>(&mut adder.seat, 0);
         adder.shares = shares;
     }

@@ -1,7 +1,7 @@
-//! A counter to which any number of threads add, and whose value is the sum of what they added.
+//! A counter to which any number of threads add. Its value is the sum of what they added.
 //!
-//! - `view`: what each adder knows. `rule`: what holds between any two steps. `plays`: what each step says.
-//! - `seats`: the shared counter and its adders. `calls`: what they do.
+//! - `view`: what each adder knows. `rule`: the rule between any two steps. `plays`: what each step says.
+//! - `seats`: the shared counter and its adders. `calls`: the calls of the counter and of the adders.
 #![tactic(auto)]
 
 mod calls;

@@ -1,4 +1,4 @@
-//! What each kind of step says. These types are for the proofs alone: no value of them is made.
+//! The types of what each kind of step says. These types are for the proofs alone, and no value of them is made.
 ghost use Rattle.std.specs.Prelude.{◌≡◌, ◌+◌, ◌-◌, ◌++◌, []};
 ghost use Rattle.ring_adders.specs.Views.{adder_view};
 ghost use Rattle.ring_adders.specs.Steps.{Adds, Loads};
@@ -20,7 +20,7 @@ impl Play<(), AdderView> for LoadSum {
     ghost then = { λ s m n w. Loads m.0 n w.0 × (w.1 ≡ m.1) };
 }
 
-/// A new adder gets one share of another's.
+/// A new adder gets one share of another adder.
 pub struct CutAdder;
 
 impl Split<AdderView> for CutAdder {
@@ -29,7 +29,7 @@ impl Split<AdderView> for CutAdder {
     ghost right = { λ v. adder_view 1 [] v.seen };
 }
 
-/// An adder takes another one in.
+/// An adder takes another adder back.
 pub struct JoinAdder;
 
 impl Join<AdderView> for JoinAdder {

@@ -7,16 +7,17 @@ use crate::view::AdderView;
 use atomic_table::{Seat, Table};
 use std::alloc::Global;
 
-/// A counter to which any thread adds by an adder of its own. Its value is the sum of all that was added, modulo 2^64.
+/// A counter to which each thread adds by its own adder. The value of the counter is the sum of all that was added,
+/// modulo 2^64.
 #[derive(Drop)]
 pub struct SharedCounter {
     pub(crate) table: Table<(), AdderView, (), SumsAll, Global>,
     ghost counts: { (table.shared.table_id.words ≡ 1) × (table.shared.table_id.slots ≡ 0) },
 }
 
-/// Adds to a shared counter and loads its value. It is used by one thread at a time, and may move between threads.
+/// Adds to a shared counter and loads its value. One thread at a time uses an adder. An adder may move between threads.
 ///
-/// An adder may be dropped. What was added with it stays in the sum, and its shares are lost.
+/// An adder may be dropped. The amounts that were added with it stay in the sum. Its shares are lost.
 #[derive(Drop)]
 pub struct Adder {
     pub(crate) seat: Seat<(), AdderView>,

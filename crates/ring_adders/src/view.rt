@@ -1,11 +1,11 @@
-//! What an adder knows. No value of this type is made.
+//! The type of what an adder knows. No value of this type is made.
 use std::collections::LinkedList;
 
-/// What an adder knows.
+/// The knowledge of an adder.
 pub struct AdderView {
     pub shares: u32,
-    /// What was added with it, and with the adders that it took in.
+    /// The amounts that were added with this adder, and with the adders that it took back.
     pub added: LinkedList<i64>,
-    /// What all adders had added, in order, when it looked last.
+    /// The amounts that all adders had added, in order, when this adder looked last.
     pub seen: LinkedList<i64>,
 }

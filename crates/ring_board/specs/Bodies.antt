@@ -24,7 +24,7 @@ abbrev pub IsLoaded : ℕ → List Load → ℕ → List ℕ → Type 0
 IsLoaded C log place body = (ws : List ℕ) × WereLoaded C log place ws × (length ws ≡ word_count (length body))
     × (body ≡ take (length body) (bytes_of ws))
 
--- a body was loaded, and everything else is as before
+-- a body was loaded, and all other parts are as before
 abbrev pub GaveBody : ℕ → List ℕ → Sat → Sat → Type 0
 GaveBody place body m m' =
     (loads : List Load) × (m' ≡ (record m.0 { log = m.0.log ++ loads }, m.1)) × IsLoaded m.0.capacity loads place body
@@ -33,19 +33,20 @@ GaveBody place body m m' =
 abbrev pub HasLoaded : View → RawRecord → List ℕ → Type 0
 HasLoaded v r body = IsLoaded v.capacity v.log r.place body
 
--- if the intent x has not reached the place plus the capacity, what was loaded as a record's body is the body that the
--- transmitter gave it
+-- If the intent x has not reached the place plus the capacity, what was loaded as a record's body is right. It is the
+-- body that the transmitter gave the record.
 abbrev pub AreRight : View → ℕ → Type 0
 AreRight v x = (n : ℕ) (c : Taken) (body : List ℕ) → get_elem? v.copies n ≡ some c → x < c.place + v.capacity
     → IsLoaded v.capacity v.log c.place body
     → length body ≡ length c.message.body → body ≡ c.message.body
 
--- the body of this record, wherever it was loaded, is the one that the transmitter gave it
+-- the body of this record, at each place in the log at which it was loaded, is the one that the transmitter gave the
+-- record
 abbrev pub IsRight : View → RawRecord → Type 0
 IsRight v r = (n : ℕ) (c : Taken) (body : List ℕ) → get_elem? v.copies n ≡ some c → c.place ≡ r.place
     → HasLoaded v r body → length body ≡ length c.message.body → body ≡ c.message.body
 
--- an intent was loaded, everything else is as before, and the return value is whether it is below the place plus the
--- capacity
+-- An intent was loaded, and all other parts are as before. The result says whether the intent is below the place plus
+-- the capacity.
 abbrev pub Validated : RawRecord → Bool → Sat → Sat → Type 0
 Validated r valid m m' = (x : ℕ) × (m' ≡ (logged m.0 (Intent x), m.1)) × (valid ≡ nat_lt x (r.place + m.0.capacity))

@@ -25,10 +25,10 @@ closed_words c = c.words.items
 abbrev pub closed_capacity : ClosedBoard → ℕ
 closed_capacity c = c.capacity
 
--- why a transmitter with this many shares does not close
+-- the reason why a transmitter with this many shares does not close
 abbrev pub close_refusal_of : ℕ → Option ReceiversOut
 close_refusal_of shares = if shares == all_shares then None else Some record { receivers = all_shares - shares }
 
--- buffer and transmitter come back with the reason
+-- the buffer and the transmitter come back with the reason
 abbrev pub kept_open : Board → Transmitter → ReceiversOut → BoardCloseRefused
 kept_open board t reason = record { reason = reason; board = board; transmitter = t }

@@ -1,4 +1,4 @@
--- What each step of a receiver shows its seat.
+-- The views that each step of a receiver shows its seat.
 use Rattle.std.specs.Prelude.{◌≡◌, ℕ, ◌+◌, ◌/◌, ◌%◌, ◌<◌, ◌≤◌, suc, if◌then◌else◌, nat_lt, List, [], ◌∷◌, ◌++◌, length, true, false, ◌⊎◌}
 use mathlib.Core.Option.{some}
 use lib.ListN.{get_elem?}
@@ -20,7 +20,7 @@ tail_loaded v x = record v { stage = if nat_lt v.at x then Sure else Resting; lo
 abbrev pub LoadsTail : Sat → ℕ → Sat → Type 0
 LoadsTail m x m' = (m' ≡ (tail_loaded m.0 x, m.1)) × (x ≤ max_position)
 
--- where the next header is: at the receiver's place, or after padding there
+-- the place of the next header, which is the receiver's place, or after padding there
 abbrev pub IsHeaderPlace : View → ℕ → Type 0
 IsHeaderPlace v p = ((v.stage ≡ Sure) × (p ≡ v.at)) ⊎ ((w : ℕ) × (v.stage ≡ Padded w) × (p ≡ v.at + announced w))
 
@@ -58,14 +58,14 @@ after_copy v m = record v {
       v.copies ++ copy_of v m ∷ [];
 }
 
--- a validation went well
+-- a validation succeeded
 abbrev pub passed : View → Stage → View
 passed v (Headed w) = at_stage v (if is_padding w then Padded w else Reading w [])
 passed v (Again w) = at_stage v (Reading w [])
 passed v (Reading w ws) = after_copy v (message_in w ws)
 passed v st = v
 
--- an intent was loaded: a place is valid if it is less than the capacity below it
+-- An intent was loaded. A place is valid if the intent is less than the capacity above it.
 abbrev pub validated : View → ℕ → View
 validated v x = logged (if nat_lt x (v.at + v.capacity) then passed v v.stage else at_stage v Behind) (Intent x)
 
@@ -80,11 +80,11 @@ IsSoundAt v (Headed w) =
 IsSoundAt v (Again w) = IsSound v.capacity v.at w
 IsSoundAt v _ = Unit {0}
 
--- the header w of an entry was loaded, and not yet validated
+-- the header w of an entry was loaded, and is not yet validated
 abbrev pub IsUnread : ℕ → Stage → Type 0
 IsUnread w st = ((st ≡ Headed w) × (is_padding w ≡ false)) ⊎ (st ≡ Again w)
 
--- what a load of the intent validates: a header, of padding or of an entry, or all words of a body
+-- The parts that a load of the intent validates. These are a header of padding or of an entry, or all words of a body.
 abbrev pub IsComplete : Stage → Type 0
 IsComplete st = ((w : ℕ) × (st ≡ Headed w)) ⊎ (((w : ℕ) × IsUnread w st)
     ⊎ ((w : ℕ) × (ws : List ℕ) × (st ≡ Reading w ws) × (length ws ≡ word_count (body_len w))))
@@ -97,7 +97,7 @@ header_seen (Headed w) = w
 header_seen (Again w) = w
 header_seen _ = 0
 
--- an intent was loaded, to validate the header w of a record with this body, which is returned unread
+-- an intent was loaded, to validate the header w of a record with this body, which is returned without its body
 abbrev pub answered : View → ℕ → List ℕ → ℕ → View
 answered v w body x =
     logged (if nat_lt x (v.at + v.capacity) then after_copy v (message_of w body) else at_stage v Behind) (Intent x)
@@ -107,7 +107,7 @@ AnswersEntry m x m' = (body : List ℕ) × (m' ≡ (answered m.0 (header_seen m.
     × (x < m.0.at + m.0.capacity → (length body ≡ body_len (header_seen m.0.stage))
     × IsSound m.0.capacity m.0.at (header_seen m.0.stage))
 
--- the receiver goes to the record at latest, the entry k of the list, which is after its place
+-- the receiver goes to the record at latest, which is the entry k of the list and is after the receiver's place
 abbrev pub latest_loaded : View → ℕ → ℕ → View
 latest_loaded v k x = record v { stage = Resting; at = x; next = k; count = suc v.count; log = v.log ++ Latest x ∷ [] }
 
@@ -117,8 +117,8 @@ LoadsLatest m x m' =
 
 -- ---- bodies of records that were returned
 
--- a word was loaded, and the tail was t, at least the last one seen and at least the end of any record that was
--- returned
+-- A word was loaded, and the tail was t. This is at least the last tail that was seen, and at least the end of any
+-- record that was returned.
 abbrev pub LoadsUnread : ℕ → Sat → ℕ → Sat → Type 0
 LoadsUnread i m x m' = (t : ℕ) × (m' ≡ (logged m.0 (Word i t x), m.1)) × (last_tail m.0.log 0 ≤ t)
     × ((n : ℕ) (c : Taken) → get_elem? m.0.copies n ≡ some c → c.place + span (length c.message.body) ≤ t)

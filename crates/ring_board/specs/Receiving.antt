@@ -1,4 +1,4 @@
--- What a receiver's call does to its seat.
+-- The changes that a receiver's call makes to its seat.
 use Rattle.std.specs.Prelude.{◌≡◌, ℕ, ◌+◌, ◌*◌, ◌%◌, ◌<◌, ◌≤◌, suc, ℤ, true, List, [], ◌∷◌, ◌++◌, length, take, ◌⊎◌}
 use mathlib.Core.Option.{some}
 use lib.ListN.{get_elem?}
@@ -21,7 +21,7 @@ use Rattle.ring_board.specs.ReceiverSteps.{after_copy, IsSound, IsUnread}
 abbrev pub RestsAt : ℕ → ℕ → Sat → Type 0
 RestsAt C place m = (m.0.stage ≡ Resting) × (m.0.at ≡ place) × (m.0.capacity ≡ C) × (place ≤ max_position)
 
--- p is the receiver's place, or after padding whose header is among these loads
+-- p is the receiver's place, or is after padding whose header is among these loads
 abbrev pub ComesTo : View → List Load → ℕ → Type 0
 ComesTo v loads p = (p ≡ v.at)
     ⊎ ((w : ℕ) × (t : ℕ) × (j : ℕ) × (get_elem? loads j ≡ some (Word (index v.capacity v.at) t w))
@@ -33,7 +33,7 @@ GotMiss p x m m' = (loads : List Load)
     × (m' ≡ (record m.0 { stage = Behind; at = p; log = m.0.log ++ (loads ++ Intent x ∷ []) }, m.1))
     × ComesTo m.0 loads p × (p + m.0.capacity ≤ x)
 
--- what looking for the next entry does
+-- the result of a look for the next entry
 abbrev pub FoundIs : Found → Sat → Sat → Type 0
 FoundIs (Nothing t) m m' = (m' ≡ (record m.0 { stage = Resting; log = m.0.log ++ Tail t ∷ [] }, m.1)) × (t ≤ m.0.at)
 FoundIs (Entry p w) m m' = (loads : List Load)
@@ -41,7 +41,7 @@ FoundIs (Entry p w) m m' = (loads : List Load)
     × IsSound m.0.capacity p w
 FoundIs (Missed p x) m m' = GotMiss p x m m'
 
--- what going to the next entry does, whose header is loaded and not yet validated
+-- the result of going to the next entry, whose header is loaded and not yet validated
 abbrev pub NearIs : Found → Sat → Sat → Type 0
 NearIs (Nothing t) m m' = FoundIs (Nothing t) m m'
 NearIs (Entry p w) m m' = (loads : List Load) × (st : Stage)
@@ -67,11 +67,11 @@ FailedBody x m m' = (loads : List Load)
     × (m' ≡ (record m.0 { stage = Behind; log = m.0.log ++ (loads ++ Intent x ∷ []) }, m.1))
     × (m.0.at + m.0.capacity ≤ x)
 
--- a tail that was loaded is not beyond the place, and nothing else changed
+-- a tail that was loaded is not beyond the place, and no other part changed
 abbrev pub GotNothing : Sat → Sat → Type 0
 GotNothing m m' = (t : ℕ) × (m' ≡ (record m.0 { stage = Resting; log = m.0.log ++ Tail t ∷ [] }, m.1)) × (t ≤ m.0.at)
 
--- a copy came: of the record at the place, or after padding there. The next place is its end
+-- A copy was made, of the record at the place or after padding there. The next place is the end of this record.
 abbrev pub GotCopy : ℕ → ℤ → List ℕ → Sat → Sat → Type 0
 GotCopy place type_id body m m' = (loads : List Load)
     × (m' ≡ (
@@ -92,8 +92,9 @@ GotCopy place type_id body m m' = (loads : List Load)
     ))
     × ComesTo m.0 loads place
 
--- the receiver was lapped at its place, or after padding there: the count rose by one, and the place is the latest
--- loaded after the intent that showed it. The bytes from the place where it was lapped up to that one were passed over
+-- The receiver was lapped at its place, or after padding there. The count rose by one. The new place is the latest one,
+-- which was loaded after the intent that showed this. The bytes from the place at which it was lapped up to the new
+-- place were missed.
 abbrev pub GotLapped : Lapped → Sat → Sat → Type 0
 GotLapped l m m' = (loads : List Load) × (k : ℕ) × (x : ℕ) × ComesTo m.0 loads l.place
     × (l.place + m.0.capacity ≤ l.intent) × (l.count ≡ suc m.0.count) × (l.place < x)
@@ -109,11 +110,11 @@ GotLapped l m m' = (loads : List Load) × (k : ℕ) × (x : ℕ) × ComesTo m.0 
       m.1,
     ))
 
--- a record was returned unread. Its place, type id and length are those of the new copy, which has the body that the
--- transmitter gave it
+-- A record was returned without its body. Its place, its type id and its length are those of the new copy. The copy has
+-- the body that the transmitter gave the record.
 abbrev pub GotRecord : RawRecord → Sat → Sat → Type 0
 GotRecord r m m' = (body : List ℕ) × GotCopy r.place r.type_id body m m' × (length body ≡ r.len)
 
--- where a record is in a buffer of C bytes
+-- the place of a record in a buffer of C bytes
 abbrev pub IsInBuffer : ℕ → RawRecord → Type 0
 IsInBuffer C r = (r.place % 8 ≡ 0) × (r.place % C + span r.len ≤ C) × (r.place + span r.len ≤ max_position)

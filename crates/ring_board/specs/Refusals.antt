@@ -1,4 +1,4 @@
--- Which refusal comes when.
+-- The refusals, and the cases in which they are returned.
 use Rattle.std.specs.Prelude.{ℕ, ℤ, pos, Option, Some, None, Result, if◌then◌else◌, nat_lt}
 use Rattle.ring_layout.specs.Refusals.{place_refusal_or, IsRefusedOr}
 pub use Rattle.ring_layout.specs.Refusals.{IsRefusedAs, IsRefusedBy}
@@ -7,25 +7,25 @@ use Rattle.ring_board.specs.declared.fault.TransmitFault.TheVariants.{BadType, T
 use Rattle.ring_board.specs.declared.fault.SubscribeFault.{SubscribeFault}
 use Rattle.ring_board.specs.declared.fault.SubscribeFault.TheVariants as subscribe_fault
 
--- why a message of this type id and length is not transmitted at this tail, in the order of the tests
+-- the reason why a message of this type id and length is not transmitted at this tail, in the order of the tests
 abbrev pub transmit_refusal_of : ℕ → ℕ → ℤ → ℕ → Option TransmitFault
 transmit_refusal_of C tail type_id len = place_refusal_or BadType TooLong PositionLimit C tail type_id len None
 
--- why a transmitter with this many shares makes no copying receiver
+-- the reason why a transmitter with this many shares makes no copying receiver
 abbrev pub subscribe_refusal_of : ℕ → Option SubscribeFault
 subscribe_refusal_of shares = if nat_lt 1 shares then None else Some subscribe_fault.NoShares
 
--- the result is the refusal; if there is none it is Ok, unless memory runs out
+-- The result is the refusal if there is one. Otherwise it is Ok, unless memory runs out.
 abbrev pub IsSubscribedUnless : {T : Type 0} → Option SubscribeFault → Result T SubscribeFault → Type 0
 IsSubscribedUnless refusal result = IsRefusedOr subscribe_fault.OutOfMemory refusal result
 
--- the number of a message that is not transmitted
+-- the number of the refusal of a message
 abbrev pub transmit_code : TransmitFault → ℤ
 transmit_code (BadType _) = pos 4
 transmit_code (TooLong _ _) = pos 5
 transmit_code (PositionLimit _) = pos 6
 
--- the number of a copying receiver that is not made
+-- the number of the refusal of a copying receiver
 abbrev pub subscribe_code : SubscribeFault → ℤ
 subscribe_code subscribe_fault.NoShares = pos 12
 subscribe_code subscribe_fault.OutOfMemory = pos 3

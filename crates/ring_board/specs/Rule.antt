@@ -1,4 +1,4 @@
--- The rule of the broadcast buffer: what holds between any two steps.
+-- The rule of the broadcast buffer, which holds between any two steps.
 use Rattle.std.specs.Prelude.{◌≡◌, ℕ, ◌+◌, ◌-◌, ◌*◌, ◌/◌, ◌%◌, ◌^◌, ◌<◌, ◌≤◌, suc, List, [], ◌∷◌, ◌++◌, length, take, slice_index, ◌⊎◌}
 use mathlib.Core.Option.{some}
 use lib.ListN.{get_elem?}
@@ -45,11 +45,11 @@ so_far sent (Written r) = stores_of sent ++ stores r
 so_far sent (Shown r) = stores_of sent ++ stores r
 so_far sent _ = stores_of sent
 
--- these stores are in the words
+-- the words have these stores
 abbrev pub Stand : ℕ → List ℕ → List (ℕ × ℕ) → Type 0
 Stand C ws xs = (j : ℕ) (x : ℕ × ℕ) → get_elem? xs j ≡ some x → slice_index ws (index C x.0) ≡ x.1
 
--- how far the running transmission after e has come
+-- the point that the running transmission after e has reached
 abbrev pub Running : ℕ → ℕ → List ℕ → Stage → Type 0
 Running C e ws Idle = Unit {0}
 Running C e ws (Begun d) = Lies C e d.before d.place d.end × (d.before < d.place) × (d.words ≡ [])
@@ -71,7 +71,7 @@ abbrev pub Fresh : ℕ → List Record → ℕ → ℕ → Type 0
 Fresh e all at next =
     ((r : Record) × (get_elem? all next ≡ some r) × (at ≡ r.place)) ⊎ ((all ≡ []) × (next ≡ 0) × (at ≡ e))
 
--- where a receiver is, and how its last copy relates to that place
+-- the place of a receiver, and the relation of its last copy to that place
 pub record Receives (e : ℕ) (sent all : List Record) (v : View) : Type 0 where
   pub before : Before e all v.at v.next
   pub climbs : v.from + v.count ≤ v.at
@@ -102,7 +102,7 @@ module _ (C now : ℕ) (sent : List Record) (at next : ℕ) where
   Loaded Behind = Next (λ r. at + C ≤ now)
   Loaded _ = ⊥
 
--- what the seat j with the view v knows, if the seat `by` is the transmitter's, with the view `mine`
+-- the knowledge of the seat j with the view v, if the seat `by` is the transmitter's and has the view `mine`
 abbrev pub Knows : ℕ → ℕ → ℕ → View → ℕ → View → Stage → Type 0
 Knows C e by mine j v Spent = Unit {0}
 Knows C e by mine j v Idle = j ≡ by
@@ -115,8 +115,8 @@ Knows C e by mine j v st = (v.capacity ≡ C) × Receives e mine.sent (with_late
 
 -- What was loaded ----------------------------------------------------------
 
--- A counter is not above the present one. A word is that of each position there below the tail seen, or the intent has
--- passed that
+-- The value of a counter is not above the present one. A word of the buffer is the word of each position there that is
+-- below the tail that was seen, or the intent has passed that position.
 abbrev pub LoadOk : ℕ → ℕ → List Record → Stage → Load → Type 0
 LoadOk C e sent st (Intent x) = x ≤ intent e sent st
 LoadOk C e sent st (Tail x) = x ≤ end_of e sent
@@ -137,8 +137,8 @@ pub record IsLawful (C e : ℕ) : Type 0 where
   pub whole : C % 64 ≡ 0
   pub aligned : e % C ≡ 0
 
--- The words of a broadcast buffer that began at e: they show the transmitted list and the transmission that is being
--- made. A word of the list stays what it was as long as the intent says so
+-- The words of a broadcast buffer that began at e. They show the transmitted list and the transmission that is being
+-- made. A word of the list stays the same until the intent has passed it.
 pub record IsMemory (C e : ℕ) (sent : List Record) (st : Stage) (words : List ℕ) : Type 0 where
   pub wide : length words ≡ board_words C
   pub chain : Chain C e sent
@@ -152,13 +152,13 @@ pub record IsMemory (C e : ℕ) (sent : List Record) (st : Stage) (words : List 
   pub running : Running C (end_of e sent) words st
   pub exact : (i : ℕ) → i < C / 8 → slice_index words i ≡ last_at C (so_far sent st) i 0
 
--- what the seat j knows, copied and loaded
+-- the knowledge of the seat j, with its copies and its loads
 pub record IsSeat (C e by : ℕ) (mine : View) (j : ℕ) (v : View) : Type 0 where
   pub knows : Knows C e by mine j v v.stage
   pub copies : AreRuns mine.sent v.from v.copies
   pub log : Logged C e mine.sent mine.stage v.log
 
--- the views of all seats. The seat `by` is the transmitter's, and `mine` its view
+-- The views of all seats. The seat `by` is the transmitter's, and `mine` is its view.
 pub record IsSeated (C e by : ℕ) (mine : View) (views : List View) : Type 0 where
   pub here : get_elem? views by ≡ some mine
   pub capacity : mine.capacity ≡ C

@@ -1,4 +1,4 @@
--- What clauses say of broadcast buffers, transmitters and receivers.
+-- The words of clauses for broadcast buffers, transmitters and receivers.
 use Rattle.std.specs.Prelude.{◌≡◌, ℕ, ℤ, List, [], length, Option, Result, MatchResult, MatchOption}
 use mathlib.Core.Option.{some}
 use lib.ListN.{get_elem?}
@@ -35,13 +35,13 @@ IsSameSeat old new = (new.table_id ≡ old.table_id) × (new.id ≡ old.id)
 abbrev pub capacity_of : Board → ℕ
 capacity_of board = board.capacity
 
--- the position at which it began
+-- the position at which a broadcast buffer began
 abbrev pub start_of : Board → ℕ
 start_of board = board.table.shared.key.start
 
 -- The transmitter ----------------------------------------------------------
 
--- what the transmitter knows: the transmitted list is its part `sent`
+-- the view of the transmitter, whose part `sent` is the transmitted list
 abbrev pub view_of : Transmitter → View
 view_of t = t.seat.me.0
 
@@ -58,7 +58,7 @@ IsViewOf board v = (v.capacity ≡ board.capacity) × (v.start ≡ board.table.s
 abbrev pub IsTransmitterOf : Board → Transmitter → Type 0
 IsTransmitterOf board t = (t.seat.table_id ≡ board.table.shared.table_id) × IsViewOf board t.seat.me.0
 
--- a broadcast buffer of this capacity with its transmitter, which begins at this start
+-- a new broadcast buffer of this capacity with its transmitter, which begins at this start
 abbrev pub IsNewAt : ℕ → ℕ → Board × Transmitter → Type 0
 IsNewAt capacity start made =
     IsTransmitterOf made.0 made.1 × (view_of made.1 ≡ opening_view capacity start) × (tail_of made.1 ≡ start)
@@ -116,7 +116,7 @@ refused_with t reason = record { reason = reason; transmitter = t }
 abbrev pub IsRawOf : Board → Receiver → Type 0
 IsRawOf board r = (r.seat.table_id ≡ board.table.shared.table_id) × IsViewOf board r.seat.me.0
 
--- what the receiver knows, with the slots of its seat, which has none
+-- the view of the receiver, with the slots of its seat, of which there are none
 abbrev pub raw_seat : Receiver → Sat
 raw_seat r = r.seat.me
 
@@ -129,14 +129,14 @@ pub record IsAnsweredRecord (v : View) (r : RawRecord) : Type 0 where
       × (c.message.type_id ≡ r.type_id) × (length c.message.body ≡ r.len)
   pub inside : IsInBuffer v.capacity r
 
--- what a call of `receive_next` returned and did
+-- the result and the effect of a call of `receive_next`
 abbrev pub ReceivedNext : Receiver → Receiver → Result (Option RawRecord) Lapped → Type 0
 ReceivedNext old new result = MatchResult result
     (λ o. MatchOption o (GotNothing (raw_seat old) (raw_seat new))
     (λ r. GotRecord r (raw_seat old) (raw_seat new) × IsAnsweredRecord (raw_view new) r))
     (λ l. GotLapped l (raw_seat old) (raw_seat new))
 
--- what the receiver returned stays returned
+-- the records that the receiver returned stay returned
 abbrev pub StaysAnswered : Receiver → Receiver → Type 0
 StaysAnswered old new = (r : RawRecord) → IsAnsweredRecord (raw_view old) r → IsAnsweredRecord (raw_view new) r
 
@@ -160,7 +160,7 @@ receiver_seat r = raw_seat r.receiver
 abbrev pub receiver_view : CopyReceiver → View
 receiver_view r = raw_view r.receiver
 
--- what a call of `receive` returned and did
+-- the result and the effect of a call of `receive`
 abbrev pub Received : CopyReceiver → CopyReceiver → Result (Option Copied) Lapped → Type 0
 Received old new result = MatchResult result
     (λ o. MatchOption o (GotNothing (receiver_seat old) (receiver_seat new))

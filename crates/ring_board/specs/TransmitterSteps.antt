@@ -1,4 +1,4 @@
--- What each step of the transmitter shows its seat.
+-- The views that each step of the transmitter shows its seat.
 use Rattle.std.specs.Prelude.{◌≡◌, ℕ, ◌+◌, ◌≤◌, if◌then◌else◌, nat_lt, nat_le, List, [], ◌∷◌, ◌++◌, pos}
 use Rattle.ring_layout.specs.Places.{room, max_position}
 use Rattle.ring_layout.specs.Refusals.{all_shares}
@@ -11,7 +11,7 @@ use Rattle.ring_board.specs.Records.{end, last_of, message_in}
 use Rattle.ring_board.specs.Runs.{AreRuns}
 use Rattle.ring_board.specs.Views.{Sat, at_stage}
 
--- the place of what comes next after e and ends at z
+-- the place of the record that comes next after e and ends at z
 abbrev pub place_before : ℕ → ℕ → ℕ → ℕ
 place_before C e z = if nat_le z (e + room C e) then e else e + room C e
 
@@ -21,7 +21,7 @@ draft b p z ws = record { before = b; place = p; end = z; words = ws }
 abbrev pub drafted : Draft → Stage
 drafted d = if nat_lt d.before d.place then Begun d else Storing d
 
--- a transmission begins that is to end at z
+-- a transmission begins that will end at z
 abbrev pub after_intent : View → ℕ → View
 after_intent v z = at_stage v (drafted (draft v.at (place_before v.capacity v.at z) z []))
 
@@ -44,7 +44,7 @@ abbrev pub after_header : Stage → ℕ → Stage
 after_header (Storing d) x = Written (with_entry d x)
 after_header st x = st
 
--- the record that is written and not sent, if there is one
+-- the record that is written and not yet sent, if there is one
 abbrev pub record_at : Stage → Record
 record_at (Written r) = r
 record_at (Shown r) = r
@@ -54,7 +54,7 @@ abbrev pub after_latest : Stage → Stage
 after_latest (Written r) = Shown r
 after_latest st = st
 
--- the transmitter's view once this record is sent
+-- the transmitter's view after this record was sent
 abbrev pub sent_on : View → Record → View
 sent_on v r = record v { stage = Idle; at = end r; sent = v.sent ++ r ∷ [] }
 
@@ -80,7 +80,7 @@ StoresLatest m x m' = m' ≡ (at_stage m.0 (after_latest m.0.stage), m.1)
 abbrev pub StoresTail : Sat → ℕ → Sat → Type 0
 StoresTail m x m' = m' ≡ (after_tail m.0 m.0.stage, m.1)
 
--- what the transmitter learns by a load of latest
+-- the effect of a load of latest by the transmitter
 abbrev pub Learns : Sat → ℕ → Sat → Type 0
 Learns m x m' = (m' ≡ m) × (x ≡ last_of m.0.start m.0.sent) × AreRuns m.0.sent m.0.from m.0.copies
     × (m.0.shares ≤ all_shares) × (x ≤ max_position)

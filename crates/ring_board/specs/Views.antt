@@ -1,4 +1,4 @@
--- What each seat knows, and how it is cut in two or put together.
+-- The views of seats, and their changes when a seat is split or two seats are joined.
 use Rattle.std.specs.Prelude.{ℕ, ◌+◌, ◌-◌, List, [], ◌∷◌, ◌++◌, length}
 use Rattle.atomic_table.specs.Table.{Me}
 use Rattle.ring_board.specs.declared.shared.view.Load.TheVariants.{Word, Intent, Tail, Latest}
@@ -9,7 +9,7 @@ use Rattle.ring_board.specs.declared.shared.view.Load.{Load}
 use Rattle.ring_board.specs.declared.shared.view.Stage.{Stage}
 use Rattle.ring_board.specs.Records.{last_of}
 
--- a seat's view, and its slots, of which a broadcast buffer has none
+-- a seat's view and its slots (a broadcast buffer has no slots)
 abbrev pub Sat : Type 0
 Sat = Me (Unit {0}) View
 
@@ -41,7 +41,7 @@ view_shares v = v.shares
 abbrev pub fewer : View → View
 fewer v = record v { shares = v.shares - 1 }
 
--- a receiver at latest
+-- the view of a new receiver at latest
 abbrev pub newcomer : View → View
 newcomer v = let p = last_of v.start v.sent in
     record {
@@ -60,11 +60,11 @@ newcomer v = let p = last_of v.start v.sent in
       heard = [];
     }
 
--- a receiver with this view, as it is known once it was joined
+-- a receiver with this view, as the transmitter knows it after the join
 abbrev pub as_joined : View → Joined
 as_joined u = record { from = u.from; copies = u.copies }
 
--- the transmitter takes back a receiver's share, and has its copies
+-- the transmitter takes back a receiver's share and has its copies
 abbrev pub joined : View → View → View
 joined v u =
     record v { shares = v.shares + u.shares; from = u.from; copies = u.copies; heard = v.heard ++ as_joined u ∷ [] }

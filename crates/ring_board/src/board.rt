@@ -25,8 +25,9 @@ pub struct Board {
     ghost power: { IsTrue (is_power_of_two capacity) },
 }
 
-/// The one transmitter of a broadcast buffer. It is used by one thread at a time, and may move between threads. It
-/// begins with 65,536 shares, and gives one to each receiver; `close` needs all of them back.
+/// The one transmitter of a broadcast buffer. One thread at a time uses a transmitter. A transmitter may move between
+/// threads. A transmitter begins with 65,536 shares, and gives one share to each receiver. `close` needs all shares
+/// back.
 #[derive(Drop)]
 pub struct Transmitter {
     pub(crate) seat: BoardSeat,
@@ -38,8 +39,8 @@ pub struct Transmitter {
     ghost held: { (seat.me.0.shares ≡ shares) × (0 < shares) × (shares ≤ all_shares) },
 }
 
-/// A transmission whose intent is stored. It owns the transmitter. It is not `Drop`: a program that forgets one does not
-/// compile, since receivers are lapped by its intent though nothing is ever shown.
+/// A transmission whose intent is stored. It owns the transmitter. This type is not `Drop`, so a program that forgets a
+/// transmission does not compile. Otherwise receivers would be lapped by the intent, although nothing is ever shown.
 pub struct Begun {
     pub(crate) seat: BoardSeat,
     pub(crate) tail: u64,
@@ -56,7 +57,8 @@ pub struct Begun {
     ghost held: { (seat.me.0.shares ≡ shares) × (0 < shares) × (shares ≤ all_shares) },
 }
 
-/// A transmission whose record is stored, and not yet shown. It owns the transmitter. It is not `Drop`, like `Begun`.
+/// A transmission whose record is stored, but not yet shown. It owns the transmitter. Like `Begun`, this type is not
+/// `Drop`.
 pub struct Filled {
     pub(crate) seat: BoardSeat,
     pub(crate) place: u64,
@@ -83,7 +85,7 @@ pub struct ClosedBoard {
     ghost wide: { vec_len words ≡ capacity / 8 + 16 },
 }
 
-/// A receiver is out. Everything comes back unchanged.
+/// A broadcast buffer was not closed, since a receiver has a share. All arguments come back unchanged.
 #[derive(Drop)]
 pub struct BoardCloseRefused {
     pub reason: ReceiversOut,
@@ -91,9 +93,9 @@ pub struct BoardCloseRefused {
     pub transmitter: Transmitter,
 }
 
-/// A receiver that returns records unread. Their bodies are loaded and validated when its user asks. It is used by one
-/// thread at a time, and may move between threads. A dropped receiver keeps its share, so the broadcast buffer can
-/// never be closed.
+/// A receiver that returns records without their bodies. The bodies are loaded and validated when the user of the
+/// receiver asks for them. One thread at a time uses a receiver. A receiver may move between threads. A dropped
+/// receiver keeps its share, so the broadcast buffer can then never be closed.
 #[derive(Drop)]
 pub struct Receiver {
     pub(crate) seat: BoardSeat,
@@ -104,17 +106,17 @@ pub struct Receiver {
     ghost held: { seat.me.0.shares ≡ 1 },
 }
 
-/// A receiver that copies each message out and validates the copy. It is used by one thread at a time, and may move
-/// between threads. A dropped receiver keeps its share, so the broadcast buffer can never be closed.
+/// A receiver that copies each message and validates the copy. One thread at a time uses a receiver. A receiver may
+/// move between threads. A dropped receiver keeps its share, so the broadcast buffer can then never be closed.
 #[derive(Drop)]
 pub struct CopyReceiver {
-    // Seat, place and count are those of a raw receiver.
+    // The seat, the place and the count are those of a raw receiver.
     pub(crate) receiver: Receiver,
     pub(crate) scratch: Vec<u8>,
     ghost room: { vec_len scratch ≡ receiver.seat.me.0.capacity / 8 },
 }
 
-/// A record that a raw receiver returned unread.
+/// A record that a raw receiver returned without its body.
 #[derive(Clone, Copy, Debug, PartialEq, Eq)]
 pub struct RawRecord {
     pub(crate) place: u64,
@@ -122,7 +124,7 @@ pub struct RawRecord {
     pub(crate) len: usize,
 }
 
-/// A message that was copied. Its record is at `place`, in bytes.
+/// A message that was copied. The record of the message is at `place`, in bytes.
 #[derive(Clone, Copy, Debug)]
 pub struct Copied<'a> {
     pub place: u64,

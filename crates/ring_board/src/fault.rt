@@ -1,4 +1,4 @@
-//! Why a call refuses.
+//! The reasons why calls refuse.
 ghost use Rattle.std.specs.Prelude.{◌≡◌, pos};
 ghost use Rattle.ring_board.specs.Refusals.{subscribe_code, transmit_code};
 
@@ -7,22 +7,22 @@ use ring_layout::refusal_codes::{
 };
 use thiserror::Error;
 
-/// Why a message was not transmitted.
+/// The reason why a message was not transmitted.
 #[derive(Clone, Copy, Debug, PartialEq, Eq, Error)]
 pub enum TransmitFault {
     /// The type id is below 1.
     #[error("{} BadType {type_id}", self.code())]
     BadType { type_id: i32 },
-    /// The body has more than an eighth of the capacity, in bytes.
+    /// The body has more bytes than an eighth of the capacity.
     #[error("{} TooLong {len} max {max}", self.code())]
     TooLong { len: usize, max: u32 },
-    /// The record would end above 2^62. `tail` is the transmitter's.
+    /// The record would end above 2^62. `tail` is the tail of the transmitter.
     #[error("{} PositionLimit tail {tail}", self.code())]
     PositionLimit { tail: u64 },
 }
 
 impl TransmitFault {
-    /// The number of the refusal.
+    /// Returns the number of the refusal.
     pub fn code(self) -> i32
         ensures { result ≡ transmit_code self }
     {
@@ -34,7 +34,7 @@ impl TransmitFault {
     }
 }
 
-/// Why a copying receiver was not made.
+/// The reason why a copying receiver was not made.
 #[derive(Clone, Copy, Debug, PartialEq, Eq, Error)]
 pub enum SubscribeFault {
     /// The transmitter has one share left, and needs it.
@@ -46,7 +46,7 @@ pub enum SubscribeFault {
 }
 
 impl SubscribeFault {
-    /// The number of the refusal.
+    /// Returns the number of the refusal.
     pub fn code(self) -> i32
         ensures { result ≡ subscribe_code self }
     {
@@ -57,8 +57,8 @@ impl SubscribeFault {
     }
 }
 
-/// The receiver was lapped: for the `count`-th time, at `place`, as `intent` showed. The bytes that it passed over are
-/// its own `place` after the call less this one.
+/// The receiver was lapped for the `count`-th time, at `place`. The intent `intent` showed this. The receiver missed as
+/// many bytes as its own `place` after the call is above this `place`.
 #[derive(Clone, Copy, Debug, PartialEq, Eq, Error)]
 #[error("{} Lapped {count} place {place} intent {intent}", self.code())]
 pub struct Lapped {
@@ -68,7 +68,7 @@ pub struct Lapped {
 }
 
 impl Lapped {
-    /// The number of the refusal.
+    /// Returns the number of the refusal.
     pub fn code(self) -> i32
         ensures { result ≡ pos 13 }
     {
@@ -84,7 +84,7 @@ pub struct ReceiversOut {
 }
 
 impl ReceiversOut {
-    /// The number of the refusal.
+    /// Returns the number of the refusal.
     pub fn code(self) -> i32
         ensures { result ≡ pos 14 }
     {

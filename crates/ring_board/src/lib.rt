@@ -1,11 +1,14 @@
-//! A broadcast buffer: one transmitter that never waits, and receivers that learn when they missed something.
+//! A broadcast buffer. It has one transmitter, which never waits, and receivers, which learn when they missed
+//! something.
 //!
-//! - `board`: a broadcast buffer, its transmitter and its receivers. `open`: how it is made and closed.
-//! - `transmitter`: the transmitter's calls and steps. `receiver`: `next_record` finds and copies the next record
-//!   (`found`), for the calls of `copying` and `raw` receivers. `seat`: how receivers are made and taken back.
-//! - `shared`: what each seat knows (`view`), the rule between any two steps (`rule`), what each kind of step says
-//!   (`plays`, by role), and a function for each that is not the transmitter's (`steps`, in files of the same names).
-//! - `fault`: why calls refuse. `laws`: what stays true while others go on.
+//! - `board`: a broadcast buffer, its transmitter and its receivers. `open` makes and closes it.
+//! - `transmitter`: the calls and steps of the transmitter. `receiver`: the calls of receivers. `next_record` finds and
+//!   copies the next record (`found`), for the calls of `copying` and `raw` receivers. `seat` makes receivers and takes
+//!   them back.
+//! - `shared`: the words that threads share. `view` has what each seat knows, `rule` has the rule between any two
+//!   steps, and `plays` has what each kind of step says. `steps` has a function for each step that is not the
+//!   transmitter's.
+//! - `fault`: the reasons why calls refuse. `laws`: laws of what stays true while others go on.
 #![tactic(auto)]
 
 mod board;

@@ -1,4 +1,4 @@
-//! How a broadcast buffer is made and closed.
+//! The calls that make and close a broadcast buffer.
 ghost use Rattle.std.specs.Prelude.{◌≡◌, ℕ, ◌+◌, ◌/◌, ◌%◌, ◌<◌, ◌≤◌, [], slice_index, slice_get, vec_len, IfOk};
 ghost use Rattle.std.specs.Slots.{slots_items, slots_len, IsFull};
 ghost use Rattle.ring_layout.specs.Places.{is_board_capacity, max_position, IsBoardCapacity};
@@ -32,7 +32,7 @@ fn copy_words(closed: &Closed<(), Global>, words: &mut Vec<u64>)
 }
 
 impl Board {
-    /// Makes a broadcast buffer that starts at position 0, with its transmitter, which holds all shares. The errors are
+    /// Makes a broadcast buffer that starts at position 0, and its transmitter, which holds all shares. The errors are
     /// those of `new_at`.
     pub fn new(alloc: Global, capacity: u32) -> Result<(Board, Transmitter), MakeFault>
         ensures transmitted { IfOk result (λ made. transmitted made.1 ≡ []) }
@@ -43,9 +43,11 @@ impl Board {
         Board::new_at(alloc, capacity, 0)
     }
 
-    /// Makes a broadcast buffer that starts at this position, with its transmitter, which holds all shares. Returns, in
-    /// this order: `BadCapacity` if the capacity is not a power of two from 256 to 2^24; `BadStart` if the start is not
-    /// a multiple of the capacity or is above 2^62; `OutOfMemory`.
+    /// Makes a broadcast buffer that starts at this position, and its transmitter, which holds all shares. These are
+    /// the errors, in this order:
+    /// - `BadCapacity` if the capacity is not a power of two from 256 to 2^24;
+    /// - `BadStart` if the start is not a multiple of the capacity, or is above 2^62;
+    /// - `OutOfMemory`.
     pub fn new_at(
         alloc: Global,
         capacity: u32,
@@ -87,22 +89,22 @@ impl Board {
         Ok((board, transmitter))
     }
 
-    /// The bytes of the buffer.
+    /// Returns the number of bytes of the buffer.
     pub fn capacity(&self) -> u32
         ensures { result ≡ capacity_of self.now }
     {
         self.capacity
     }
 
-    /// The most bytes of a message: an eighth of the capacity.
+    /// Returns the number of bytes of the longest message, which is an eighth of the capacity.
     pub fn max_message(&self) -> u32
         ensures { result ≡ capacity_of self.now / 8 }
     {
         max_message(self.capacity)
     }
 
-    /// Takes the broadcast buffer apart, once all receivers are back. Returns `ReceiversOut` with the number of shares
-    /// that are elsewhere; buffer and transmitter then come back unchanged.
+    /// Takes the broadcast buffer apart, after all receivers were taken back. Returns `ReceiversOut` with the number of
+    /// shares that receivers have. The buffer and the transmitter then come back unchanged.
     pub fn close(self, transmitter: Transmitter) -> Result<ClosedBoard, BoardCloseRefused>
         requires { IsTransmitterOf self transmitter }
         ensures runs { IfOk result (λ _. AreAllRuns (transmitted transmitter) (heard_by transmitter)) }
@@ -122,9 +124,10 @@ impl Board {
         Ok(self.rescue(transmitter))
     }
 
-    /// Takes the broadcast buffer apart with its transmitter alone, however many receivers are still out or were lost.
-    /// The transmitter's list and the words that show it are whole, and so are the copies of the receivers that were
-    /// joined. This call refuses nothing. The value of the buffer shows that no thread is still inside a call on it.
+    /// Takes the broadcast buffer apart with its transmitter alone, even if receivers have shares or were lost. The
+    /// transmitter's list is whole, and so are the words that show it. The copies of the receivers that were joined are
+    /// whole too. This call refuses nothing. The call takes the buffer by value. So no thread is still inside a call on
+    /// the buffer.
     pub fn rescue(self, transmitter: Transmitter) -> ClosedBoard
         requires { IsTransmitterOf self transmitter }
         ensures runs { AreAllRuns (transmitted transmitter) (heard_by transmitter) }
@@ -149,7 +152,7 @@ impl Board {
 }
 
 impl ClosedBoard {
-    /// The intent: the tail.
+    /// Returns the intent, which is equal to the tail.
     pub fn intent(&self) -> u64
         ensures { result ≡ slice_index (closed_words self.now) (intent_index (closed_capacity self.now)) }
     {

@@ -1,4 +1,4 @@
-//! What receivers do.
+//! The calls of receivers.
 pub(crate) mod copying;
 pub(crate) mod found;
 pub(crate) mod next_record;

@@ -1,5 +1,5 @@
-//! The transmitter's calls, and its steps: each of these is one store, or the load of latest by which it learns of a
-//! receiver.
+//! The calls and the steps of the transmitter. Each step is one store, or the load of latest by which the transmitter
+//! learns of a receiver.
 ghost use Rattle.std.specs.Prelude.{◌≡◌, ℕ, ◌+◌, ◌-◌, ◌*◌, ◌/◌, ◌%◌, ◌^◌, ◌<◌, ◌≤◌, pos, ◌≤ℤ◌, [], ◌∷◌, ◌++◌, length};
 ghost use Rattle.std.specs.Prelude.{IfOk, OnOk, OnErr};
 ghost use Rattle.ring_layout.specs.declared.message.Message.{Message};
@@ -36,7 +36,7 @@ use ring_layout::{
 };
 
 impl Transmitter {
-    /// Returns the position, in bytes, at which its last transmission ended, or the start if there was none.
+    /// Returns the position, in bytes, at which the last transmission ended, or the start if there was none.
     pub fn tail(&self) -> u64
         ensures tail { result ≡ tail_of self.now }
         ensures end { result ≡ end_of (view_of self.now).start (transmitted self.now) }
@@ -44,7 +44,7 @@ impl Transmitter {
         self.tail
     }
 
-    /// Returns the number of shares that it holds.
+    /// Returns the number of shares that the transmitter holds.
     pub fn shares(&self) -> u32
         ensures { result ≡ shares_of self.now }
     {
@@ -53,7 +53,7 @@ impl Transmitter {
 }
 
 impl Board {
-    /// Returns where the next record after a tail goes, or why it can't be transmitted.
+    /// Returns the place of the next record after a tail, or the reason why it cannot be transmitted.
     fn admit(&self, tail: u64, type_id: i32, len: usize) -> Result<Admission, TransmitFault>
         requires { tail ≤ max_position }
         ensures refused { IsRefusedBy (transmit_refusal_of self.now.capacity tail type_id len) result }
@@ -89,7 +89,7 @@ impl Board {
         }
     }
 
-    /// Stores a record after its padding: the body, and then its header.
+    /// Stores a record after its padding. Stores first the body, and then the header.
     fn store_record(&self, seat: &mut BoardSeat, tail: u64, place: u64, type_id: i32, body: &[u8])
         requires seat { IsSeatOf self.now seat.old }
         requires stage { seat.old.me.0.stage ≡ drafted (draft tail place (place + span (length body.now)) []) }
@@ -118,7 +118,7 @@ impl Board {
         self.store_tail(seat, tail);
     }
 
-    /// Tests whether a message of this type id and length would be transmitted now. The errors are those of `transmit`.
+    /// Tests whether a message of this type id and length can be transmitted now. The errors are those of `transmit`.
     /// Nothing changes.
     pub fn check(
         &self,
@@ -133,9 +133,13 @@ impl Board {
         Ok(())
     }
 
-    /// Transmits a message: appends it to the list that receivers read. It never waits. Returns, in this order:
-    /// `BadType` if the type id is below 1; `TooLong` if the body has more than an eighth of the capacity in bytes;
-    /// `PositionLimit` if the record would end above 2^62. After an error nothing has changed.
+    /// Transmits a message, which is then in the list that receivers read. The call never waits. These are the errors,
+    /// in this order:
+    /// - `BadType` if the type id is below 1;
+    /// - `TooLong` if the body has more bytes than an eighth of the capacity;
+    /// - `PositionLimit` if the record would end above 2^62.
+    ///
+    /// After an error nothing has changed.
     pub fn transmit(
         &self,
         transmitter: &mut Transmitter,
@@ -163,8 +167,8 @@ impl Board {
         Ok(())
     }
 
-    /// Begins a transmission of `len` bytes, and stores its intent. The errors are those of `transmit`, and return the
-    /// transmitter.
+    /// Begins a transmission of `len` bytes, and stores its intent. The errors are those of `transmit`. Each error
+    /// returns the transmitter.
     pub fn begin(
         &self,
         transmitter: Transmitter,
@@ -204,7 +208,7 @@ impl Board {
         })
     }
 
-    /// Stores padding, body and header of a transmission that was begun with this length.
+    /// Stores the padding, the body and the header of a transmission that was begun with this length.
     pub fn fill(&self, begun: Begun, body: &[u8]) -> Filled
         requires board { IsBegunOf self.now begun }
         requires len { length body.now ≡ begun_len begun }
@@ -256,8 +260,8 @@ impl Board {
 }
 
 impl Begun {
-    /// Leaves the transmission unfinished for good, on purpose, and gives its transmitter up with it. Nothing more can
-    /// then be transmitted, and the broadcast buffer can never be closed.
+    /// Leaves the transmission unfinished for good, on purpose, and gives up its transmitter. Nothing more can then be
+    /// transmitted, and the broadcast buffer can never be closed.
     pub fn leak(self) {
         let Begun {
             seat: _,
@@ -284,7 +288,7 @@ impl Filled {
 }
 
 impl Board {
-    /// Stores the intent: a transmission begins that will end at `end`.
+    /// Stores the intent of a transmission that will end at `end`.
     pub(crate) fn store_intent(&self, seat: &mut BoardSeat, end: u64)
         requires seat { IsSeatOf self.now seat.old }
         requires idle { seat.old.me.0.stage ≡ Idle }
@@ -339,7 +343,7 @@ impl Board {
             .store::<StoreHeader>(seat, self.index(place), word);
     }
 
-    /// Stores latest: receivers that subscribe or are lapped go to this record.
+    /// Stores latest. Receivers that subscribe or are lapped go to this record.
     pub(crate) fn store_latest(&self, seat: &mut BoardSeat, place: u64)
         requires seat { IsSeatOf self.now seat.old }
         requires stage { (r : Record) × (seat.old.me.0.stage ≡ Written r) × (place ≡ r.place) }
@@ -351,7 +355,7 @@ impl Board {
             .store::<StoreLatest>(seat, self.trailer_index(LATEST_COUNTER_WORD), place);
     }
 
-    /// Stores the tail: the record is transmitted.
+    /// Stores the tail. The record is then transmitted.
     pub(crate) fn store_tail(&self, seat: &mut BoardSeat, tail: u64)
         requires seat { IsSeatOf self.now seat.old }
         requires stage { (r : Record) × (seat.old.me.0.stage ≡ Shown r) × (tail ≡ end r) }
@@ -380,7 +384,7 @@ impl Board {
         }
     }
 
-    /// Loads latest for the transmitter, which learns of a receiver that it took in.
+    /// Loads latest for the transmitter. By this load it learns of a receiver that it took back.
     pub(crate) fn learn(&self, seat: &mut BoardSeat) -> u64
         requires seat { IsSeatOf self.now seat.old }
         requires stage { seat.old.me.0.stage ≡ Idle }

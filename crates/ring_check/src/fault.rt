@@ -1,10 +1,10 @@
-//! Why nothing was judged.
+//! The reasons why nothing was judged.
 use ring_judge::{BadLine, LineFault};
 use std::alloc::{AllocError, AllocFailed};
 use std::io::ErrorKind;
 use thiserror::Error;
 
-/// Why nothing was judged.
+/// The reason why nothing was judged.
 #[derive(Clone, Copy, Debug, Error)]
 pub enum CheckFault<'a> {
     /// The file cannot be read.
@@ -32,7 +32,7 @@ pub enum CheckFault<'a> {
 }
 
 impl<'a> CheckFault<'a> {
-    /// The fault of a line. Out of memory is no fault of a line.
+    /// Returns the fault of a line. Out of memory is not a fault of a line.
     pub fn of_line(file: &'a str, bad: BadLine) -> Self {
         let BadLine { line, fault } = bad;
         match fault {
@@ -41,7 +41,7 @@ impl<'a> CheckFault<'a> {
         }
     }
 
-    /// The fault of a file.
+    /// Returns the fault of a file.
     pub fn of_file(file: &'a str, kind: ErrorKind) -> Self {
         let reason = match kind {
             ErrorKind::NotFound => "no such file",

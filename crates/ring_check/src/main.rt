@@ -1,5 +1,5 @@
-//! Judges a recorded run of a ring or a queue: reads the file with it, and says whether some history explains the run,
-//! or which line none explains.
+//! Judges a recorded run of a ring or a queue. The program reads the file with the run. It prints whether some history
+//! explains the run, or which line no history explains.
 #![tactic(auto)]
 
 mod fault;
@@ -34,13 +34,13 @@ fn main(rt: HostRuntime) -> ExitCode {
     }
 }
 
-/// Prints why nothing was judged.
+/// Prints the reason why nothing was judged.
 fn failed(rt: &impl Eprint, fault: CheckFault<'_>) -> ExitCode {
     let _ = eprintln!(rt; "ring-check: {fault}");
     ExitCode::from(FAULT)
 }
 
-/// The words of the command line.
+/// Returns the words of the command line.
 fn words_of<R: AllocGlobal + Env>(rt: &R) -> Result<Vec<String>, CheckFault<'static>> {
     match env::args(rt) {
         Ok(arguments) => Ok(arguments.collect(rt.alloc())?),
@@ -63,7 +63,7 @@ fn run<'a, R: AllocGlobal + Files + Input + Print + Eprint>(
     }
 }
 
-/// Judges the run in a file, and prints the verdict. The status is 0 for a yes and 1 for a no.
+/// Judges the run in a file, and prints the verdict. The status is 0 for a yes, and 1 for a no.
 fn judge_file<'a, R: AllocGlobal + Files + Input + Print>(
     rt: &R,
     options: Options<'a>,
@@ -118,7 +118,7 @@ fn broadcast_report<'a>(
     Ok(Report::of_broadcast(alloc, text, lines.as_slice(), verdict)?)
 }
 
-/// The bytes of a file; `-` is standard input.
+/// Returns the bytes of a file. The name `-` is standard input.
 fn bytes_of<'a, R: AllocGlobal + Files + Input>(
     rt: &R,
     file: &'a str,

@@ -3,7 +3,7 @@ use crate::help;
 use clap::{Arg, ArgAction, Command, Error};
 use std::alloc::Global;
 
-/// What is printed.
+/// The format of the output.
 #[derive(Clone, Copy)]
 pub enum Format {
     Table,
@@ -13,7 +13,7 @@ pub enum Format {
 /// A command line that was taken.
 #[derive(Clone, Copy)]
 pub struct Options<'a> {
-    /// The file with the run; `-` is standard input.
+    /// The file with the run. The name `-` is standard input.
     pub file: &'a str,
     pub format: Format,
 }

@@ -1,11 +1,11 @@
-//! A verdict with what the run has, as a table and as JSON.
+//! A verdict with the counts of the run, as a table and as JSON.
 use crate::{why_broadcast, why_queue};
 use ring_judge::{BroadcastLine, QueueLine, ReceiverEvent, Verdict};
 use serde_json::{Map, Value, put};
 use std::alloc::{AllocError, Global};
 use std::fmt::Write;
 
-/// How many lines of each kind a run has.
+/// The number of lines of each kind in a run.
 #[derive(Clone, Copy)]
 enum Counts {
     Queue {
@@ -23,13 +23,13 @@ enum Counts {
 /// A line that no history explains.
 #[derive(Drop)]
 struct Unexplained {
-    /// Its number, counted from 1.
+    /// The number of the line, counted from 1.
     line: u64,
     text: String,
     reason: String,
 }
 
-/// A verdict with what the run has.
+/// A verdict with the counts of the run.
 #[derive(Drop)]
 pub struct Report {
     counts: Counts,
@@ -79,7 +79,7 @@ fn broadcast_counts(lines: &[BroadcastLine]) -> Counts {
     }
 }
 
-/// The text of the line at this index.
+/// Returns the text of the line at this index.
 fn text_of(alloc: Global, text: &[u8], at: usize) -> Result<String, AllocError> {
     for (index, line) in text.split(|letter| *letter == b'\n').enumerate() {
         if index == at {
@@ -101,7 +101,7 @@ impl Unexplained {
 }
 
 impl Report {
-    /// The report of a run of a queue, from its text, its lines and the verdict.
+    /// Returns the report of a run of a queue, from its text, its lines and the verdict.
     pub fn of_queue(
         alloc: Global,
         text: &[u8],
@@ -121,7 +121,7 @@ impl Report {
         })
     }
 
-    /// The report of a run of a broadcast buffer, from its text, its lines and the verdict.
+    /// Returns the report of a run of a broadcast buffer, from its text, its lines and the verdict.
     pub fn of_broadcast(
         alloc: Global,
         text: &[u8],
@@ -141,12 +141,12 @@ impl Report {
         })
     }
 
-    /// Whether the verdict is yes.
+    /// Tests whether the verdict is yes.
     pub fn is_yes(&self) -> bool {
         self.unexplained.is_none()
     }
 
-    /// The verdict, and then how many lines of each kind the run has.
+    /// Returns a table with the verdict, and with the number of lines of each kind.
     pub fn to_table(&self, alloc: Global) -> Result<String, AllocError> {
         let mut text = String::new(alloc);
         match &self.unexplained {
@@ -183,7 +183,7 @@ impl Report {
         Ok(text)
     }
 
-    /// The same as an object of JSON. `line`, `text` and `reason` are `null` after a yes.
+    /// Returns the same report as an object of JSON. `line`, `text` and `reason` are `null` after a yes.
     pub fn to_json(&self, alloc: Global, file: &str) -> Result<String, AllocError> {
         let mut object = Map::new(alloc);
         let verdict = if self.is_yes() { "yes" } else { "no" };

@@ -1,8 +1,8 @@
-//! Why a line of a queue cannot be, in words.
+//! The reasons, in words, why a line of a queue cannot be.
 use ring_judge::{Message, QueueLine};
 use std::alloc::{AllocError, Global};
 
-/// How many messages of a producer the consumer was shown in these lines.
+/// Returns how many messages of a producer the consumer was shown in these lines.
 fn shown_of(lines: &[QueueLine], producer: u16) -> usize {
     let mut count: usize = 0;
     for line in lines {
@@ -15,7 +15,7 @@ fn shown_of(lines: &[QueueLine], producer: u16) -> usize {
     count
 }
 
-/// The message that a producer sent after this many others.
+/// Returns the message that a producer sent after this many others.
 fn sent_after(lines: &[QueueLine], producer: u16, others: usize) -> Option<Message> {
     let mut left = others;
     for line in lines {
@@ -31,7 +31,7 @@ fn sent_after(lines: &[QueueLine], producer: u16, others: usize) -> Option<Messa
     None
 }
 
-/// The first message that was accepted and is not among those shown.
+/// Returns the first message that was accepted and is not among those shown.
 fn first_left(lines: &[QueueLine]) -> Option<Message> {
     for line in lines {
         if let QueueLine::Sent(message) = line
@@ -44,7 +44,7 @@ fn first_left(lines: &[QueueLine]) -> Option<Message> {
     None
 }
 
-/// Why the line at this index cannot be.
+/// Returns the reason why the line at this index cannot be.
 pub fn reason(alloc: Global, lines: &[QueueLine], at: usize) -> Result<String, AllocError> {
     let before = lines.get(..at).unwrap_or(lines);
     match lines.get(at) {

@@ -1,4 +1,4 @@
-//! The conductor and its storms under one name: all public items of `ring_service` and of `ring_storm`.
+//! The conductor and its storms under one name. The crate has all public items of `ring_service` and of `ring_storm`.
 //!
 //! - `Command`, `Reply`, `Client`, `Conductor`, `finish` and `whole_run` are of `ring_service`.
 //! - `storm`, `StormPlan`, `StormReport`, `Gate` and `OpenGate` are of `ring_storm`.

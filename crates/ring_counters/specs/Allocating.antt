@@ -3,7 +3,7 @@ use Rattle.ring_counters.specs.declared.records.wanted.Wanted.{Wanted}
 use Rattle.ring_counters.specs.Counter.{Counter}
 use Rattle.ring_counters.specs.Registry.{AreShort, new_counter}
 
--- key and label keep their limits
+-- the key and the label keep their limits
 abbrev pub HasShortTexts : Wanted → Type 0
 HasShortTexts w = AreShort w.key.now w.label.now
 

@@ -1,4 +1,4 @@
--- How many ids allocations can give, and whether a value is the expected one.
+-- The number of ids that allocations can give, and the test of whether a value is the expected one.
 use Rattle.std.specs.Prelude.{ℕ, ◌+◌, Bool, ℤ, count_by}
 use Rattle.std.specs.Ordering.{int_eq}
 use Rattle.ring_counters.specs.Registry.{Registry, is_due, is_unused, status_at, value_at}

@@ -1,9 +1,9 @@
--- What the two records of a counter say, and their words.
+-- The two records of a counter, and their words.
 use Rattle.std.specs.Prelude.{ℕ, ◌+◌, ◌-◌, ◌*◌, ◌^◌, ◌==◌, nat_lt, if◌then◌else◌, ℤ, pos, negsuc, List, [], ◌++◌, length, replicate}
 use Rattle.std.specs.Int.{cast_unsigned, to_le_bytes, w32, w64}
 use Rattle.ring_layout.specs.Bytes.{word_of_bytes}
 
--- a freed counter's id may be allocated again from a moment on
+-- the status of a counter, with the moment from which the id of a freed counter may be allocated again
 pub data Status : Type 0 where
   Unused : Status
   Allocated : Status
@@ -25,7 +25,7 @@ pub record Counter : Type 0 where
   pub metadata : Metadata
   pub values : Values
 
--- n bytes: these, and zeros after them
+-- n bytes, which are these bytes and zeros after them
 abbrev pub zero_padded : ℕ → List ℕ → List ℕ
 zero_padded n bytes = bytes ++ replicate (n - length bytes) 0
 
@@ -48,7 +48,7 @@ deadline_of Unused = 0
 deadline_of Allocated = 2 ^ 63 - 1
 deadline_of (Reclaimed deadline) = deadline
 
--- the state in the low half, the type id in the high half, both as patterns of 32 bits
+-- the word that has the state in the low half and the type id in the high half, both as patterns of 32 bits
 abbrev pub state_word : ℤ → ℤ → ℕ
 state_word state type_id = cast_unsigned w32 type_id * 2 ^ 32 + cast_unsigned w32 state
 

@@ -1,9 +1,9 @@
--- What a listing says of the counters.
+-- The records of counters in a listing.
 use Rattle.std.specs.Prelude.{◌≡◌, ℕ, List, [], ◌∷◌}
 use Rattle.ring_counters.specs.declared.info.CounterInfo.{CounterInfo}
 use Rattle.ring_counters.specs.Counter.{Counter}
 
--- the info of the counter c with this id
+-- the record of the counter c with this id
 pub record IsInfoOf (id : ℕ) (c : Counter) (info : CounterInfo) : Type 0 where
   pub same_id : info.id ≡ id
   pub type_id : info.type_id ≡ c.metadata.type_id
@@ -13,7 +13,7 @@ pub record IsInfoOf (id : ℕ) (c : Counter) (info : CounterInfo) : Type 0 where
   pub key_bytes : info.key ≡ c.metadata.key
   pub label_bytes : info.label.items ≡ c.metadata.label
 
--- one info for each of these counters, in order
+-- one record for each of these counters, in order
 abbrev pub AreInfos : List CounterInfo → List (ℕ × Counter) → Type 0
 AreInfos [] [] = Unit {0}
 AreInfos [] (x ∷ xs) = ⊥

@@ -1,4 +1,4 @@
--- How a registry is kept in two lists of records.
+-- The form in which a registry is kept in two lists of records.
 use Rattle.std.specs.Prelude.{◌≡◌, ◌≢◌, ℕ, ◌-◌, ◌<◌, ◌≤◌, Bool, true, false, List, [], ◌∷◌, map, count_by, length, slice_index, slice_index_or}
 use Rattle.ring_counters.specs.Counter.{Metadata, Values, Counter, unused_counter, unused_metadata, deadline_of}
 use Rattle.ring_counters.specs.Registry.{Registry, count_of, counter_at, status_at, is_unused, is_allocated, is_reclaimed}
@@ -33,7 +33,7 @@ AreReclaimed counters (id ∷ ids) =
 abbrev pub deadline_at : List Counter → ℕ → ℕ
 deadline_at counters id = deadline_of (slice_index_or counters id unused_counter).metadata.status
 
--- the deadline of the last id in the queue, by the records
+-- the deadline of the last id in the queue, as the records say
 abbrev pub last_deadline : List Metadata → List ℕ → ℕ
 last_deadline ms freed = deadline_of (slice_index_or ms (slice_index freed (length freed - 1)) unused_metadata).status
 
@@ -46,8 +46,8 @@ abbrev pub AreInOrder : List Counter → List ℕ → Type 0
 AreInOrder counters [] = Unit {0}
 AreInOrder counters (id ∷ ids) = AllDueFrom counters (deadline_at counters id) ids × AreInOrder counters ids
 
--- the ids below `used` were used and no others, and each id in the queue, which has room for all, was freed; if so
--- marked, their deadlines never fall
+-- The ids below `used` were used, and no others. Each id in the queue was freed, and the queue has room for all ids. If
+-- `in_order` is true, the deadlines never fall along the queue.
 pub record IsKept (r : Registry) (room used : ℕ) (in_order : Bool) : Type 0 where
   pub few : count_of r ≤ 4096
   pub room_for_all : count_of r ≤ room

@@ -1,4 +1,4 @@
--- What a manager shows.
+-- The words of clauses for a manager.
 use Rattle.std.specs.Prelude.{◌≡◌, ℕ, ℤ, List, [], ◌∷◌, ◌++◌, Option}
 use Rattle.atomic_table.specs.Seated.{TableId}
 use Rattle.ring_counters.specs.declared.values.view.ValueWrite.{ValueWrite}
@@ -9,7 +9,7 @@ use Rattle.ring_counters.specs.Counter.{Counter}
 use Rattle.ring_counters.specs.Registry.{Registry, counter_at, id_refusal_of, range_refusal_of, with_value}
 use Rattle.ring_counters.specs.Views.{value_write}
 
--- the counters
+-- the counters of a manager
 abbrev pub registry_of : CountersManager → Registry
 registry_of m = m.records
 
@@ -17,19 +17,19 @@ registry_of m = m.records
 abbrev pub counter_in : CountersManager → ℕ → Counter
 counter_in m id = counter_at (registry_of m) id
 
--- why a call on the counter with this id is refused
+-- the reason why a call on the counter with this id is refused
 abbrev pub refusal_at : CountersManager → ℕ → Option IdFault
 refusal_at m id = id_refusal_of (registry_of m) id
 
--- why a call on the record with this id is refused
+-- the reason why a call on the record with this id is refused
 abbrev pub range_refusal_at : CountersManager → ℕ → Option IdFault
 range_refusal_at m id = range_refusal_of (registry_of m) id
 
--- the list of value writes
+-- the list of the manager's value writes
 abbrev pub writes_of : CountersManager → List ValueWrite
 writes_of m = m.writer.seat.me.0.seen
 
--- the shares that are not with readers
+-- the number of shares that are not with readers
 abbrev pub shares_of : CountersManager → ℕ
 shares_of m = m.writer.shares
 
@@ -41,19 +41,19 @@ table_of m = m.writer.seat.table_id
 abbrev pub IsManagerOf : CounterValues → CountersManager → Type 0
 IsManagerOf values m = table_of m ≡ values.table.shared.table_id
 
--- no value was written, the shares are as before, and it is the manager of the same values
+-- No value was written, and the shares are as before. The manager is still that of the same values.
 pub record KeepsValues (old new : CountersManager) : Type 0 where
   pub same_writes : writes_of new ≡ writes_of old
   pub same_shares : shares_of new ≡ shares_of old
   pub same_values : table_of new ≡ table_of old
 
--- it is the manager of these values, and counters and writes are as before
+-- The manager is that of these values. The counters and the writes are as before.
 pub record KeepsCounters (values : CounterValues) (old new : CountersManager) : Type 0 where
   pub manager : IsManagerOf values new
   pub registry : registry_of new ≡ registry_of old
   pub writes : writes_of new ≡ writes_of old
 
--- the counter with this id has this value, which was written once, and no other counter changed
+-- The counter with this id has this value, which was written once. No other counter changed.
 pub record SetsValue (id : ℕ) (value : ℤ) (old new : CountersManager) : Type 0 where
   pub registry : registry_of new ≡ with_value (registry_of old) id value
   pub writes : writes_of new ≡ writes_of old ++ value_write id value ∷ []

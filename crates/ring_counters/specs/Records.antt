@@ -1,4 +1,4 @@
--- What the words of a record say.
+-- The contents of the words of a record.
 use Rattle.std.specs.Prelude.{◌≡◌, ℕ, ◌*◌, ◌/◌, ◌%◌, ◌^◌, ◌<◌, ◌≤◌, ◌==◌, if◌then◌else◌, FitsSigned, List, map, length, slice_index, All}
 use Rattle.std.specs.List.{range_with_len}
 use Rattle.std.specs.Int.{cast_signed, w32, w64}
@@ -16,7 +16,7 @@ bytes_at words from n = map (byte_at words) (range_with_len from n)
 abbrev pub status_from : ℕ → ℕ → Status
 status_from state deadline = if state == 0 then Unused else (if state == 1 then Allocated else Reclaimed deadline)
 
--- what the words of a metadata record say
+-- the contents of the words of a metadata record
 unfoldable pub metadata_of : List ℕ → Metadata
 metadata_of words = record {
   status = status_from (slice_index words 0 % 2 ^ 32) (slice_index words 1);

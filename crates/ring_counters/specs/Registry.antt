@@ -1,4 +1,4 @@
--- The counters as a registry, and what each call changes in it.
+-- The counters as a registry, and the changes that each call makes in it.
 use Rattle.std.specs.Prelude.{ℕ, ◌+◌, ◌-◌, ◌≤◌, ◌==◌, Bool, true, false, ◌&&◌, ◌||◌, nat_lt, nat_le, if◌then◌else◌, ℤ, pos, int_lt, List, [], ◌∷◌, ◌++◌, map, filter, fold, find, position, length, replicate, slice_set, slice_index_or, Option, Some, None, Result, Ok, Err}
 use Rattle.std.specs.List.{list_all, range_with_len}
 use Rattle.std.specs.Int.{int_wrapping_add, w64}
@@ -12,7 +12,7 @@ use Rattle.ring_counters.specs.declared.fault.IdFault.{IdFault}
 use Rattle.ring_counters.specs.declared.fault.IdFault.TheVariants.{BadId, NotAllocated}
 use Rattle.ring_counters.specs.Counter.{Status, Unused, Allocated, Reclaimed, Counter, zero_padded, unused_counter}
 
--- a record for each id, the ids that were freed and not given again, in order of freeing, and the reuse timeout
+-- a record for each id, the ids that were freed and not allocated again, in order of freeing, and the reuse timeout
 pub record Registry : Type 0 where
   pub counters : List Counter
   pub freed : List ℕ
@@ -31,7 +31,7 @@ status_at r id = (counter_at r id).metadata.status
 abbrev pub fresh_registry : ℕ → ℕ → Registry
 fresh_registry count reuse_ms = record { counters = replicate count unused_counter; freed = []; reuse_ms = reuse_ms }
 
--- why no counters can be made
+-- the reason why no counters can be made
 abbrev pub make_refusal_of : ℕ → Option MakeFault
 make_refusal_of count = if count == 0 || nat_lt 4096 count then Some BadCount else None
 
@@ -50,7 +50,7 @@ is_reclaimed Unused = false
 is_reclaimed Allocated = false
 is_reclaimed (Reclaimed deadline) = true
 
--- the deadline is not after now
+-- the deadline is at most now
 abbrev pub is_due : ℕ → Status → Bool
 is_due now Unused = false
 is_due now Allocated = false
@@ -58,7 +58,7 @@ is_due now (Reclaimed deadline) = nat_le deadline now
 
 -- ---- allocating
 
--- the first freed id, in order of freeing, that is due
+-- the first freed id, in order of freeing, whose deadline is at most now
 abbrev pub due_id : Registry → ℕ → Option ℕ
 due_id r now = find (λ id. is_due now (status_at r id)) r.freed
 
@@ -69,7 +69,7 @@ unused_id r = position (λ c. is_unused c.metadata.status) r.counters
 abbrev pub next_id : Registry → ℕ → Option ℕ
 next_id r now = or_else (due_id r now) (unused_id r)
 
--- why a key and a label are refused, in the order of the tests
+-- the reason why a key and a label are refused, in the order of the tests
 abbrev pub text_refusal_of : List ℕ → List ℕ → Option AllocateRefused
 text_refusal_of key label =
     if nat_lt 112 (length key) then Some KeyTooLong
@@ -85,18 +85,18 @@ given (Some fault) id = Err fault
 given None (Some id) = Ok id
 given None None = Err NoFreeCounter
 
--- the id that an allocation gives, or why it is refused
+-- the id that an allocation gives, or the reason why it is refused
 abbrev pub allocation_of : Registry → ℕ → List ℕ → List ℕ → Result ℕ AllocateRefused
 allocation_of r now key label = given (text_refusal_of key label) (next_id r now)
 
--- a counter as it is allocated
+-- a counter right after it was allocated
 abbrev pub new_counter : ℤ → List ℕ → List ℕ → ℕ → ℕ → Counter
 new_counter type_id key label registration owner = record {
   metadata = record { status = Allocated; type_id = type_id; key = zero_padded 112 key; label = label };
   values = record { value = pos 0; registration = registration; owner = owner };
 }
 
--- the ids without the first that is this one
+-- the ids without the first one that is equal to this id
 abbrev pub without : ℕ → List ℕ → List ℕ
 without id [] = []
 without id (x ∷ xs) = if x == id then xs else (x ∷ without id xs)
@@ -106,18 +106,18 @@ allocated_in r id c = record r { counters = slice_set r.counters id c; freed = w
 
 -- ---- a counter in use
 
--- why an id is refused, in the order of the tests
+-- the reason why an id is refused, in the order of the tests
 abbrev pub id_refusal_of : Registry → ℕ → Option IdFault
 id_refusal_of r id =
     if nat_le (count_of r) id then Some BadId
     else (if is_allocated (status_at r id) then None
     else Some NotAllocated)
 
--- why an id of any record is refused
+-- the reason why an id of any record is refused
 abbrev pub range_refusal_of : Registry → ℕ → Option IdFault
 range_refusal_of r id = if nat_le (count_of r) id then Some BadId else None
 
--- the refusal, or the return value if there is none
+-- the refusal, or the result if there is none
 abbrev pub answer : {T E : Type 0} → Option E → T → Result T E
 answer None x = Ok x
 answer (Some fault) x = Err fault
@@ -130,7 +130,7 @@ with_value r id value =
 abbrev pub value_at : Registry → ℕ → ℤ
 value_at r id = (counter_at r id).values.value
 
--- the value of a counter with more added, modulo 2^64
+-- the value of a counter after this addition, modulo 2^64
 abbrev pub value_plus : Registry → ℕ → ℤ → ℤ
 value_plus r id delta = int_wrapping_add w64 (value_at r id) delta
 
@@ -138,7 +138,7 @@ value_plus r id delta = int_wrapping_add w64 (value_at r id) delta
 abbrev pub is_raised_by : Registry → ℕ → ℤ → Bool
 is_raised_by r id value = int_lt (value_at r id) value
 
--- a counter is freed at a moment: its id may be allocated again after the timeout, and its other words stay
+-- A counter is freed at a moment. Its id may be allocated again after the timeout, and its other words stay.
 abbrev pub reclaimed_in : Registry → ℕ → ℕ → Registry
 reclaimed_in r now id =
     let c = counter_at r id in

@@ -24,7 +24,7 @@ values_count values = values.table.shared.key
 abbrev pub writer_writes : ValueWriter → List ValueWrite
 writer_writes writer = writer.seat.me.0.seen
 
--- the writes at the making of the reader
+-- the writes that there were when the reader was made
 abbrev pub made_of : ValueReader → List ValueWrite
 made_of reader = reader.seat.me.0.made
 
@@ -32,19 +32,19 @@ made_of reader = reader.seat.me.0.made
 abbrev pub seen_by : ValueReader → List ValueWrite
 seen_by reader = reader.seat.me.0.seen
 
--- what the reader loaded, in order
+-- the loads of the reader, in order
 abbrev pub loads_of : ValueReader → List ValueLoad
 loads_of reader = reader.seat.me.0.loads
 
--- it reads these values, was made after these writes, which it has seen, and has loaded nothing
+-- The reader is one of these values. It was made after these writes and has seen them, and it has loaded nothing.
 pub record IsNewReaderOf (values : CounterValues) (writes : List ValueWrite) (r : ValueReader) : Type 0 where
   pub reader : IsReaderOf values r
   pub made : made_of r ≡ writes
   pub seen : seen_by r ≡ writes
   pub loads : loads_of r ≡ []
 
--- the value is the id's after the writes that the reader has now seen, it is one more load, and no write that the
--- reader had seen is missing
+-- The value is the id's value after the writes that the reader has now seen. It is one more load. These writes include
+-- all that the reader had seen.
 pub record LoadsValue (id : ℕ) (value : ℤ) (old new : ValueReader) : Type 0 where
   pub value_is : value ≡ value_after id (seen_by new)
   pub loaded : loads_of new ≡ loads_of old ++ value_load id value (seen_by new) ∷ []

@@ -1,4 +1,4 @@
--- What each step on the values shows its seat.
+-- The views that each step on the values shows its seat.
 use Rattle.std.specs.Prelude.{◌≡◌, ℕ, ◌≤◌, List, [], ◌∷◌, ◌++◌}
 use Rattle.std.specs.Int.{cast_signed, w64}
 use Rattle.ring_counters.specs.declared.values.view.ValueWrite.{ValueWrite}
@@ -8,7 +8,7 @@ use Rattle.ring_layout.specs.Lists.{Begins}
 use Rattle.ring_layout.specs.Refusals.{all_shares}
 use Rattle.ring_counters.specs.ValueWrites.{value_after, AreLoads}
 
--- a load gives the value after some writes, which begin with those that the reader has seen
+-- a load returns the value after some writes, which begin with those that the reader has seen
 pub record Loads (id : ℕ) (v : ValuesView) (found : ℕ) (w : ValuesView) : Type 0 where
   pub after : List ValueWrite
   pub view : w ≡ values_view v.writes v.shares after v.made (v.loads ++ value_load id (value_after id after) after ∷ [])

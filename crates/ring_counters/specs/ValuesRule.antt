@@ -1,4 +1,4 @@
--- The rule of the values: one writer, many readers.
+-- The rule of the values, which have one writer and many readers.
 use Rattle.std.specs.Prelude.{◌≡◌, ℕ, ◌<◌, true, List, length, slice_index, FitsSigned}
 use Rattle.std.specs.Int.{cast_unsigned, w64}
 use mathlib.Core.Option.{some}
@@ -9,13 +9,13 @@ use Rattle.ring_layout.specs.Lists.{Begins, total}
 use Rattle.ring_layout.specs.Refusals.{all_shares}
 use Rattle.ring_counters.specs.ValueWrites.{value_after, AreLoads}
 
--- the writer has all writes, a reader has seen a first part of them, and its loads are theirs
+-- The writer has all writes. A reader has seen a first part of them, and its loads are loads of these.
 pub record KnowsWrites (writer : ℕ) (all : List ValueWrite) (by : ℕ) (v : ValuesView) : Type 0 where
   pub writes : v.writes ≡ true → (by ≡ writer) × (v.seen ≡ all)
   pub seen : Begins v.seen all
   pub loads : AreLoads v.made v.loads all
 
--- there is one list of writes, each word is its id's value after them, and the shares add up
+-- There is one list of writes. Each word is its id's value after them. The shares add up.
 pub record ValuesRule (count : ℕ) (words : List ℕ) (views : List ValuesView) : Type 0 where
   pub writer : ℕ
   pub all : List ValueWrite

@@ -1,4 +1,4 @@
--- What a seat of the values knows.
+-- The view of a seat of the values.
 use Rattle.std.specs.Prelude.{ℕ, ℤ, Bool, List}
 use Rattle.ring_counters.specs.declared.values.view.ValueWrite.{ValueWrite}
 use Rattle.ring_counters.specs.declared.values.view.ValueLoad.{ValueLoad}

@@ -1,4 +1,4 @@
-//! Why a call refuses.
+//! The reasons why calls refuse.
 ghost use Rattle.std.specs.Prelude.{◌≡◌, pos};
 ghost use Rattle.ring_counters.specs.Codes.{allocate_code, id_code, make_code};
 
@@ -8,7 +8,7 @@ use ring_layout::refusal_codes::{
 };
 use thiserror::Error;
 
-/// Why no counters could be made.
+/// The reason why no counters could be made.
 #[derive(Clone, Copy, Debug, PartialEq, Eq, Error)]
 pub enum MakeFault {
     /// The number of counters is 0 or above 4,096.
@@ -20,7 +20,7 @@ pub enum MakeFault {
 }
 
 impl MakeFault {
-    /// The number of the refusal.
+    /// Returns the number of the refusal.
     pub fn code(self) -> i32
         ensures { result ≡ make_code self }
     {
@@ -31,7 +31,7 @@ impl MakeFault {
     }
 }
 
-/// Why no counter was allocated.
+/// The reason why no counter was allocated.
 #[derive(Clone, Copy, Debug, PartialEq, Eq, Error)]
 pub enum AllocateRefused {
     /// The key has more than 112 bytes.
@@ -43,13 +43,13 @@ pub enum AllocateRefused {
     /// The label has a byte of 128 or more.
     #[error("{} LabelNotAscii", self.code())]
     LabelNotAscii,
-    /// Every id was used, and no freed one is due.
+    /// Every id was used, and the deadline of no freed id has passed.
     #[error("{} NoFreeCounter", self.code())]
     NoFreeCounter,
 }
 
 impl AllocateRefused {
-    /// The number of the refusal.
+    /// Returns the number of the refusal.
     pub fn code(self) -> i32
         ensures { result ≡ allocate_code self }
     {
@@ -62,7 +62,7 @@ impl AllocateRefused {
     }
 }
 
-/// Why an id is refused.
+/// The reason why an id is refused.
 #[derive(Clone, Copy, Debug, PartialEq, Eq, Error)]
 pub enum IdFault {
     /// The id is not below the number of counters.
@@ -74,7 +74,7 @@ pub enum IdFault {
 }
 
 impl IdFault {
-    /// The number of the refusal.
+    /// Returns the number of the refusal.
     pub fn code(self) -> i32
         ensures { result ≡ id_code self }
     {
@@ -91,7 +91,7 @@ impl IdFault {
 pub struct BadId;
 
 impl BadId {
-    /// The number of the refusal.
+    /// Returns the number of the refusal.
     pub fn code(self) -> i32
         ensures { result ≡ pos 20 }
     {
@@ -99,13 +99,13 @@ impl BadId {
     }
 }
 
-/// The owner is 0, which means none.
+/// The owner is 0, which means that there is no owner.
 #[derive(Clone, Copy, Debug, PartialEq, Eq, Error)]
 #[error("{} BadOwner", self.code())]
 pub struct BadOwner;
 
 impl BadOwner {
-    /// The number of the refusal.
+    /// Returns the number of the refusal.
     pub fn code(self) -> i32
         ensures { result ≡ pos 28 }
     {
@@ -119,7 +119,7 @@ impl BadOwner {
 pub struct OutOfMemory;
 
 impl OutOfMemory {
-    /// The number of the refusal.
+    /// Returns the number of the refusal.
     pub fn code(self) -> i32
         ensures { result ≡ pos 3 }
     {

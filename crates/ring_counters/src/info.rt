@@ -1,4 +1,4 @@
-//! What a listing says of a counter.
+//! The record of a counter in a listing.
 use ring_layout::counter_descriptor::MAX_KEY_LENGTH;
 
 /// A counter in use, as `CountersManager::live` lists it.
@@ -6,16 +6,16 @@ use ring_layout::counter_descriptor::MAX_KEY_LENGTH;
 pub struct CounterInfo {
     /// The counter's id.
     pub id: u32,
-    /// The type that it was allocated with.
+    /// The type that the counter was allocated with.
     pub type_id: i32,
-    /// Its value.
+    /// The counter's value.
     pub value: i64,
-    /// The registration id that it was allocated with.
+    /// The registration id that the counter was allocated with.
     pub registration: u64,
-    /// Its owner, 0 if it has none.
+    /// The counter's owner, or 0 if the counter has no owner.
     pub owner: u64,
-    /// Its key, with zeros after a short one.
+    /// The counter's key. A short key is followed by zeros.
     pub key: [u8; MAX_KEY_LENGTH],
-    /// Its label.
+    /// The counter's label.
     pub label: Vec<u8>,
 }

@@ -1,11 +1,12 @@
-//! Labelled counters that a conductor keeps and monitors read while it works, in records of words.
+//! Counters with labels, in records of words. A conductor keeps the counters, and monitors read them while it works.
 //!
-//! - `manager`: the counters of one owner, with their values. `calls`: what it is asked, by kind.
-//! - `records`: the counters' words: values and `metadata`, what a counter is allocated with (`wanted`), and how `ids`
-//!   are given and freed, and how many are `available`.
-//! - `values`: what threads share: what each seat knows (`view`), the `rule` between any two steps, what each step
-//!   says (`plays`), the `seats` of writer and readers, and the `calls` that set and load values or make `changes`.
-//! - `fault`, `info`: why calls refuse, and what a listing says of a counter.
+//! - `manager`: the counters of one owner, with their values. `calls` has the calls of the manager, by kind.
+//! - `records`: the words of the counters, which are values and `metadata`. `wanted` has what a counter is allocated
+//!   with. `ids` gives and frees ids, and `available` counts the ids that can be given.
+//! - `values`: the values that threads share. `view` has what each seat knows, `rule` has the rule between any two
+//!   steps, and `plays` has what each step says. `seats` has the writer and the readers. `calls` has the calls that set
+//!   and load values, and `changes` has those that return the value before.
+//! - `fault`, `info`: the reasons why calls refuse, and the record of a counter in a listing.
 #![tactic(auto)]
 
 mod calls;

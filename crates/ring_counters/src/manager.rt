@@ -9,7 +9,7 @@ use crate::values::seats::ValueWriter;
 /// Counters with labels, keys and owners, in records of words.
 ///
 /// The values are also in `CounterValues`, from which readers on other threads load them. A manager belongs to the
-/// values that it was made with; each call that takes values requires those.
+/// values that it was made with. Each call that takes values requires these values.
 #[derive(Drop)]
 pub struct CountersManager {
     pub(crate) records: Records,

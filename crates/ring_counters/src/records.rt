@@ -1,4 +1,4 @@
-//! The counters over vectors of records: their values, their metadata, and which ids are in use.
+//! The counters as vectors of records, with their values, their metadata, and the ids that are in use.
 mod available;
 pub(crate) mod bytes;
 mod ids;
@@ -23,8 +23,8 @@ use std::alloc::{AllocError, Global};
 use std::collections::VecDeque;
 use std::marker::Model;
 
-/// A value record without the 13 words that are always 0, so that the records of many counters are close together: a
-/// set touches only this and a flag of the manager's.
+/// A value record without the 13 words that are always 0. So the records of many counters are close together. A set
+/// touches only this record and a flag of the manager.
 #[derive(Drop)]
 pub(crate) struct ValueRecord {
     value: i64,
@@ -51,7 +51,7 @@ impl ValueRecord {
         }
     }
 
-    /// Makes the record that of a counter in use. The value is 0.
+    /// Makes the record one of a counter in use. The value is 0.
     pub(crate) fn allocate(&mut self, registration: u64, owner: u64)
         ensures { self.new ≡ record { value = pos 0; registration = registration; owner = owner } }
     {
@@ -84,7 +84,7 @@ impl ValueRecord {
         self.owner
     }
 
-    /// The word with this number of the 16 that the record has.
+    /// Returns the word with this number, of the 16 words that the record has.
     #[tactic(auto, unfolding(crate::specs::Counter::value_word))]
     pub(crate) fn word(&self, k: usize) -> u64
         requires { k < 16 }
@@ -103,12 +103,11 @@ impl ValueRecord {
 pub(crate) struct Records {
     metadata: Vec<MetadataRecord>,
     values: Vec<ValueRecord>,
-    /// Whether each counter is in use, as its metadata say: in a list of its own, for calls that need nothing else of
-    /// the metadata.
+    /// A list of whether each counter is in use, as its metadata say. Some calls need only this part of the metadata.
     live: Vec<bool>,
     /// The freed ids in order of freeing, with room for every id.
     freed: VecDeque<u32>,
-    /// Whether the deadlines never fall along the queue, so that none is due if the first is not.
+    /// Whether the deadlines never fall along the queue. If so, and the first deadline has not passed, no deadline has.
     in_order: bool,
     /// The lowest id that was never used.
     used: u32,
@@ -131,7 +130,7 @@ impl Model for Records {
         × (a.live.items ≡ live_flags a.metadata.items) };
 }
 
-/// This many metadata records that were never used.
+/// Returns this many metadata records that were never used.
 fn unused_metadata_records(alloc: Global, count: u32) -> Result<Vec<MetadataRecord>, AllocError>
     ensures { IfOk result (λ v. v.items ≡ replicate count unused_metadata) }
 {
@@ -142,7 +141,7 @@ fn unused_metadata_records(alloc: Global, count: u32) -> Result<Vec<MetadataReco
     Ok(records)
 }
 
-/// This many value records that were never used.
+/// Returns this many value records that were never used.
 fn unused_value_records(alloc: Global, count: u32) -> Result<Vec<ValueRecord>, AllocError>
     ensures { IfOk result (λ v. v.items ≡ replicate count unused_values) }
 {
@@ -198,7 +197,7 @@ impl Records {
         &self.values[id as usize]
     }
 
-    /// The number of ids that were ever used: those below it.
+    /// Returns the number of ids that were ever used. These are the ids below this number.
     pub(crate) fn used(&self) -> u32
         ensures most { result ≤ count_of self.now }
         ensures unused { (id : ℕ) → result ≤ id → counter_at self.now id ≡ unused_counter }
@@ -229,7 +228,7 @@ impl Records {
         }
     }
 
-    /// Whether the counter is in use.
+    /// Returns whether the counter is in use.
     pub(crate) fn is_live(&self, id: u32) -> bool
         requires { id < count_of self.now }
         ensures { result ≡ is_allocated (status_at self.now id) }
@@ -237,7 +236,7 @@ impl Records {
         self.live[id as usize]
     }
 
-    /// Whether the counter is in use, with this type and registration.
+    /// Returns whether the counter is in use, with this type and registration.
     fn is_registered(&self, id: u32, type_id: i32, registration: u64) -> bool
         requires { id < count_of self.now }
         ensures { result ≡ is_registered type_id registration (counter_at self.now id) }
@@ -247,7 +246,7 @@ impl Records {
             && self.values(id).registration() == registration
     }
 
-    /// The lowest id in use with this type and registration.
+    /// Returns the lowest id in use with this type and registration.
     pub(crate) fn find(&self, type_id: i32, registration: u64) -> Option<u32>
         ensures { result ≡ registered_id self.now type_id registration }
     {
@@ -259,7 +258,7 @@ impl Records {
         None
     }
 
-    /// What a listing says of one counter.
+    /// Returns the record of one counter in a listing.
     fn info(&self, alloc: Global, id: u32) -> Result<CounterInfo, AllocError>
         requires { id < count_of self.now }
         ensures { IfOk result (λ info. IsInfoOf id (counter_at self.now id) info) }

@@ -1,6 +1,10 @@
-//! The values that threads share: what each seat knows (`view`), the rule between any two steps, what each kind of step
-//! says (`plays`), the writer and the readers (`seats`), the calls with their steps (`calls`), and those
-//! that change a value and return what it was (`changes`).
+//! The values that threads share.
+//! - `view`: what each seat knows
+//! - `rule`: the rule between any two steps
+//! - `plays`: what each kind of step says
+//! - `seats`: the writer and the readers
+//! - `calls`: the calls, with their steps
+//! - `changes`: the calls that change a value and return the value before
 pub(crate) mod calls;
 pub(crate) mod changes;
 pub(crate) mod plays;

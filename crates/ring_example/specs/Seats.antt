@@ -1,4 +1,4 @@
--- Whose seats the threads hold.
+-- The owners of the seats that the threads hold.
 use Rattle.ring_rings.specs.Seats.{IsConsumerOf, IsProducerOf}
 use Rattle.ring_board.specs.Seats.{IsReceiverOf}
 use Rattle.ring_service.specs.declared.conductor.Conductor.{Conductor}
@@ -7,14 +7,14 @@ use Rattle.ring_service.specs.Conducting.{IsConductorOf}
 use Rattle.ring_example.specs.declared.client.Caller.{Caller}
 use Rattle.ring_example.specs.declared.shared.Shared.{Shared}
 
--- its producer is one of this ring, and its receiver one of this broadcast buffer
+-- the caller's producer is one of this ring, and its receiver is one of this broadcast buffer
 abbrev pub IsCallerOf : Shared → Caller → Type 0
 IsCallerOf s c = IsProducerOf s.ring (producer_of c.client) × IsReceiverOf s.board (receiver_of c.client)
 
--- both are
+-- both callers have seats of this ring and this broadcast buffer
 abbrev pub AreCallersOf : Shared → Caller × Caller → Type 0
 AreCallersOf s callers = IsCallerOf s callers.0 × IsCallerOf s callers.1
 
--- it is a conductor of this ring, this broadcast buffer and these values
+-- the conductor is one of this ring, this broadcast buffer and these values
 abbrev pub IsConductorAt : Shared → Conductor → Type 0
 IsConductorAt s c = IsConductorOf IsConsumerOf s.ring s.board s.values c

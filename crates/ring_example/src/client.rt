@@ -1,4 +1,4 @@
-//! A client: it sends commands into the ring, and receives their replies from the broadcast buffer.
+//! A client of the example. It sends commands into the ring, and receives their replies from the broadcast buffer.
 ghost use Rattle.std.specs.Prelude.{◌≡◌};
 ghost use Rattle.ring_example.specs.Seats.{IsCallerOf};
 
@@ -8,26 +8,27 @@ use ring_rings::{ClaimFault, TryFault};
 use ring_service::{Client, Polled, Reply, Request, SendFault};
 use std::sync::Wait;
 
-/// The number of commands that are sent before their replies are waited for. Those of two callers fill the ring.
+/// The number of commands that are sent before the caller waits for their replies. The commands of two callers fill the
+/// ring.
 const BATCH: usize = 8;
 
-/// The number of such batches.
+/// The number of these batches.
 const BATCHES: u32 = 125;
 
-/// A client that counts up, and what it came to.
+/// A client that counts up, with the results of its run.
 #[derive(Drop)]
 pub struct Caller {
     pub label: &'static str,
     pub client: Client,
     /// The number of replies to its commands.
     pub replies: u32,
-    /// The number of times it was lapped.
+    /// The number of times that the client was lapped.
     pub laps: u32,
 }
 
 // Each call states that the caller's producer stays one of the ring, and its receiver one of the broadcast buffer.
 impl Caller {
-    /// A caller that has sent nothing yet.
+    /// Returns a caller that has sent nothing yet.
     pub fn new(label: &'static str, client: Client) -> Caller
         ensures { result.client ≡ client }
     {
@@ -39,8 +40,8 @@ impl Caller {
         }
     }
 
-    /// Sends a command, and waits while the ring is full. Returns its correlation id; `None` if the ring never takes
-    /// it.
+    /// Sends a command, and waits while the ring is full. Returns the correlation id, or `None` if the ring never takes
+    /// the command.
     fn send<R: Wait>(&mut self, rt: &R, on: &Shared, request: Request<&[u8]>) -> Option<u64>
         requires { IsCallerOf on.now self.old }
         ensures { IsCallerOf on.now self.new }
@@ -65,7 +66,7 @@ impl Caller {
         unreachable!()
     }
 
-    /// Waits for the reply to the command with this correlation id. Returns `None` if replies were missed: what became
+    /// Waits for the reply to the command with this correlation id. Returns `None` if replies were missed. The result
     /// of the command is then unknown.
     fn hear<R: Wait>(&mut self, rt: &R, on: &Shared, correlation: u64) -> Option<Reply>
         requires { IsCallerOf on.now self.old }
@@ -78,7 +79,8 @@ impl Caller {
                     self.replies = self.replies.saturating_add(1);
                     return Some(reply);
                 }
-                // The reply to another, or one that is older than this client. More may be after it.
+                // This is the reply to another command, or one that is older than this client. More messages may come
+                // after it.
                 Polled::Another(_) | Polled::NoReply => backoff.reset(),
                 Polled::Nothing => backoff.snooze(),
                 Polled::Lapped(_) => {
@@ -126,8 +128,8 @@ impl Caller {
         Some(())
     }
 
-    /// Runs to its end. Whatever came of it, the endpoints come back: a producer or receiver that is dropped on a
-    /// thread is lost, and the conductor could then never finish.
+    /// Runs the caller to its end. Its producer and its receiver always come back. If one of them were dropped on a
+    /// thread, it would be lost, and the conductor could never finish.
     pub fn run<R: Wait>(mut self, rt: &R, on: &Shared) -> Caller
         requires { IsCallerOf on.now self }
         ensures { IsCallerOf on.now result }

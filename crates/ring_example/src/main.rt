@@ -24,16 +24,17 @@ use std::sync::atomic::AtomicBool;
 use std::sync::atomic::Ordering::SeqCst;
 use std::thread::{Threads, join};
 
-/// The bytes of the command ring. It takes messages of up to 32 bytes.
+/// The capacity of the command ring, in bytes. The ring takes messages of up to 32 bytes.
 const RING: u32 = 256;
 
-/// The bytes of the broadcast buffer. A reply takes 24, so all 2,002 fit and no client is lapped.
+/// The capacity of the broadcast buffer, in bytes. A reply takes 24 bytes. So the buffer has room for all 2,002
+/// replies, and no client is lapped.
 const BOARD: u32 = 65_536;
 
 /// Two callers.
 type Callers = (Caller, Caller);
 
-/// What is made before a thread starts.
+/// The objects that are made before a thread starts.
 #[derive(Drop)]
 struct Opened {
     shared: Shared,
@@ -41,7 +42,7 @@ struct Opened {
     producer: Producer,
 }
 
-/// Makes ring, board and counters, and the conductor over them.
+/// Makes the ring, the broadcast buffer and the counters, and the conductor.
 fn open(alloc: Global) -> anyhow::Result<Opened>
     ensures conductor { IfOk result (λ o. IsConductorAt o.shared o.conductor) }
     ensures producer { IfOk result (λ o. IsProducerOf o.shared.ring o.producer) }
@@ -62,7 +63,7 @@ fn open(alloc: Global) -> anyhow::Result<Opened>
     })
 }
 
-/// Gives a caller its endpoints: a producer of the ring and a receiver of the broadcast buffer.
+/// Gives a caller a producer of the ring and a receiver of the broadcast buffer.
 fn seat(
     alloc: Global,
     on: &Shared,
@@ -79,7 +80,7 @@ fn seat(
     Ok(Caller::new(label, Client::new(writer, receiver)))
 }
 
-/// Gives two callers their endpoints, and makes a reader of the values for the monitor.
+/// Gives each of two callers a producer and a receiver, and makes a reader of the values for the monitor.
 fn seat_all(
     alloc: Global,
     on: &Shared,
@@ -105,7 +106,7 @@ fn run_callers<R: Threads + Wait + Sync>(rt: &R, on: &Shared, callers: Callers) 
     let (one, two) = callers;
     let callers = join(
         rt,
-        // What goes into a thread belongs to ring and broadcast buffer, and so does what comes back.
+        // The arguments of a thread belong to the ring and the broadcast buffer, and so do its results.
         move || -> Caller
             requires { IsCallerOf on.now one }
             ensures { IsCallerOf on.entry.now result }
@@ -142,7 +143,7 @@ fn run_service<R: Threads + Wait + Sync>(
     )
 }
 
-/// Runs callers, conductor and monitor, each on a thread of its own, until the callers are done.
+/// Runs the callers, the conductor and the monitor, each on a thread of its own, until the callers are done.
 fn run_all<R: Threads + Wait + Sync>(
     rt: &R,
     on: &Shared,
@@ -167,7 +168,7 @@ fn run_all<R: Threads + Wait + Sync>(
     )
 }
 
-/// Takes a caller's endpoints back.
+/// Takes back the producer and the receiver of a caller.
 fn take_back(on: &Shared, conductor: &mut Conductor, producer: &mut Producer, caller: Caller)
     requires seats { IsConductorAt on.now conductor.old × IsProducerOf on.now.ring producer.old }
     requires caller { IsCallerOf on.now caller }
@@ -178,7 +179,7 @@ fn take_back(on: &Shared, conductor: &mut Conductor, producer: &mut Producer, ca
     conductor.join_receiver(&on.board, receiver);
 }
 
-/// Finishes, after the endpoints of all callers are back.
+/// Finishes the conductor, after the producers and the receivers of all callers were taken back.
 fn finish_all(
     shared: Shared,
     mut conductor: Conductor,
@@ -242,7 +243,7 @@ fn print_totals(rt: &impl Print, received: u64, totals: Totals) -> io::Result<()
     println!(rt; "values {}", if saw_fall { "fell" } else { "never fell" })
 }
 
-/// Prints what came of it. (It borrows what it prints, so that no `?` drops it.)
+/// Prints the results. (The function borrows what it prints, so that no `?` drops it.)
 fn print_all<R: AllocGlobal + Print>(
     rt: &R,
     finished: &Finished,
@@ -256,8 +257,8 @@ fn print_all<R: AllocGlobal + Print>(
 }
 
 fn main(rt: HostRuntime) -> anyhow::Result<()> {
-    // All is made, and every endpoint is split off, before a thread starts: afterwards the conductor belongs to its
-    // thread, and no other thread can subscribe.
+    // All objects are made, and every producer and receiver is split off, before a thread starts. After that the
+    // conductor belongs to its thread, and no other thread can subscribe.
     let alloc = rt.alloc();
     let Opened {
         shared,
@@ -270,7 +271,7 @@ fn main(rt: HostRuntime) -> anyhow::Result<()> {
         &rt, &shared, callers, conductor, reader,
     );
 
-    // All endpoints are taken back, and then the conductor can finish.
+    // All producers and receivers are taken back, so the conductor can finish.
     let totals = Totals {
         replies: one.replies.saturating_add(two.replies),
         laps: one.laps.saturating_add(two.laps),

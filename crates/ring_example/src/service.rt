@@ -12,7 +12,8 @@ use std::sync::atomic::Ordering::SeqCst;
 /// The number of counters.
 pub const COUNTERS: u32 = 2;
 
-/// The moment at which the conductor works, in milliseconds. It matters to counters that are freed, and here none is.
+/// The moment at which the conductor works, in milliseconds. The moment matters only for counters that are freed, and
+/// here no counter is freed.
 const NOW: u64 = 0;
 
 /// Works until it is stopped and no command is left.
@@ -22,11 +23,11 @@ pub fn conduct<R: Wait>(rt: &R, on: &Shared, mut conductor: Conductor) -> Conduc
 {
     let backoff = Backoff::new();
     for _ in rt.forever() {
-        // Looked at first: what was sent before the stop is then still taken below.
+        // Look at this first, so that what was sent before the stop is still taken below.
         let is_last = on.stop.load(SeqCst);
         let work = conductor.do_work(&on.ring, &on.board, &on.values, NOW, u32::MAX);
         match work.stopped {
-            // The end of the buffer is not the end of the commands: the next call goes on past it.
+            // The end of the buffer is not the end of the commands. The next call goes on after it.
             WorkStop::Block | WorkStop::Limit => backoff.reset(),
             WorkStop::Unpublished if !is_last => backoff.snooze(),
             WorkStop::Unpublished | WorkStop::BoardEnd => return conductor,
@@ -35,7 +36,7 @@ pub fn conduct<R: Wait>(rt: &R, on: &Shared, mut conductor: Conductor) -> Conduc
     unreachable!()
 }
 
-/// Reads all values until it is stopped. Returns whether one was ever below an earlier one of the same counter.
+/// Reads all values until it is stopped. Returns whether a value was ever below an earlier value of the same counter.
 pub fn watch<R: Wait>(rt: &R, on: &Shared, mut reader: ValueReader) -> (ValueReader, bool)
     requires { IsReaderOf on.now.values reader }
     ensures { IsReaderOf on.now.values result.0 }

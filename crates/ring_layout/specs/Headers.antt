@@ -15,15 +15,15 @@ padding_type = negsuc 0
 abbrev pub padding_header : ℕ → ℕ
 padding_header n = header (pos n) padding_type
 
--- the header of an open claim with n bytes of body: its length is negated
+-- the header of an open claim with n bytes of body, whose length is negated
 abbrev pub open_header : ℤ → ℕ → ℕ
 open_header type_id n = header (neg_ℤ (pos (8 + n))) type_id
 
--- the header of a committed one
+-- the header of a committed claim with n bytes of body
 abbrev pub committed_header : ℤ → ℕ → ℕ
 committed_header type_id n = header (pos (8 + n)) type_id
 
--- the header of an aborted one: it has the type id of padding
+-- the header of an aborted claim with n bytes of body, which has the type id of padding
 abbrev pub aborted_header : ℕ → ℕ
 aborted_header n = padding_header (8 + n)
 

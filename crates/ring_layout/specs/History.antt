@@ -1,4 +1,4 @@
--- Messages, claims, and histories: lists of claims, the oldest first.
+-- Messages, claims, and histories, which are lists of claims with the oldest first.
 use Rattle.std.specs.Prelude.{ℕ, ◌+◌, ◌*◌, ◌/◌, ◌<◌, ◌≤◌, pos, ◌≤ℤ◌, List, [], ◌∷◌, length, All, FitsSigned, ◌++◌, take, drop}
 use Rattle.std.specs.Int.{w32}
 pub use Rattle.ring_layout.specs.declared.message.Message.{Message}
@@ -13,14 +13,14 @@ pub record IsMessage (C : ℕ) (m : Message) : Type 0 where
   pub short : length m.body ≤ C / 8
   pub bytes : All (λ b. b < 256) m.body
 
--- the bytes that a record takes: a header of 8 and n of body, rounded up to 8
+-- the number of bytes of a record, which is a header of 8 bytes and n bytes of body, rounded up to a multiple of 8
 abbrev pub span : ℕ → ℕ
 span n = (8 + n + 7) / 8 * 8
 
 abbrev pub span_of : Claim → ℕ
 span_of c = span (length c.message.body)
 
--- what the reader is shown of a claim
+-- the messages that the reader is shown of a claim
 abbrev pub shown : Claim → List Message
 shown c = by_state c.state
   where
@@ -34,6 +34,6 @@ abbrev pub committed_of : List Claim → List Message
 committed_of [] = []
 committed_of (c ∷ h) = shown c ++ committed_of h
 
--- the bytes with these in place of their own from `at` on
+-- the bytes in which these replace those from `at` on
 abbrev pub overwritten : ℕ → List ℕ → List ℕ → List ℕ
 overwritten at bytes body = take at body ++ (bytes ++ drop (at + length bytes) body)

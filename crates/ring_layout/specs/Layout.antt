@@ -20,7 +20,7 @@ heartbeat_index C = C / 8 + 80
 abbrev pub ring_words : ℕ → ℕ
 ring_words C = C / 8 + 96
 
--- a word after the buffer that is none of the five
+-- a word after the buffer that is not one of the five named words
 pub record IsUnnamed (C i : ℕ) : Type 0 where
   pub behind : C / 8 ≤ i
   pub not_tail : i ≢ tail_index C

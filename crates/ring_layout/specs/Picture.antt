@@ -5,11 +5,13 @@ use Rattle.ring_layout.specs.History.{Claim, span_of}
 use Rattle.ring_layout.specs.Places.{index, next_place, place_behind, end_of}
 use Rattle.ring_layout.specs.Headers.{header_of, padding_header}
 
--- the word of a claim k bytes from its place: the header, then the body's bytes little-endian, zeros after them
+-- The word of a claim k bytes from its place. It is the header, and after that the body's bytes, little-endian, with
+-- zeros after them.
 abbrev pub claim_word : Claim → ℕ → ℕ
 claim_word c k = if k == 0 then header_of c else from_le_bytes w64 (drop (k - 8) c.message.body)
 
--- the word at position p of claims that come after e: that of the one claim or padding there, 0 after them
+-- The word at position p, for claims that come after e. It is the word of the one claim or padding there, or 0 after
+-- all claims.
 unfoldable pub word_at : ℕ → ℕ → List Claim → ℕ → ℕ
 word_at C e [] p = 0
 word_at C e (c ∷ h) p =
@@ -22,7 +24,7 @@ word_at C e (c ∷ h) p =
 abbrev pub IsPicture : (ℕ → ℕ) → ℕ → ℕ → List Claim → Type 0
 IsPicture word C head h = (p : ℕ) → p % 8 ≡ 0 → head ≤ p → p < head + C → word (index C p) ≡ word_at C head h p
 
--- the words of one claim c, and of the padding before it, whatever claims are before and after it
+-- the words of one claim c, and of the padding before it, with any claims before and after it
 pub record ShowsClaim (C e : ℕ) (front : List Claim) (c : Claim) (back : List Claim) : Type 0 where
   pub padding_header :
       end_of C e front < place_behind C e front c

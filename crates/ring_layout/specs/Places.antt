@@ -1,9 +1,9 @@
--- Where claims are placed. Positions are running byte counts, and C is the capacity of the buffer.
+-- The places of claims. Positions are running byte counts, and C is the capacity of the buffer.
 use Rattle.std.specs.Prelude.{ℕ, ◌+◌, ◌-◌, ◌/◌, ◌%◌, ◌^◌, ◌≤◌, List, [], ◌∷◌, if◌then◌else◌, nat_le, Bool, ◌&&◌, IsTrue}
 use Rattle.std.specs.Int.{is_power_of_two}
 use Rattle.ring_layout.specs.History.{Claim, span_of}
 
--- a valid capacity of a ring: a power of two from 128 to 2^24
+-- a valid capacity of a ring, which is a power of two from 128 to 2^24
 abbrev pub is_capacity : ℕ → Bool
 is_capacity C = is_power_of_two C && nat_le 128 C && nat_le C (2 ^ 24)
 
@@ -12,7 +12,7 @@ pub record IsCapacity (C : ℕ) : Type 0 where
   pub least : 128 ≤ C
   pub most : C ≤ 2 ^ 24
 
--- a valid capacity of a broadcast buffer: a power of two from 256 to 2^24
+-- a valid capacity of a broadcast buffer, which is a power of two from 256 to 2^24
 abbrev pub is_board_capacity : ℕ → Bool
 is_board_capacity C = is_power_of_two C && nat_le 256 C && nat_le C (2 ^ 24)
 
@@ -32,7 +32,7 @@ index C p = p % C / 8
 abbrev pub room : ℕ → ℕ → ℕ
 room C e = C - e % C
 
--- the place of a span a that comes after e: e, or the next multiple of C if the span would cross it
+-- The place of a span a that comes after e. It is e, or the next multiple of C if the span would cross that multiple.
 abbrev pub next_place : ℕ → ℕ → ℕ → ℕ
 next_place C e a = if nat_le a (room C e) then e else e + room C e
 
@@ -45,7 +45,7 @@ abbrev pub end_of : ℕ → ℕ → List Claim → ℕ
 end_of C e [] = e
 end_of C e (c ∷ h) = end_of C (end_after C e (span_of c)) h
 
--- the place of a claim that follows others that come after e
+-- the place of a claim that follows other claims, which come after e
 abbrev pub place_behind : ℕ → ℕ → List Claim → Claim → ℕ
 place_behind C e h c = next_place C (end_of C e h) (span_of c)
 

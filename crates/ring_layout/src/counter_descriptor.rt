@@ -20,53 +20,53 @@
 //!   | word 0     | word 1       | word 2       | word 3       | words 4 to 15      |
 //! ```
 //!
-//! All numbers are little-endian; the value is signed. The records of the counter with id n begin n times the record's
-//! length after the start. An unused record is all zeros.
+//! All numbers are little-endian. The value is signed. The records of the counter with the id n begin n times the
+//! record's length after the start. An unused record is all zeros.
 
-/// The bytes of a metadata record.
+/// The length of a metadata record, in bytes.
 pub const METADATA_LENGTH: usize = 512;
 
-/// The words of a metadata record.
+/// The number of words of a metadata record.
 pub const METADATA_WORDS: usize = METADATA_LENGTH / 8;
 
-/// The byte offset of the state in a metadata record: 32 bits.
+/// The byte offset of the state in a metadata record. The state has 32 bits.
 pub const STATE_OFFSET: usize = 0;
 
-/// The byte offset of the type id in a metadata record: 32 bits.
+/// The byte offset of the type id in a metadata record. The type id has 32 bits.
 pub const TYPE_ID_OFFSET: usize = 4;
 
-/// The byte offset of the reuse deadline in a metadata record: 64 bits, milliseconds. A freed id may be allocated again
-/// from that moment on.
+/// The byte offset of the reuse deadline in a metadata record. The deadline has 64 bits, and is in milliseconds. A
+/// freed id may be allocated again from this moment on.
 pub const FREE_FOR_REUSE_DEADLINE_OFFSET: usize = 8;
 
 /// The byte offset of the key in a metadata record.
 pub const KEY_OFFSET: usize = 16;
 
-/// The byte offset of the label's length in a metadata record: 32 bits. The label comes right after it.
+/// The byte offset of the label's length in a metadata record. The length has 32 bits. The label follows its length.
 pub const LABEL_OFFSET: usize = 128;
 
-/// The word of the state, its low half, and of the type id, its high half.
+/// The index of the word that has the state in its low half and the type id in its high half.
 pub const STATE_WORD: usize = STATE_OFFSET / 8;
 
-/// The word of the reuse deadline.
+/// The index of the word of the reuse deadline.
 pub const FREE_FOR_REUSE_DEADLINE_WORD: usize = FREE_FOR_REUSE_DEADLINE_OFFSET / 8;
 
-/// The first word of the key.
+/// The index of the first word of the key.
 pub const KEY_WORD: usize = KEY_OFFSET / 8;
 
-/// The word of the label's length, its low half, and of the label's first four bytes, its high half.
+/// The index of the word that has the label's length in its low half and the label's first four bytes in its high half.
 pub const LABEL_WORD: usize = LABEL_OFFSET / 8;
 
-/// The most bytes of a key. A shorter one is followed by zeros.
+/// The largest number of bytes of a key. A shorter key is followed by zeros.
 pub const MAX_KEY_LENGTH: usize = LABEL_OFFSET - KEY_OFFSET;
 
-/// The bytes of the label's length.
+/// The number of bytes of the label's length.
 pub const LABEL_LENGTH_BYTES: usize = 4;
 
-/// The bytes of the label's length and the label.
+/// The number of bytes of the label's length and the label together.
 pub const FULL_LABEL_LENGTH: usize = METADATA_LENGTH - LABEL_OFFSET;
 
-/// The most bytes of a label.
+/// The largest number of bytes of a label.
 pub const MAX_LABEL_LENGTH: usize = FULL_LABEL_LENGTH - LABEL_LENGTH_BYTES;
 
 /// The state of a record that was never used.
@@ -81,37 +81,37 @@ pub const RECORD_RECLAIMED: i32 = -1;
 /// The deadline of a counter in use.
 pub const NOT_FREE_FOR_REUSE: u64 = (1 << 63) - 1;
 
-/// The bytes of a value record.
+/// The length of a value record, in bytes.
 pub const COUNTER_LENGTH: usize = 128;
 
-/// The words of a value record.
+/// The number of words of a value record.
 pub const COUNTER_WORDS: usize = COUNTER_LENGTH / 8;
 
-/// The byte offset of the value in a value record: 64 bits, signed.
+/// The byte offset of the value in a value record. The value has 64 bits, and is signed.
 pub const VALUE_OFFSET: usize = 0;
 
-/// The byte offset of the registration id in a value record: 64 bits.
+/// The byte offset of the registration id in a value record. The registration id has 64 bits.
 pub const REGISTRATION_ID_OFFSET: usize = 8;
 
-/// The byte offset of the owner's id in a value record: 64 bits.
+/// The byte offset of the owner's id in a value record. The owner's id has 64 bits.
 pub const OWNER_ID_OFFSET: usize = 16;
 
-/// The byte offset of the reference id in a value record: 64 bits, always 0.
+/// The byte offset of the reference id in a value record. The reference id has 64 bits, and is always 0.
 pub const REFERENCE_ID_OFFSET: usize = 24;
 
-/// The word of the value.
+/// The index of the word of the value.
 pub const VALUE_WORD: usize = VALUE_OFFSET / 8;
 
-/// The word of the registration id.
+/// The index of the word of the registration id.
 pub const REGISTRATION_ID_WORD: usize = REGISTRATION_ID_OFFSET / 8;
 
-/// The word of the owner's id.
+/// The index of the word of the owner's id.
 pub const OWNER_ID_WORD: usize = OWNER_ID_OFFSET / 8;
 
-/// The word of the reference id.
+/// The index of the word of the reference id.
 pub const REFERENCE_ID_WORD: usize = REFERENCE_ID_OFFSET / 8;
 
-/// The most counters that a manager keeps.
+/// The largest number of counters that a manager keeps.
 pub const MAX_COUNTERS: u32 = 4096;
 
 /// The latest moment that a caller may pass, in milliseconds.

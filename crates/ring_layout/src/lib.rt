@@ -1,12 +1,12 @@
-//! Where records are in a ring, what their words are, and the definitions that every crate names.
+//! The places of records in a ring, the words of records, and the definitions that every crate names.
 //!
 //! - `ring_buffer_descriptor`, `broadcast_buffer_descriptor`, `counter_descriptor`: the offset of each word. `formats`
-//!   checks the rows of the documented formats against them.
+//!   compares the rows of the documented formats with these offsets.
 //! - `record_descriptor`, `word_bytes`: headers of records, and bytes inside words.
-//! - `capacity`, `placement`, `admission`: which capacities there are, where a record goes, and whether it may go
+//! - `capacity`, `placement`, `admission`: the capacities that there are, where a record goes, and whether it may go
 //!   there.
 //! - `make_fault`, `share`, `refusal_codes`: the errors that several crates have, and the number of each.
-//! - `message`, `picture_law`: messages and claims as contracts name them, and what a word of a ring depends on.
+//! - `message`, `picture_law`: messages and claims as contracts name them, and a law about the words of a ring.
 #![tactic(auto)]
 
 mod admission;

@@ -1,5 +1,5 @@
-//! Messages and claims as contracts speak of them. No value of a message or a claim is made: histories are lists of
-//! claims, and a ring has only words.
+//! Messages and claims as contracts name them. No value of a message or a claim is made. Histories are lists of claims,
+//! and a ring has only words.
 use std::collections::LinkedList;
 
 /// A type id and a body of bytes.
@@ -8,14 +8,14 @@ pub struct Message {
     pub body: LinkedList<u8>,
 }
 
-/// How far a claim is.
+/// The state of a claim.
 #[derive(Clone, Copy, Debug, PartialEq, Eq)]
 pub enum ClaimState {
-    /// Its room is claimed, and its body may still be written.
+    /// The room of the claim is taken, and its body may still be written.
     Open,
-    /// It is shown to the reader.
+    /// The claim is shown to the reader.
     Committed,
-    /// The reader passes it.
+    /// The reader passes the claim.
     Aborted,
 }
 

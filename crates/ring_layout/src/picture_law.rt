@@ -1,10 +1,10 @@
-//! What a word of the picture depends on.
+//! A law about what one word of the picture of a ring depends on.
 ghost use Rattle.std.specs.Prelude.{ℕ, List};
 ghost use Rattle.ring_layout.specs.History.{Claim};
 ghost use Rattle.ring_layout.specs.Picture.{ShowsClaim, ShowsNothingElse};
 
-/// States that a word of the picture depends on the one claim, padding or unclaimed room at its position alone. It
-/// computes nothing.
+/// States that a word of the picture depends only on the one claim, padding or unclaimed room at its position. The
+/// function computes nothing.
 pub fn word_depends_on_one_claim()
     ensures claim { (capacity e : ℕ) (front : List Claim) (c : Claim) (back : List Claim)
         → ShowsClaim capacity e front c back }

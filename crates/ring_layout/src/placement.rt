@@ -1,4 +1,4 @@
-//! Where a record may go.
+//! The places of records in a buffer.
 ghost use Rattle.std.specs.Prelude.{◌≡◌, ◌+◌, ◌/◌, ◌%◌, ◌≤◌, IsTrue};
 ghost use Rattle.std.specs.Int.{is_power_of_two};
 ghost use Rattle.ring_layout.specs.History.{span};
@@ -6,16 +6,16 @@ ghost use Rattle.ring_layout.specs.Places.{index, max_position, next_place};
 
 use crate::record_descriptor;
 
-/// The byte index of a position, in bytes, in a buffer whose capacity is a power of two.
+/// Returns the byte index of a position, in bytes, in a buffer whose capacity is a power of two.
 pub fn byte_index(capacity: u32, position: u64) -> u64
     requires { IsTrue (is_power_of_two capacity) }
     ensures { result ≡ position % capacity }
 {
-    // The mask is what the remainder is, without a division.
+    // The mask gives the remainder without a division.
     position & u64::from(capacity - 1)
 }
 
-/// The index of the word at a position, in bytes, in a buffer whose capacity is a power of two.
+/// Returns the index of the word at a position, in bytes, in a buffer whose capacity is a power of two.
 pub fn word_index(capacity: u32, position: u64) -> usize
     requires { IsTrue (is_power_of_two capacity) }
     ensures { result ≡ index capacity position }

@@ -8,14 +8,14 @@
 //!    the header word    length = 8 + n           up to a multiple of 8
 //! ```
 //!
-//! All numbers are little-endian. While a record is claimed and not settled its length is negated; an aborted
-//! record and padding have the type id -1. A header that is not yet stored is 0.
+//! All numbers are little-endian. While a record is claimed and not settled, its length is negated. An aborted record
+//! and padding have the type id -1. A header that is not yet stored is 0.
 ghost use Rattle.std.specs.Prelude.{◌≡◌, ◌+◌, ◌-◌, ◌*◌, ◌/◌, ◌%◌, ◌^◌, ◌<◌, ◌≤◌, ℤ, FitsSigned};
 ghost use Rattle.std.specs.Int.{cast_signed, w32};
 ghost use Rattle.ring_layout.specs.Headers.{header, open_header, committed_header, aborted_header, padding_header};
 ghost use Rattle.ring_layout.specs.History.{span};
 
-/// The bytes of a header.
+/// The length of a header, in bytes.
 pub const HEADER_LENGTH: usize = 8;
 
 /// The byte offset of the length in a header.
@@ -41,8 +41,8 @@ pub fn align8(bytes: u64) -> u64
     (bytes + 7) & !7
 }
 
-/// The bytes that the record of a message of `len` bytes takes, for `len` up to 2^64 - 16: a header and the message,
-/// rounded up to a multiple of 8. Padding before it is not counted.
+/// Returns the number of bytes that the record of a message of `len` bytes takes, for `len` up to 2^64 - 16. The record
+/// has a header and the message, and is rounded up to a multiple of 8. Padding before the record is not counted.
 pub fn span(len: usize) -> u64
     requires { len ≤ 2 ^ 64 - 16 }
     ensures { result ≡ span len }
@@ -50,14 +50,14 @@ pub fn span(len: usize) -> u64
     align8(HEADER_LENGTH as u64 + len as u64)
 }
 
-/// The header word of a record: the length in the low half, the type id in the high half.
+/// Returns the header word of a record. The length is in its low half, and the type id in its high half.
 pub fn pack_header(len: i32, type_id: i32) -> u64
     ensures { result ≡ header len type_id }
 {
     u64::from(type_id.cast_unsigned()) << 32 | u64::from(len.cast_unsigned())
 }
 
-/// The length and the type id of a header word. It undoes `pack_header`, and `pack_header` undoes it.
+/// Returns the length and the type id of a header word. The function is the inverse of `pack_header`.
 pub fn unpack_header(word: u64) -> (i32, i32)
     ensures len { result.0 ≡ cast_signed w32 (word % 2 ^ 32) }
     ensures type_id { result.1 ≡ cast_signed w32 (word / 2 ^ 32) }
@@ -70,7 +70,8 @@ pub fn unpack_header(word: u64) -> (i32, i32)
     (len.cast_signed(), type_id.cast_signed())
 }
 
-/// The header word of an open claim of a message with `len` bytes. The length is negated until the claim is settled.
+/// Returns the header word of an open claim of a message with `len` bytes. The length is negated until the claim is
+/// settled.
 #[inline]
 pub fn open_header(type_id: i32, len: usize) -> u64
     requires { 8 + len < 2 ^ 31 }
@@ -79,7 +80,7 @@ pub fn open_header(type_id: i32, len: usize) -> u64
     pack_header(-((HEADER_LENGTH + len) as i32), type_id)
 }
 
-/// The header word of a committed record of a message with `len` bytes.
+/// Returns the header word of a committed record of a message with `len` bytes.
 #[inline]
 pub fn committed_header(type_id: i32, len: usize) -> u64
     requires { 8 + len < 2 ^ 31 }
@@ -88,7 +89,7 @@ pub fn committed_header(type_id: i32, len: usize) -> u64
     pack_header((HEADER_LENGTH + len) as i32, type_id)
 }
 
-/// The header word of an aborted record of a message with `len` bytes. It looks like padding.
+/// Returns the header word of an aborted record of a message with `len` bytes. The word is the same as that of padding.
 #[inline]
 pub fn aborted_header(len: usize) -> u64
     requires { 8 + len < 2 ^ 31 }
@@ -97,7 +98,7 @@ pub fn aborted_header(len: usize) -> u64
     pack_header((HEADER_LENGTH + len) as i32, PADDING_MSG_TYPE_ID)
 }
 
-/// The header word of padding of this many bytes, this word included.
+/// Returns the header word of padding of this many bytes, which include the bytes of this word.
 #[inline]
 pub fn padding_header(bytes: u64) -> u64
     requires { bytes < 2 ^ 31 }

@@ -1,10 +1,10 @@
-//! The number of each refusal, which texts, replies and exports to C give for it. No two refusals share one, and one
-//! that several calls give has the same number everywhere.
+//! The number of each refusal, which texts, replies and exports to C use. No two refusals have the same number. A
+//! refusal that several calls return has the same number everywhere.
 
-/// The capacity is not one that a ring or a broadcast buffer may have.
+/// The capacity is not allowed for a ring or a broadcast buffer.
 pub const BAD_CAPACITY: i32 = 1;
 
-/// A start is no multiple of the capacity, or above 2^62.
+/// A start is not a multiple of the capacity, or is above 2^62.
 pub const BAD_START: i32 = 2;
 
 /// Out of memory.
@@ -31,7 +31,7 @@ pub const PUT_RANGE: i32 = 9;
 /// Claims are open.
 pub const CLAIMS_OPEN: i32 = 10;
 
-/// Shares are with other producers.
+/// Other producers have shares.
 pub const PRODUCERS_OUT: i32 = 11;
 
 /// One share is left, and its holder needs it.
@@ -40,7 +40,7 @@ pub const NO_SHARES: i32 = 12;
 /// A receiver was overtaken.
 pub const LAPPED: i32 = 13;
 
-/// Shares are with receivers.
+/// Receivers have shares.
 pub const RECEIVERS_OUT: i32 = 14;
 
 /// A number of counters is 0 or above 4,096.
@@ -55,7 +55,7 @@ pub const LABEL_TOO_LONG: i32 = 17;
 /// A label has a byte of 128 or more.
 pub const LABEL_NOT_ASCII: i32 = 18;
 
-/// Every id was used, and none that was freed is due.
+/// Every id was used, and the deadline of no freed id has passed.
 pub const NO_FREE_COUNTER: i32 = 19;
 
 /// An id is not below the number of counters.
@@ -64,13 +64,13 @@ pub const BAD_ID: i32 = 20;
 /// No counter with an id is in use.
 pub const NOT_ALLOCATED: i32 = 21;
 
-/// A body is no spelling of its command.
+/// A body is not an encoding of its command.
 pub const MALFORMED: i32 = 22;
 
-/// No command has a type id.
+/// No command has this type id.
 pub const UNKNOWN_TYPE: i32 = 23;
 
-/// A line is none of a scenario.
+/// A line is not a line of a scenario.
 pub const BAD_LINE: i32 = 25;
 
 /// A number of a storm's plan is not allowed.
@@ -79,5 +79,5 @@ pub const BAD_PLAN: i32 = 26;
 /// A wait took the number of turns that it was allowed.
 pub const TURNS_SPENT: i32 = 27;
 
-/// The owner is 0, which means none.
+/// The owner is 0, which means that there is no owner.
 pub const BAD_OWNER: i32 = 28;

@@ -1,10 +1,10 @@
-//! Bytes inside a word, the first one lowest, and bytes in several words.
+//! Bytes inside a word, of which the first byte is the lowest, and bytes in several words.
 ghost use Rattle.std.specs.Prelude.{◌≡◌, ℕ, ◌+◌, ◌-◌, ◌*◌, ◌/◌, ◌%◌, ◌^◌, ◌<◌, ◌≤◌, length, slice_index, take};
 ghost use Rattle.std.specs.Int.{from_le_bytes, to_le_bytes, w64};
 ghost use Rattle.ring_layout.specs.Bytes.{HoldsBytes};
 ghost use Rattle.ring_layout.specs.History.{overwritten};
 
-/// The word with these bytes in place of its own from the byte `at` on. The bytes are inside the word.
+/// Returns the word in which these bytes replace the bytes from `at` on. The bytes are inside the word.
 pub fn put_bytes_word(word: u64, at: usize, bytes: &[u8]) -> u64
     requires { at + length bytes.now ≤ 8 }
     ensures { result ≡ from_le_bytes w64 (overwritten at bytes.now (to_le_bytes w64 word)) }
@@ -14,7 +14,7 @@ pub fn put_bytes_word(word: u64, at: usize, bytes: &[u8]) -> u64
     u64::from_le_bytes(all)
 }
 
-/// The first 8 bytes as a little-endian word, with zeros if there are fewer.
+/// Returns the first 8 bytes as a little-endian word, with zeros if there are fewer than 8 bytes.
 pub fn first_word(bytes: &[u8]) -> u64
     ensures { result ≡ from_le_bytes w64 bytes.now }
 {
@@ -24,19 +24,20 @@ pub fn first_word(bytes: &[u8]) -> u64
     }
 }
 
-/// The byte at this place, 0 if there is none.
+/// Returns the byte at this place, or 0 if there is no such byte.
 fn byte_or_zero(bytes: &[u8], at: usize) -> u8
     ensures { result ≡ slice_index bytes.now at }
 {
     bytes.get(at).copied().unwrap_or(0)
 }
 
-/// Fewer than 8 bytes as a little-endian word, with zeros after them.
+/// Returns fewer than 8 bytes as a little-endian word, with zeros after them.
 fn padded_word(bytes: &[u8]) -> u64
     requires { length bytes.now < 8 }
     ensures { result ≡ from_le_bytes w64 bytes.now }
 {
-    // Byte by byte: a word load right after shorter copies to it would wait for all earlier stores.
+    // The bytes are read one by one. A load of a word right after shorter copies to it would wait for all earlier
+    // stores.
     u64::from_le_bytes([
         byte_or_zero(bytes, 0),
         byte_or_zero(bytes, 1),
@@ -49,9 +50,10 @@ fn padded_word(bytes: &[u8]) -> u64
     ])
 }
 
-/// Stores bytes in the words from the index `at` on, with zeros up to the end of their last word.
+/// Stores bytes in the words from the index `at` on, with zeros up to the end of the last word.
 ///
-/// A word of the slice holds 8 bytes, the first one lowest. The words before and after them are unchanged.
+/// A word of the slice has 8 bytes, of which the first one is the lowest. The words before and after these words are
+/// unchanged.
 #[inline]
 pub fn store_bytes(words: &mut [u64], at: usize, bytes: &[u8])
     requires { at + (length bytes.now + 7) / 8 ≤ length words.old }
@@ -68,7 +70,7 @@ pub fn store_bytes(words: &mut [u64], at: usize, bytes: &[u8])
     }
 }
 
-/// Writes the 8 bytes of a word over those from `at` on.
+/// Writes the 8 bytes of a word over the bytes from `at` on.
 pub fn put_word(bytes: &mut [u8], at: usize, word: u64)
     requires { at + 8 ≤ length bytes.old }
     ensures { bytes.new ≡ overwritten at (to_le_bytes w64 word) bytes.old }
@@ -76,7 +78,7 @@ pub fn put_word(bytes: &mut [u8], at: usize, word: u64)
     bytes[at..at + 8].copy_from_slice(&word.to_le_bytes());
 }
 
-/// Writes the bytes of a word over those from `at` on, up to the end of the slice.
+/// Writes the bytes of a word over the bytes from `at` on, up to the end of the slice.
 pub fn put_part(bytes: &mut [u8], at: usize, word: u64)
     requires { at ≤ length bytes.old }
     ensures { bytes.new ≡ overwritten at (take (length bytes.old - at) (to_le_bytes w64 word)) bytes.old }
@@ -89,7 +91,7 @@ pub fn put_part(bytes: &mut [u8], at: usize, word: u64)
     }
 }
 
-/// The byte `at` of a word, 0 to 7.
+/// Returns the byte `at` of a word. `at` is 0 to 7.
 pub fn get_byte_word(word: u64, at: usize) -> u8
     requires { at < 8 }
     ensures { result ≡ word / 2 ^ (8 * at) % 256 }

@@ -10,7 +10,7 @@ use Rattle.ring_lines.specs.declared.name.Name.TheVariants.{Write, Claim, Put, C
 use Rattle.ring_lines.specs.Taking.{words_in}
 use Rattle.ring_lines.specs.Words.{SpellsActions, SpellsBytes, SpellsI32, SpellsI64, SpellsUnsigned}
 
--- what a word can be
+-- the kinds of words
 pub data Kind : Type 0 where
   signed_32 : Kind
   signed_64 : Kind
@@ -37,7 +37,7 @@ AreOf [] (word ∷ more) = ⊥
 AreOf (kind ∷ kinds) [] = ⊥
 AreOf (kind ∷ kinds) (word ∷ more) = IsOf kind word × AreOf kinds more
 
--- the next word is missing, or not of this kind
+-- the next word is missing, or is not of this kind
 abbrev pub HasNone : Kind → Words → Type 0
 HasNone kind words =
     (word : List ℕ) (more : List (List ℕ)) → words_in words ≡ word ∷ more → IsOf kind word → ⊥
@@ -75,7 +75,7 @@ spelled Watch = codes "watch"
 spelled Peek = codes "peek"
 spelled Unwatch = codes "unwatch"
 
--- the kinds of the words after it
+-- the kinds of the words after the first word
 abbrev pub kinds_of : Name → List Kind
 kinds_of Write = signed_32 ∷ bytes ∷ []
 kinds_of Claim = signed_32 ∷ unsigned_64 ∷ []
@@ -108,6 +108,7 @@ kinds_of Watch = []
 kinds_of Peek = unsigned_64 ∷ unsigned_32 ∷ []
 kinds_of Unwatch = unsigned_64 ∷ []
 
--- a fault of a line whose words after its name are to be of these kinds: they are not, or memory ran out
+-- The fault of a line whose words after its name must be of these kinds. The words are not of these kinds, or memory
+-- ran out.
 abbrev pub Refuses : List Kind → Words → LineFault → Type 0
 Refuses kinds words fault = fault ≢ OutOfMemory → AreOf kinds (words_in words) → ⊥

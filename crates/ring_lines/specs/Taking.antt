@@ -16,6 +16,6 @@ words_in words = words_of words.rest.now
 abbrev pub HasWord : Words → Type 0
 HasWord words = (word : List ℕ) × (more : List (List ℕ)) × (words_in words ≡ word ∷ more)
 
--- the next word was taken, and this holds of it
+-- the next word was taken, and it has this property
 abbrev pub TakesWord : (List ℕ → Type 0) → Words → Words → Type 0
 TakesWord Spells old new = (word : List ℕ) × (words_in old ≡ word ∷ words_in new) × Spells word

@@ -1,4 +1,4 @@
-//! What a line asks for.
+//! The call that a line asks for.
 ghost use Rattle.std.specs.Prelude.{◌≡◌, ◌≢◌, ◌∷◌, IfErr, IfOk, codes};
 ghost use Rattle.ring_lines.specs.Forms.{kinds_of, spelled, Refuses};
 ghost use Rattle.ring_lines.specs.Text.{words_of, IsBlank, IsEnd};
@@ -10,10 +10,10 @@ use crate::service_call::ServiceCall;
 use ring_words::Action;
 use std::alloc::Global;
 
-/// What a line of a scenario asks for.
+/// The call that a line of a scenario asks for.
 #[derive(Drop)]
 pub enum Line {
-    /// No words, or a comment.
+    /// The line has no words, or is a comment.
     Nothing,
     Call(Call),
     End,
@@ -22,7 +22,7 @@ pub enum Line {
 impl Line {
     ghost use Rattle.ring_lines.specs.Lines.{AsksForNone, IsLine};
 
-    /// Parses a line, given without its line feed. A line without words, a comment and `end` alone are no fault. A line
+    /// Parses a line, without its line feed. A line without words, a comment, and `end` alone are not faults. A line
     /// whose words ask for a call is never bad.
     pub fn parse(alloc: Global, text: &[u8]) -> Result<Line, LineFault>
         ensures line { IfOk result (λ line. IsLine line (words_of text.now)) }
@@ -36,7 +36,7 @@ impl Line {
         }
     }
 
-    /// Parses a line, whose carriage return is a part of a word.
+    /// Parses a line. A carriage return is a part of a word.
     fn of_words(alloc: Global, text: &[u8]) -> Result<Line, LineFault>
         ensures line { IfOk result (λ line. IsLine line (words_of text.now)) }
         ensures blank { IsBlank (words_of text.now) → result ≡ Ok Line.Nothing }
@@ -61,7 +61,7 @@ impl Line {
     }
 }
 
-/// A call of the ring, of the broadcast buffer or of the conductor's side, as a line asks for it.
+/// A call of the ring, of the broadcast buffer, or of the conductor's side, as a line asks for it.
 #[derive(Drop)]
 pub enum Call {
     /// `write TYPE HEX`

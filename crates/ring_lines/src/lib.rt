@@ -1,8 +1,8 @@
-//! The lines of a scenario, and what they ask for.
+//! The lines of a scenario, and the calls that they ask for.
 //!
-//! - `lines`: an input as lines, and a line as words.
-//! - `name`, `call`, `service_call`, `moment`: what a line asks for.
-//! - `fault`: why a line is not executed.
+//! - `lines`: splits an input into lines, and a line into words.
+//! - `name`, `call`, `service_call`, `moment`: the calls that lines ask for.
+//! - `fault`: the reasons why a line is not executed.
 #![tactic(auto)]
 
 mod call;

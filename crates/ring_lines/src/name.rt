@@ -40,7 +40,7 @@ impl Name {
     ghost use Rattle.ring_lines.specs.declared.name.Name.{Name};
     ghost use Rattle.ring_lines.specs.Forms.{spelled};
 
-    /// The name that a word spells.
+    /// Returns the name that a word spells.
     pub fn of(word: &[u8]) -> Option<Name>
         ensures { MatchOption result ((name : Name) → spelled name ≢ word.now) (λ name. spelled name ≡ word.now) }
     {

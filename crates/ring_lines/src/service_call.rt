@@ -1,4 +1,4 @@
-//! What a line asks of the conductor's side, commands among it.
+//! The calls of the conductor's side that a line asks for. Commands are among them.
 ghost use Rattle.ring_lines.specs.Forms.{kinds_of, Refuses};
 ghost use Rattle.ring_lines.specs.Text.{words_of};
 ghost use Rattle.std.specs.Prelude.{◌∷◌, IfErr, IfOk, codes};
@@ -10,7 +10,7 @@ use crate::name::Name;
 use ring_protocol::Request;
 use std::alloc::Global;
 
-/// A call of the command ring, of the conductor or of what it serves, as a line asks for it.
+/// A call of the command ring, of the conductor, or of what the conductor serves, as a line asks for it.
 #[derive(Drop)]
 pub enum ServiceCall {
     /// `send TYPE HEX`

@@ -1,4 +1,4 @@
--- Why a command is refused, and the number that its reply gives for that.
+-- The reasons why a command is refused, and the numbers of these reasons in replies.
 use Rattle.std.specs.Prelude.{◌≡◌, ℕ, ℤ, pos, Result, Ok, IfOk, IfErr}
 use Rattle.ring_protocol.specs.declared.codes.RefusalCode.{RefusalCode}
 use Rattle.ring_protocol.specs.declared.codes.RefusalCode.TheVariants as of
@@ -23,7 +23,7 @@ number_of of.Malformed = pos 22
 number_of of.UnknownType = pos 23
 number_of of.BadOwner = pos 28
 
--- the refusal with this number, or the number if none has it
+-- the refusal with this number, or the number if no refusal has it
 pub record IsNamed (number : ℤ) (result : Result RefusalCode UnknownCode) : Type 0 where
   pub found : IfOk result (λ code. number_of code ≡ number)
   pub only : (code : RefusalCode) → number_of code ≡ number → result ≡ Ok code

@@ -1,11 +1,11 @@
--- The fields of a body: how each is spelled, and how it is read from the front of bytes.
+-- The fields of a body. Each is encoded here, and is read from the front of bytes.
 use Rattle.std.specs.Prelude.{ℕ, ℤ, ◌<◌, ◌^◌, List, ◌++◌, length, take, drop, All, Option, Some, None, nat_lt, ◌==◌, if◌then◌else◌}
 use Rattle.std.specs.Int.{w32, w64, to_le_bytes, from_le_bytes, cast_signed, cast_unsigned}
 
 abbrev pub AreBytes : List ℕ → Type 0
 AreBytes bytes = All (λ b. b < 256) bytes
 
--- a number, its lowest byte first
+-- the bytes of a number, the lowest byte first
 unfoldable pub u32_field : ℕ → List ℕ
 u32_field n = to_le_bytes w32 n
 
@@ -18,15 +18,15 @@ i32_field z = u32_field (cast_unsigned w32 z)
 unfoldable pub i64_field : ℤ → List ℕ
 i64_field z = u64_field (cast_unsigned w64 z)
 
--- bytes whose number can be said by a length
+-- a length field can hold the number of these bytes
 abbrev pub IsSized : List ℕ → Type 0
 IsSized bytes = AreBytes bytes × (length bytes < 2 ^ 32)
 
--- a length, and that many bytes
+-- a length, and then this many bytes
 unfoldable pub sized_field : List ℕ → List ℕ
 sized_field bytes = u32_field (length bytes) ++ bytes
 
--- what is read from the front of bytes, and the bytes after it
+-- a function that reads a value from the front of bytes, and returns the bytes after it
 abbrev pub Reader : Type 0 → Type 0
 Reader V = List ℕ → Option (V × List ℕ)
 
@@ -50,11 +50,11 @@ i64_at bytes = u64_at bytes >>= λ n. Some (cast_signed w64 n.0, n.1)
 unfoldable pub sized_at : Reader (List ℕ)
 sized_at bytes = u32_at bytes >>= λ n. if nat_lt (length n.1) n.0 then None else Some (take n.0 n.1, drop n.0 n.1)
 
--- one field, and then another
+-- reads one field, and then another
 infixl 20 ◌⊗◌
 abbrev pub ◌⊗◌ : {A B : Type 0} → Reader A → Reader B → Reader (A × B)
 (first ⊗ second) bytes = first bytes >>= λ a. second a.1 >>= λ b. Some ((a.0, b.0), b.1)
 
--- what is made of the fields, if no bytes are left
+-- the value that is made of the fields, if no bytes are left
 abbrev pub whole : {V X : Type 0} → (V → X) → Reader V → List ℕ → Option X
 whole made fields body = fields body >>= λ v. if length v.1 == 0 then Some (made v.0) else None

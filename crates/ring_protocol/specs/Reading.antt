@@ -9,7 +9,7 @@ use Rattle.ring_protocol.specs.declared.reply.Reply.{Reply}
 use Rattle.ring_protocol.specs.declared.reply.Reply.TheVariants.{Allocated, Done, Refused, Closed}
 use Rattle.ring_protocol.specs.Command.{Instruction, Request, Allocate, Free, Set, AllocateOwned, Close, with_id}
 
--- a correlation id and then these fields, of which the request is made
+-- the command of a correlation id and these fields, from which the request is made
 abbrev pub asking : {V : Type 0} → (V → Request (List ℕ)) → Reader V → List ℕ → Option Instruction
 asking made fields body = whole (λ v. with_id v.0 (made v.1)) (u64_at ⊗ fields) body
 
@@ -29,7 +29,7 @@ allocate_owned_of body =
 unfoldable pub close_of : List ℕ → Option Instruction
 close_of body = asking (λ owner. Close owner) u64_at body
 
--- the command that a type id and a body spell, or what is wrong with them
+-- the command that a type id and a body encode, or their fault
 unfoldable pub command_of : ℤ → List ℕ → Result Instruction Bad
 command_of type_id body =
     if int_eq type_id (pos 1) then or_malformed body (allocate_of body)
@@ -51,7 +51,7 @@ refused_of body = whole (λ v. Refused v.0 v.1) (u64_at ⊗ i32_at) body
 unfoldable pub closed_of : List ℕ → Option Reply
 closed_of body = whole (λ v. Closed v.0 v.1) (u64_at ⊗ u32_at) body
 
--- the reply that a type id and a body spell, or what is wrong with them
+-- the reply that a type id and a body encode, or their fault
 unfoldable pub reply_of : ℤ → List ℕ → Result Reply Bad
 reply_of type_id body =
     if int_eq type_id (pos 101) then or_malformed body (allocated_of body)

@@ -1,22 +1,22 @@
--- What is written over the start of an output.
+-- The text that is written at the start of an output.
 use Rattle.std.specs.Prelude.{◌≡◌, ℕ, ◌≤◌, ◌↔◌, List, ◌++◌, length, drop, Option, IsSome, IfSome, IfNone}
 use Rattle.ring_protocol.specs.declared.reply.Reply.{Reply}
 use Rattle.ring_protocol.specs.Command.{Instruction, spelling_of, HasSpelling, HasTextLengths}
 use Rattle.ring_protocol.specs.Reply as reply
 
--- the output with the text over its start
+-- the output in which the text replaces the start
 abbrev pub over_start : List ℕ → List ℕ → List ℕ
 over_start text old = text ++ drop (length text) old
 
--- The text is at the start of an output if it fits. Otherwise nothing was written.
+-- If the text fits, it is at the start of the output. Otherwise nothing was written.
 pub record WritesText (text old new : List ℕ) (result : Option ℕ) : Type 0 where
   pub fits : IsSome result ↔ (length text ≤ length old)
   pub len : IfSome result (λ n. n ≡ length text)
   pub some : IfSome result (λ n. new ≡ over_start text old)
   pub none : IfNone result (new ≡ old)
 
--- The encoding of a command is at the start of an output, if it fits and if lengths can hold those of the key and the
--- label. Otherwise nothing was written.
+-- If the encoding of a command fits and lengths can hold those of the key and the label, it is at the start of the
+-- output. Otherwise nothing was written.
 pub record Encodes (c : Instruction) (old new : List ℕ) (result : Option ℕ) : Type 0 where
   pub fits : IsSome result ↔ (HasTextLengths c.request × (length (spelling_of c) ≤ length old))
   pub spelled : IfSome result (λ n. HasSpelling c)

@@ -1,4 +1,4 @@
-//! Why commands are refused, and the numbers that replies give for that.
+//! The reasons why commands are refused, and the numbers of these reasons in replies.
 
 ghost use Rattle.std.specs.Prelude.{◌≡◌, pos};
 ghost use Rattle.ring_counters.specs.Codes.{allocate_code, id_code};
@@ -14,7 +14,8 @@ use ring_layout::refusal_codes::{
 use std::fmt;
 use thiserror::Error;
 
-/// Why the conductor refused a command. `Reply::Refused` has its number, from which `try_from` makes it again.
+/// The reason why the conductor refused a command. `Reply::Refused` has the number of the reason. `try_from` makes the
+/// reason from this number.
 #[derive(Clone, Copy, Debug, PartialEq, Eq)]
 pub enum RefusalCode {
     /// The key has more than 112 bytes.
@@ -23,17 +24,17 @@ pub enum RefusalCode {
     LabelTooLong,
     /// The label has a byte of 128 or more.
     LabelNotAscii,
-    /// Every id was used, and none that was freed is due.
+    /// Every id was used, and the deadline of no freed id has passed.
     NoFreeCounter,
     /// The id is not below the number of counters.
     BadId,
     /// No counter with the id is in use.
     NotAllocated,
-    /// The type id is a command's, and the body is no spelling of its kind.
+    /// The type id is one of a command, but the body is not an encoding of such a command.
     Malformed,
-    /// No command has the type id.
+    /// No command has this type id.
     UnknownType,
-    /// The owner is 0, which means none.
+    /// The owner is 0, which means that there is no owner.
     BadOwner,
 }
 
@@ -45,7 +46,7 @@ pub struct UnknownCode {
 }
 
 impl RefusalCode {
-    /// The number that a reply gives for it.
+    /// Returns the number that a reply gives for this reason.
     pub fn number(self) -> i32
         ensures { result ≡ number_of self }
     {
@@ -63,14 +64,14 @@ impl RefusalCode {
     }
 }
 
-/// The number and the name, as `16 KeyTooLong`.
+/// Writes the number and the name, as `16 KeyTooLong`.
 impl fmt::Display for RefusalCode {
     fn fmt<W: fmt::Write>(&self, f: &mut fmt::Formatter<W>) -> fmt::Result {
         write!(f, "{} {:?}", self.number(), self)
     }
 }
 
-/// Returns `UnknownCode` if no refusal has the number.
+/// Returns `UnknownCode` if no refusal has this number.
 impl TryFrom<i32> for RefusalCode {
     type Error = UnknownCode;
 
@@ -136,14 +137,14 @@ impl From<Bad> for RefusalCode {
 }
 
 impl Bad {
-    /// The number of the fault.
+    /// Returns the number of the fault.
     pub fn code(self) -> i32
         ensures { result ≡ bad_code self }
     {
         RefusalCode::from(self).number()
     }
 
-    /// The correlation id of the reply.
+    /// Returns the correlation id of the reply.
     pub fn correlation(self) -> u64
         ensures { result ≡ bad_correlation self }
     {

@@ -1,4 +1,4 @@
-//! What a client sends to the conductor, and how it is spelled as bytes.
+//! The commands that a client sends to the conductor, and their encoding as bytes.
 ghost use Rattle.std.specs.Prelude.{◌≡◌, ◌+◌, ◌^◌, ◌<◌, ◌↔◌, ℕ, length, IfSome, IsSome};
 ghost use Rattle.ring_protocol.specs.Command.{Allocate, AllocateOwned, Close, Free, Set, asked, content_of, with_id};
 ghost use Rattle.ring_protocol.specs.Writing.{Encodes};
@@ -25,12 +25,12 @@ pub mod type_ids {
     pub const CLOSE: i32 = 5;
 }
 
-/// The most bytes of a command whose key has at most 112 bytes and whose label has at most 380, as a counter's may
-/// have.
+/// The number of bytes of the longest command whose key has at most 112 bytes and whose label has at most 380 bytes, as
+/// those of a counter have.
 pub const LONGEST_COMMAND: usize = 520;
 
-/// What is asked of the conductor: a command without its correlation id. Key and label are of type `T`: `&[u8]` in a
-/// request that is sent, and `Vec<u8>` in one that owns them.
+/// A request to the conductor, which is a command without its correlation id. The key and the label are of type `T`.
+/// This is `&[u8]` in a request that is sent, and `Vec<u8>` in a request that owns them.
 #[derive(Clone, Copy, Debug, PartialEq, Eq, Drop)]
 pub enum Request<T> {
     /// Makes a counter of this type.
@@ -64,7 +64,7 @@ pub enum Request<T> {
 impl Request<Vec<u8>> {
     ghost use Rattle.ring_protocol.specs.Command.{content_of_owned, content_of_request};
 
-    /// The same request, with a key and a label that it borrows from this one.
+    /// Returns the same request, with a key and a label that it borrows from this one.
     pub fn as_slices(&self) -> Request<&[u8]>
         ensures { content_of_request result ≡ content_of_owned self.now }
     {
@@ -103,7 +103,7 @@ impl Request<&[u8]> {
     ghost use Rattle.ring_protocol.specs.Command.{HasTextLengths, asked, content_of_request};
     ghost use Rattle.ring_protocol.specs.Command.{request_type_id, spelling_of};
 
-    /// The type id of the message that spells the command.
+    /// Returns the type id of the message that encodes the command.
     pub fn type_id(&self) -> i32
         ensures { result ≡ request_type_id (content_of_request self.now) }
     {
@@ -116,9 +116,9 @@ impl Request<&[u8]> {
         }
     }
 
-    /// Returns the length in bytes of the encoding of the command, with any correlation id. It is at most
-    /// `LONGEST_COMMAND` if the key and the label are not too long for a counter. `None` if the key or the label is
-    /// longer than 2^32 - 1 bytes: such a command cannot be encoded.
+    /// Returns the length in bytes of the encoding of the command, with any correlation id. The length is at most
+    /// `LONGEST_COMMAND` if the key and the label are not too long for a counter. Returns `None` if the key or the
+    /// label is longer than 2^32 - 1 bytes, since such a command cannot be encoded.
     pub fn encoded_len(&self) -> Option<usize>
         ensures fits { IsSome result ↔ HasTextLengths (content_of_request self.now) }
         ensures len { (correlation : ℕ) → IfSome result (λ n. n ≡ length (spelling_of (asked self.now correlation))) }
@@ -135,11 +135,11 @@ impl Request<&[u8]> {
     }
 }
 
-/// A command: a request and its correlation id. Its reply carries the same correlation id. A command that was decoded
-/// borrows its key and its label from the bytes.
+/// A command, which is a request with its correlation id. The reply to the command has the same correlation id. A
+/// command that was decoded borrows its key and its label from the bytes.
 #[derive(Clone, Copy, Debug, PartialEq, Eq)]
 pub enum Command<'a> {
-    /// Makes a counter of this type. It has the correlation id as its registration id.
+    /// Makes a counter of this type. The registration id of the counter is the correlation id.
     Allocate {
         correlation: u64,
         type_id: i32,
@@ -175,7 +175,7 @@ pub enum Command<'a> {
 impl<'a> Command<'a> {
     ghost use Rattle.ring_protocol.specs.Command.{HasTextLengths, spelling_of, type_id_of};
 
-    /// What it asks for, without the correlation id.
+    /// Returns the request of the command, without the correlation id.
     pub fn request(&self) -> Request<&'a [u8]>
         ensures { asked result (content_of self.now).correlation ≡ content_of self.now }
     {
@@ -208,7 +208,7 @@ impl<'a> Command<'a> {
         }
     }
 
-    /// The correlation id, which its reply carries too.
+    /// Returns the correlation id, which the reply has too.
     pub fn correlation(&self) -> u64
         ensures { result ≡ (content_of self.now).correlation }
     {
@@ -221,15 +221,16 @@ impl<'a> Command<'a> {
         }
     }
 
-    /// The type id of the message that spells the command.
+    /// Returns the type id of the message that encodes the command.
     pub fn type_id(&self) -> i32
         ensures { result ≡ type_id_of (content_of self.now) }
     {
         self.request().type_id()
     }
 
-    /// Returns the length of its encoding in bytes, at most `LONGEST_COMMAND` if its key and its label are not too long
-    /// for a counter. `None` if the key or the label is longer than 2^32 - 1 bytes: such a command cannot be encoded.
+    /// Returns the length in bytes of the encoding of the command. The length is at most `LONGEST_COMMAND` if the key
+    /// and the label are not too long for a counter. Returns `None` if the key or the label is longer than 2^32 - 1
+    /// bytes, since such a command cannot be encoded.
     pub fn encoded_len(&self) -> Option<usize>
         ensures fits { IsSome result ↔ HasTextLengths (content_of self.now).request }
         ensures len { IfSome result (λ n. n ≡ length (spelling_of (content_of self.now))) }
@@ -238,8 +239,8 @@ impl<'a> Command<'a> {
     }
 }
 
-/// The number of bytes that a field of these bytes takes, with the length before them, if four bytes can hold the
-/// length.
+/// Returns the number of bytes of a field that has these bytes after their length. Returns `None` if four bytes cannot
+/// hold the length.
 fn sized_len(bytes: &[u8]) -> Option<usize>
     ensures fits { IsSome result ↔ (length bytes.now < 2 ^ 32) }
     ensures len { IfSome result (λ n. n ≡ 4 + length bytes.now) }
@@ -319,8 +320,8 @@ fn encode_close(out: &mut [u8], correlation: u64, owner: u64) -> Option<usize>
     write_fields(out, &[&correlation.to_le_bytes(), &owner.to_le_bytes()])
 }
 
-/// Encodes the command that asks for this, with a correlation id, at the start of the output, and returns the number of
-/// bytes. The rest of the output is unchanged.
+/// Encodes a request with a correlation id at the start of the output, and returns the number of bytes. The rest of the
+/// output is unchanged.
 ///
 /// Returns `None`, and writes nothing, if the encoding does not fit, or if the key or the label is longer than 2^32 - 1
 /// bytes.

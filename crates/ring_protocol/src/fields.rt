@@ -1,4 +1,5 @@
-//! The fields of a body, little-endian: read from its front, and written over the start of an output.
+//! The fields of a body, which are little-endian. They are read from the front of a body, and written at the start of
+//! an output.
 
 ghost use Rattle.std.specs.Prelude.{◌≡◌, ◌≤◌, ◌<◌, ◌^◌, ◌↔◌, length, IsSome, IfSome};
 ghost use Rattle.std.specs.List.{flat_map};
@@ -52,7 +53,7 @@ pub fn take_sized(bytes: &[u8]) -> Option<(&[u8], &[u8])>
     rest.split_at_checked(len as usize)
 }
 
-/// The correlation of the reply to a body that spells nothing.
+/// Returns the correlation id of the reply to a body that encodes nothing.
 #[tactic(auto, unfolding(crate::specs::Bad::correlation_of, crate::specs::Field::u64_at))]
 pub fn correlation_in(body: &[u8]) -> u64
     ensures { result ≡ correlation_of body.now }
@@ -60,7 +61,7 @@ pub fn correlation_in(body: &[u8]) -> u64
     take_u64(body).map_or(u64::MAX, |(correlation, _)| correlation)
 }
 
-/// The total length of the fields, if it is no more than the limit.
+/// Returns the total length of the fields, if it is at most the limit.
 #[inline]
 fn joined_len(fields: &[&[u8]], limit: usize) -> Option<usize>
     ensures fits { IsSome result ↔ (length (flat_map (λ field. field.now) fields.now) ≤ limit) }
@@ -87,7 +88,7 @@ pub fn write_fields(out: &mut [u8], fields: &[&[u8]]) -> Option<usize>
     Some(len)
 }
 
-/// The length of the bytes as the field before them, if four bytes can hold it.
+/// Returns the length of the bytes as the field that comes before them, if four bytes can hold the length.
 #[tactic(auto, unfolding(crate::specs::Field::u32_field))]
 #[inline]
 pub fn len_field(bytes: &[u8]) -> Option<[u8; 4]>

@@ -1,9 +1,9 @@
-//! Commands and replies, and how they are spelled as bytes and read again.
+//! Commands and replies, and their encoding as bytes.
 //!
-//! - `command`, `reply`: the messages, and how they are encoded; `decode` of each reads them again.
-//! - `fields`: the fields of a body, read from its front and written over the start of an output.
-//! - `codes`, `fault`: why a command is refused, and why bytes are no message.
-//! - `laws`: each spelling is of one message, and what was encoded is decoded again.
+//! - `command`, `reply`: the messages, and their encoding. The module `decode` of each decodes them.
+//! - `fields`: the fields of a body, which are read from its front and written at the start of an output.
+//! - `codes`, `fault`: the reasons why a command is refused, and why bytes are not a message.
+//! - `laws`: the laws of the encoding.
 #![tactic(auto)]
 
 mod codes;

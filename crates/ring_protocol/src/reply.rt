@@ -1,4 +1,4 @@
-//! The replies of the conductor, and how they are spelled as bytes.
+//! The replies of the conductor, and their encoding as bytes.
 ghost use Rattle.ring_protocol.specs.Writing.{EncodesReply};
 
 pub mod decode;
@@ -20,17 +20,17 @@ pub mod type_ids {
     pub const CLOSED: i32 = 104;
 }
 
-/// The bytes of the longest reply.
+/// The number of bytes of the longest reply.
 pub const LONGEST_REPLY: usize = 12;
 
 /// The reply to the command with the same correlation id.
 #[derive(Clone, Copy, Debug, PartialEq, Eq)]
 pub enum Reply {
-    /// A counter was made, and this is its id.
+    /// A counter was allocated. This is its id.
     Allocated { correlation: u64, id: u32 },
     /// The counter was freed or set.
     Done { correlation: u64 },
-    /// Nothing was done, for the reason with this number: see `RefusalCode`.
+    /// Nothing was done. The reason has this number, as `RefusalCode` says.
     Refused { correlation: u64, code: i32 },
     /// This many counters of the owner were freed.
     Closed { correlation: u64, freed: u32 },
@@ -40,7 +40,7 @@ impl Reply {
     ghost use Rattle.std.specs.Prelude.{◌≡◌, length};
     ghost use Rattle.ring_protocol.specs.Reply.{correlation_id_of, spelling_of, type_id_of};
 
-    /// The type id of the message that spells the reply.
+    /// Returns the type id of the message that encodes the reply.
     pub fn type_id(&self) -> i32
         ensures { result ≡ type_id_of self.now }
     {
@@ -52,7 +52,7 @@ impl Reply {
         }
     }
 
-    /// The correlation id of the command that it replies to.
+    /// Returns the correlation id of the command to which this is the reply.
     pub fn correlation(&self) -> u64
         ensures { result ≡ correlation_id_of self.now }
     {
@@ -64,7 +64,7 @@ impl Reply {
         }
     }
 
-    /// Returns the length of its encoding in bytes: 8 for a `Done`, otherwise 12.
+    /// Returns the length in bytes of the encoding. It is 8 for `Done`, and otherwise 12.
     #[tactic(auto, unfolding(crate::specs::Field::u32_field, crate::specs::Field::u64_field, crate::specs::Field::i32_field))]
     pub fn encoded_len(&self) -> usize
         ensures { result ≡ length (spelling_of self.now) }
@@ -76,8 +76,8 @@ impl Reply {
     }
 }
 
-/// Encodes the reply at the start of the output, and returns the number of bytes: 8 for a `Done`, otherwise 12. The
-/// rest of the output is unchanged.
+/// Encodes the reply at the start of the output, and returns the number of bytes. This number is 8 for `Done`, and
+/// otherwise 12. The rest of the output is unchanged.
 pub fn encode_reply(reply: &Reply, out: &mut [u8; 12]) -> usize
     ensures { EncodesReply reply.now out.old out.new result }
 {

@@ -8,30 +8,30 @@ use std::fmt::Write;
 /// An open claim.
 #[derive(Clone, Copy, Debug, PartialEq, Eq)]
 pub struct OpenClaim {
-    /// Its type id.
+    /// The type id of the claim.
     pub type_id: i32,
-    /// The bytes of its header and its message.
+    /// The number of bytes of the header and the message.
     pub length: u32,
 }
 
 /// The first record at which the consumer of a ring stops.
 #[derive(Clone, Copy, Debug, PartialEq, Eq)]
 pub struct Stop {
-    /// Its position, in bytes.
+    /// The position of the record, in bytes.
     pub place: u64,
-    /// The claim that is open there; `None` if its header is not yet stored.
+    /// The claim that is open at this position, or `None` if its header is not yet stored.
     pub claim: Option<OpenClaim>,
 }
 
-/// What one look at a ring says of its consumer. Two equal ones show that it was blocked between the two looks: the
-/// head did not move, and the first record that is not settled was the same.
+/// The state of the consumer of a ring, as one look shows it. If two looks show the same state, the consumer was
+/// blocked between them. The head did not move, and the first record that is not settled was the same.
 #[derive(Clone, Copy, Debug, PartialEq, Eq)]
 pub struct Sight {
     head: u64,
     stop: Stop,
 }
 
-/// Adds the record at which the consumer stops, and for how long it was blocked there.
+/// Adds the record at which the consumer stops, and the time for which it was blocked there.
 fn push_stop(text: &mut String, stop: Stop, blocked_ms: Option<u64>) -> Result<(), AllocError> {
     let place = stop.place;
     match blocked_ms {
@@ -47,8 +47,8 @@ fn push_stop(text: &mut String, stop: Stop, blocked_ms: Option<u64>) -> Result<(
 }
 
 impl Report {
-    /// What this look says of the consumer of a ring. `None` if nothing stops a read, or if the positions changed while
-    /// the memory was read.
+    /// Returns the state of the consumer of a ring, as this look shows it. Returns `None` if nothing stops a read, or
+    /// if the positions changed while the memory was read.
     pub fn sight(&self) -> Option<Sight>
         ensures settled { IfSome result (λ _. self.now.is_settled ≡ true) }
         ensures stops { IfSome result (λ _. is_some self.now.stop ≡ true) }
@@ -61,22 +61,23 @@ impl Report {
         }
     }
 
-    /// Notes that a look had the same sight this many milliseconds earlier, so that the consumer was blocked meanwhile.
+    /// Notes that a look this many milliseconds earlier showed the same state, so that the consumer was blocked
+    /// meanwhile.
     pub fn note_blocked(&mut self, millis: u64)
         ensures { self.new ≡ record self.old { blocked_ms = Some millis } }
     {
         self.blocked_ms = Some(millis);
     }
 
-    /// Tests whether two looks saw the consumer blocked.
+    /// Tests whether two looks showed that the consumer is blocked.
     pub fn is_blocked(&self) -> bool
         ensures { result ≡ is_some self.now.blocked_ms }
     {
         self.blocked_ms.is_some()
     }
 
-    /// Adds the number of each kind, where a read stops or was blocked, and whether the positions changed all the time,
-    /// in one line without its end.
+    /// Adds one line without its end. The line has the number of records of each kind, the place at which a read stops
+    /// or was blocked, and whether the positions changed all the time.
     pub fn push_summary(&self, text: &mut String) -> Result<(), AllocError> {
         text.push_str(self.summary.as_str())?;
         if let Some(stop) = self.stop {

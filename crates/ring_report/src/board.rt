@@ -36,7 +36,7 @@ impl<'a> From<BoardRecord<'a>> for Shown<'a> {
     }
 }
 
-/// Adds the numbers of the whole, and of its records.
+/// Adds the numbers of the broadcast buffer and of its records.
 fn add_numbers(
     report: &mut Report,
     board: &BoardSnapshot<'_>,
@@ -55,7 +55,7 @@ fn add_numbers(
     ])
 }
 
-/// Adds all of it in one line.
+/// Adds the summary, which is one line.
 fn sum_up(text: &mut String, board: &BoardSnapshot<'_>, tally: Tally) -> Result<(), AllocError> {
     let (valid, lapped, padding) = (tally.committed, tally.lapped, tally.passed);
     write!(text, "{valid} valid, {lapped} lapped, {padding} padding")?;
@@ -69,7 +69,7 @@ fn sum_up(text: &mut String, board: &BoardSnapshot<'_>, tally: Tally) -> Result<
     Ok(())
 }
 
-/// Letters, and the byte indexes before which they are.
+/// Returns letters, and the byte indexes before which they are drawn.
 fn signs(board: &BoardSnapshot<'_>) -> [(char, u64); 3] {
     let capacity = board.capacity();
     [
@@ -98,15 +98,15 @@ fn list(
 }
 
 impl Report {
-    /// What is in the words of a broadcast buffer: the current lap, or what is listed from the position that is asked
-    /// for. Its findings are as those of `of_ring`.
+    /// Returns the report of the words of a broadcast buffer. It lists the current lap, or the records from the
+    /// position that is asked for. Its findings are like those of `of_ring`.
     pub fn of_board(alloc: Global, words: &[u64], view: View) -> Result<Report, AllocError> {
         let mut report = Report::empty(alloc, "board", "records");
         report.add_board(alloc, words, view)?;
         Ok(report)
     }
 
-    /// Adds what is in the words of a broadcast buffer.
+    /// Adds the report of the words of a broadcast buffer.
     fn add_board(&mut self, alloc: Global, words: &[u64], view: View) -> Result<(), AllocError> {
         let board = match BoardSnapshot::new(words) {
             Ok(board) => board,

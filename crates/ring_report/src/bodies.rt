@@ -3,7 +3,7 @@ use crate::report::Cell;
 use crate::view::Bodies;
 use std::alloc::{AllocError, Global};
 
-/// Printable ASCII as it is, and a dot for every other byte.
+/// Returns bytes as text. Printable ASCII is unchanged, and every other byte is a dot.
 fn as_text(alloc: Global, bytes: &[u8]) -> Result<String, AllocError> {
     let mut text = String::new(alloc);
     for byte in bytes {
@@ -16,7 +16,7 @@ fn as_text(alloc: Global, bytes: &[u8]) -> Result<String, AllocError> {
     Ok(text)
 }
 
-/// Bytes as they are to be shown: `-` for no bytes in hexadecimal digits.
+/// Returns the cell in which bytes are shown. In hexadecimal digits, `-` means no bytes.
 pub fn cell(alloc: Global, bodies: Bodies, bytes: &[u8]) -> Result<Cell, AllocError> {
     Ok(match bodies {
         Bodies::None => Cell::Nothing,

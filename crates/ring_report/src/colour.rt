@@ -5,7 +5,7 @@ use std::alloc::AllocError;
 /// A colour of a text.
 #[derive(Clone, Copy, PartialEq, Eq)]
 pub enum Colour {
-    /// That of the terminal.
+    /// The colour of the terminal.
     Plain,
     Green,
     Yellow,
@@ -13,7 +13,7 @@ pub enum Colour {
 }
 
 impl Colour {
-    /// What begins a text of this colour.
+    /// Returns the text that begins this colour.
     fn start(self) -> &'static str {
         match self {
             Colour::Plain => "",
@@ -23,7 +23,7 @@ impl Colour {
         }
     }
 
-    /// What ends a text of this colour.
+    /// Returns the text that ends this colour.
     fn end(self) -> &'static str {
         match self {
             Colour::Plain => "",
@@ -32,7 +32,7 @@ impl Colour {
     }
 }
 
-/// The colour of a row: that of its state.
+/// Returns the colour of a row, which is the colour of its state.
 pub fn row_colour(row: &[Cell]) -> Colour {
     for cell in row {
         if let Cell::State(state) = cell {
@@ -42,7 +42,7 @@ pub fn row_colour(row: &[Cell]) -> Colour {
     Colour::Plain
 }
 
-/// The colour of a piece of a buffer.
+/// Returns the colour of a piece of a buffer.
 fn piece_colour(piece: char) -> Colour {
     match piece {
         '=' => Colour::Green,
@@ -69,7 +69,7 @@ fn push_change(text: &mut String, from: Colour, to: Colour) -> Result<(), AllocE
     text.push_str(to.start())
 }
 
-/// Pushes the line of a buffer, its pieces in their colours.
+/// Pushes the line of a buffer, with its pieces in their colours.
 pub fn push_picture(text: &mut String, line: &str) -> Result<(), AllocError> {
     let mut last = Colour::Plain;
     for piece in line.chars() {

@@ -8,7 +8,7 @@ use ring_snapshot::{Body, Counter, CounterState, CountersSnapshot};
 use std::alloc::{AllocError, Global};
 use std::fmt::Write;
 
-/// The columns of a list of counters, the last one for keys.
+/// The columns of a list of counters. The last column is for keys.
 static COLUMNS: [Column; 9] = [
     Column {
         name: "id",
@@ -55,7 +55,7 @@ fn state_of(state: CounterState) -> State {
     }
 }
 
-/// How many bytes there are up to the last one that is not 0.
+/// Returns the number of bytes up to the last byte that is not 0.
 fn used_len(bytes: &[u8]) -> usize {
     let mut len = 0;
     for (k, byte) in bytes.iter().enumerate() {
@@ -66,14 +66,14 @@ fn used_len(bytes: &[u8]) -> usize {
     len
 }
 
-/// A key without the zeros at its end: memory does not say how long it is.
+/// Returns a key without the zeros at its end, since memory does not say how long the key is.
 fn key_cell(alloc: Global, bodies: Bodies, key: Body<'_>) -> Result<Cell, AllocError> {
     let bytes: Vec<u8> = key.collect(alloc)?;
     let len = used_len(bytes.as_slice()).min(bytes.len());
     bodies::cell(alloc, bodies, &bytes[..len])
 }
 
-/// The moment from which an id may be given again, of one that was freed.
+/// Returns the cell of the moment from which a freed id may be allocated again.
 fn deadline_cell(deadline: u64) -> Cell {
     if deadline == NOT_FREE_FOR_REUSE {
         Cell::Nothing
@@ -87,7 +87,8 @@ fn label_cell(alloc: Global, label: Body<'_>) -> Result<Cell, AllocError> {
     bodies::cell(alloc, Bodies::Text, bytes.as_slice())
 }
 
-/// The cells of its value record: its value, its registration id and its owner; nothing if the values are not known.
+/// Returns the cells of a counter's value record, which are its value, its registration id and its owner. The cells are
+/// empty if the values are not known.
 fn value_cells(counter: &Counter<'_>, has_values: bool) -> (Cell, Cell, Cell) {
     if !has_values {
         return (Cell::Nothing, Cell::Nothing, Cell::Nothing);
@@ -99,7 +100,7 @@ fn value_cells(counter: &Counter<'_>, has_values: bool) -> (Cell, Cell, Cell) {
     )
 }
 
-/// Its cells up to the label, one for each column.
+/// Returns the cells of a counter up to the label, one cell for each column.
 fn cells(alloc: Global, counter: &Counter<'_>, has_values: bool) -> Result<Vec<Cell>, AllocError> {
     let (value, registration, owner) = value_cells(counter, has_values);
     let cells = vec![in alloc;
@@ -114,7 +115,7 @@ fn cells(alloc: Global, counter: &Counter<'_>, has_values: bool) -> Result<Vec<C
     Ok(cells)
 }
 
-/// Adds the cell of its label, and that of its key if bytes are shown.
+/// Adds the cell of a counter's label. If bytes are shown, also adds the cell of its key.
 fn push_texts(
     alloc: Global,
     row: &mut Vec<Cell>,
@@ -128,7 +129,7 @@ fn push_texts(
     Ok(())
 }
 
-/// How many counters were added.
+/// The number of counters that were added.
 #[derive(Clone, Copy, Default)]
 struct Tally {
     in_use: u32,
@@ -136,7 +137,7 @@ struct Tally {
 }
 
 impl Tally {
-    /// Counts a counter.
+    /// Adds a counter to the count of its state.
     fn count(&mut self, state: CounterState) {
         match state {
             CounterState::Allocated => self.in_use = self.in_use.saturating_add(1),
@@ -145,18 +146,18 @@ impl Tally {
     }
 }
 
-/// The words of a value record, of which the first three have the value, the registration id and the owner, and the
+/// The number of words of a value record. The first three words have the value, the registration id and the owner. The
 /// others are 0.
 const VALUE_WORDS: usize = 16;
 
-/// The words of a value record in the memory of a program that runs: these three.
+/// The number of words of a value record in the memory of a running program. These are the first three words.
 const PACKED_WORDS: usize = 3;
 
-/// The words of a counter's metadata.
+/// The number of words of a counter's metadata.
 const METADATA_WORDS: usize = 64;
 
-/// The value records with the words that are always 0 added to each, if they are of a program that runs; otherwise as
-/// they are.
+/// Returns the value records with all their words. If the records are of a running program, the words that are always 0
+/// are added to each.
 fn spread(alloc: Global, ids: usize, values: &[u64]) -> Result<Vec<u64>, AllocError> {
     if values.len() / PACKED_WORDS != ids || values.len() % PACKED_WORDS != 0 {
         return Vec::from_slice(alloc, values);
@@ -170,10 +171,10 @@ fn spread(alloc: Global, ids: usize, values: &[u64]) -> Result<Vec<u64>, AllocEr
 }
 
 impl Report {
-    /// What is in the words of counters, their metadata and their values, from the first id on, or from the one that
-    /// is asked for. The records of values have 16 words each, or the three that a program which runs keeps of each;
-    /// `None` if it is not known where they are. Words that are not those of counters, and ids with a record that no
-    /// counter has, are its findings.
+    /// Returns the report of the words of counters, which are their metadata and their values. It lists the counters
+    /// from the first id on, or from the id that is asked for. The value records have 16 words each, or the three words
+    /// that a running program keeps of each. `values` is `None` if the place of the values is not known. The findings
+    /// are words that are not those of counters, and ids with a record that no counter has.
     pub fn of_counters(
         alloc: Global,
         metadata: &[u64],
@@ -193,7 +194,7 @@ impl Report {
         Ok(report)
     }
 
-    /// Adds a row for a counter, if fewer than the limit are listed.
+    /// Adds a row for a counter, if fewer rows than the limit are listed.
     fn add_counter(
         &mut self,
         alloc: Global,
@@ -211,7 +212,7 @@ impl Report {
         Ok(())
     }
 
-    /// Adds the counters from the first id on, or from the one that is asked for, and what holds of the whole.
+    /// Adds the counters from the first id on, or from the id that is asked for, and the summary.
     fn add_counters(
         &mut self,
         alloc: Global,
@@ -242,7 +243,7 @@ impl Report {
         Ok(())
     }
 
-    /// Adds what holds of the whole, of this many ids.
+    /// Adds the summary of this many ids.
     fn sum_up(&mut self, ids: u32, tally: Tally) -> Result<(), AllocError> {
         let Tally { in_use, freed } = tally;
         self.fields

@@ -1,4 +1,4 @@
-//! A section of a file, as words.
+//! A section of a file, read as words.
 ghost use Rattle.std.specs.Prelude.{◌≤◌, IfOk};
 
 use crate::input_fault::{Cause, InputFault};
@@ -8,21 +8,21 @@ use std::fs;
 use std::io::{ErrorKind, Input, Read, Seek, SeekFrom};
 use std::rt::Files;
 
-/// A section of a file, in bytes. Without a length it goes to the file's end.
+/// A section of a file, in bytes. A section without a length goes to the file's end.
 #[derive(Clone, Copy)]
 pub struct Section<'a> {
-    /// The file's name; `-` is standard input.
+    /// The name of the file. The name `-` is standard input.
     pub file: &'a str,
-    /// The byte at which it begins.
+    /// The byte at which the section begins.
     pub at: u64,
-    /// The number of its bytes.
+    /// The number of bytes of the section.
     pub length: Option<u64>,
 }
 
-/// The most bytes of a section: those of the largest ring.
+/// The largest number of bytes of a section, which is that of the largest ring.
 const MAX_SECTION: u64 = (1 << 24) + 768;
 
-/// The most bytes that are read at once.
+/// The largest number of bytes that are read at once.
 const CHUNK: usize = 4096;
 
 impl From<AllocError> for Cause {
@@ -37,7 +37,7 @@ impl<T: Drop> From<AllocFailed<T>> for Cause {
     }
 }
 
-/// Reads up to this many bytes, and tries again after an interrupt. 0 at the end of the file.
+/// Reads up to this many bytes, and tries again after an interrupt. Returns 0 at the end of the file.
 fn read_some<R: Read>(reader: &mut R, chunk: &mut [u8; CHUNK], most: u64) -> Result<usize, Cause>
     ensures { IfOk result (λ n. n ≤ 4096) }
 {
@@ -69,7 +69,7 @@ fn skip<R: Read>(reader: &mut R, bytes: u64) -> Result<(), Cause> {
     Err(Cause::TooShort)
 }
 
-/// Adds this many bytes, or those up to the end.
+/// Adds this many bytes, or the bytes up to the end.
 fn read_bytes<R: Read>(
     bytes: &mut Vec<u8>,
     reader: &mut R,
@@ -100,7 +100,7 @@ fn read_bytes<R: Read>(
     }
 }
 
-/// The words of these bytes, little-endian. `NotWords` if the last one is not whole.
+/// Returns the words of these bytes, little-endian. Returns `NotWords` if the last word is not whole.
 pub fn words_of_bytes(alloc: Global, bytes: &[u8]) -> Result<Vec<u64>, Cause> {
     if bytes.len() % 8 != 0 {
         return Err(Cause::NotWords);
@@ -112,7 +112,7 @@ pub fn words_of_bytes(alloc: Global, bytes: &[u8]) -> Result<Vec<u64>, Cause> {
     Ok(words)
 }
 
-/// Goes to the place at which a section begins: at once in a file that can seek, otherwise by reading.
+/// Goes to the place at which a section begins. Seeks in a file that can seek, and otherwise reads up to the place.
 fn go_to<R: Read + Seek>(reader: &mut R, at: u64) -> Result<(), Cause> {
     if at == 0 {
         return Ok(());
@@ -160,7 +160,7 @@ fn read_input<R: AllocGlobal + Input>(
     read_bytes(bytes, &mut reader, section.length, limit)
 }
 
-/// The words of a section that has at most `limit` bytes, as those of `section_words`.
+/// Returns the words of a section that has at most `limit` bytes, as `section_words` does.
 pub fn words_of<R: AllocGlobal + Files + Input>(
     rt: &R,
     section: Section<'_>,
@@ -175,12 +175,16 @@ pub fn words_of<R: AllocGlobal + Files + Input>(
     words_of_bytes(rt.alloc(), bytes.as_slice())
 }
 
-/// The words of a section of a file or of standard input, little-endian. A file that can seek is read from the
-/// section's begin on, so that `/proc/PID/mem` can be read.
+/// Returns the words of a section of a file or of standard input, little-endian. A file that can seek is read from the
+/// section's begin on. So `/proc/PID/mem` can be read.
 ///
-/// The fault names the file and the cause: `Unopened` if it cannot be opened, `Unread` if a read fails, `TooLarge` if
-/// the section has more than 16,777,984 bytes, `TooShort` if the file ends before it does, `NotWords` if the last word
-/// is not whole, and `OutOfMemory`.
+/// The fault names the file and the cause. These are the causes:
+/// - `Unopened` if the file cannot be opened;
+/// - `Unread` if a read fails;
+/// - `TooLarge` if the section has more than 16,777,984 bytes;
+/// - `TooShort` if the file ends before the section does;
+/// - `NotWords` if the last word is not whole;
+/// - `OutOfMemory`.
 pub fn section_words<'a, R: AllocGlobal + Files + Input>(
     rt: &R,
     section: Section<'a>,

@@ -1,9 +1,9 @@
-//! Why no words were read.
+//! The reasons why no words were read.
 use crate::printable::Printable;
 use std::fmt;
 use std::io::ErrorKind;
 
-/// Why no words of a file were read.
+/// The reason why no words of a file were read.
 #[derive(Clone, Copy, Debug, PartialEq, Eq)]
 pub enum Cause {
     /// The file cannot be opened.
@@ -14,20 +14,20 @@ pub enum Cause {
     TooLarge,
     /// The section is beyond the end of the file.
     TooShort,
-    /// The section is not made of words of 8 bytes.
+    /// The section does not consist of words of 8 bytes.
     NotWords,
     /// Memory ran out.
     OutOfMemory,
 }
 
-/// Why no words were read, and of which file: `-` is standard input.
+/// The reason why no words were read, and the file. The name `-` is standard input.
 #[derive(Clone, Copy, Debug, PartialEq, Eq)]
 pub struct InputFault<'a> {
     pub file: &'a str,
     pub cause: Cause,
 }
 
-/// What the system said, as people say it.
+/// Returns the error of the system in plain words.
 pub fn reason(kind: ErrorKind) -> &'static str {
     match kind {
         ErrorKind::NotFound => "no such file",
@@ -39,7 +39,7 @@ pub fn reason(kind: ErrorKind) -> &'static str {
 }
 
 impl Cause {
-    /// What is said before the name of the file, and after it.
+    /// Returns the text before the name of the file, and the text after it.
     fn around(self) -> (&'static str, &'static str) {
         match self {
             Cause::Unopened(kind) => ("cannot open ", reason(kind)),

@@ -1,4 +1,4 @@
-//! A report as JSON.
+//! Writes a report as JSON.
 use crate::origin::Origin;
 use crate::report::{Cell, Column, Field, Report};
 use serde_json::{Map, Value, put};
@@ -69,14 +69,14 @@ fn add_fields(
     Ok(())
 }
 
-/// An object with the fields.
+/// Returns an object with the fields.
 fn object_of(alloc: Global, fields: &[Field]) -> Result<Value, AllocError> {
     let mut object = Map::new(alloc);
     add_fields(&mut object, alloc, fields)?;
     Ok(Value::from(object))
 }
 
-/// A number, or `null`.
+/// Returns a number, or `null`.
 fn number_value(number: Option<u64>) -> Value {
     number.map_or(Value::Null, Value::from)
 }
@@ -109,15 +109,16 @@ fn add_origin(
 }
 
 impl Report {
-    /// The report as an object of JSON, on lines of its own: what it is and from where, its fields and details, how
-    /// many of each kind there are, the list, how many rows were left out, and the findings.
+    /// Returns the report as an object of JSON, on several lines. The object has the kind of the report, its origin,
+    /// its fields and details, the number of each kind, the list, how many rows were left out, and the findings.
     pub fn to_json(&self, alloc: Global, origin: Option<Origin<'_>>) -> Result<String, AllocError> {
         let mut text = self.object(alloc, origin)?.to_string_pretty(alloc)?;
         text.push('\n')?;
         Ok(text)
     }
 
-    /// The same object with members of a caller, which are texts, on one line: the form of one document of several.
+    /// Returns the same object on one line, with further members that the caller gives as texts. This is the form of
+    /// one of several documents.
     pub fn to_json_line(
         &self,
         alloc: Global,
@@ -153,7 +154,7 @@ impl Report {
         self.add_list(object, alloc)
     }
 
-    /// Adds what it is, its fields and details, and how many of each kind there are.
+    /// Adds the kind of the report, its fields and details, and the number of each kind.
     fn add_whole(&self, object: &mut Map<String, Value>, alloc: Global) -> Result<(), AllocError> {
         add_fields(object, alloc, self.fields.as_slice())?;
         add_fields(object, alloc, self.details.as_slice())?;
@@ -163,8 +164,8 @@ impl Report {
         put(object, alloc, "kind", kind)
     }
 
-    /// Adds where a read of a ring stops, for how long its consumer was blocked there, and whether the positions stayed
-    /// the same.
+    /// Adds the record at which a read of a ring stops, the time for which its consumer was blocked there, and whether
+    /// the positions stayed the same.
     fn add_standing(
         &self,
         object: &mut Map<String, Value>,

@@ -1,12 +1,13 @@
-//! What is in a ring, a board or counters, as a report: from a copy of their memory, read
-//! from a file or given as words, to a table that a person reads, JSON, or Prometheus' text.
+//! Reports of what is in a ring, a board or counters. A report is made from a copy of their memory, which is read from
+//! a file or given as words. It is printed as a table, as JSON, or as the text of Prometheus.
 //!
-//! - `ring`, `board`, `counters`: the report of each. `records`: the lists that the first two have in common.
-//!   `blocked`: where the consumer of a ring stops.
-//! - `report`, `state`: what is shown. `table`, `json`, `prometheus` and `rates` print it; `picture`, `bodies` and
-//!   `colour` are its parts. `origin`: the file and the place of it. `printable`: text that comes from outside.
-//! - `input`, `input_fault`: a section of a file, as words. `settled`: words that others may change meanwhile. `view`:
-//!   what is wanted of a report.
+//! - `ring`, `board`, `counters`: the report of each kind. `records`: the lists of records of rings and boards.
+//!   `blocked`: the place at which the consumer of a ring stops.
+//! - `report`, `state`: the content of a report. `table`, `json`, `prometheus` and `rates` print a report. `picture`,
+//!   `bodies` and `colour` are parts of them. `origin`: the file of a report, and its place in it. `printable`: text
+//!   that comes from outside.
+//! - `input`, `input_fault`: a section of a file, read as words. `settled`: reads words that others may change
+//!   meanwhile. `view`: the options of a report.
 #![tactic(auto)]
 
 mod blocked;

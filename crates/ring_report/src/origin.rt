@@ -1,15 +1,15 @@
-//! The file and the place of what a report is about.
+//! The file of a report, and its place in the file.
 use std::alloc::AllocError;
 use std::fmt::Write;
 
-/// The file and the place of what a report is about: the labels of its metrics, and members of its JSON.
+/// The file of a report, and its place in the file. They are labels of its metrics and members of its JSON.
 #[derive(Clone, Copy, Debug)]
 pub struct Origin<'a> {
-    /// The file's name: `-` is standard input, and `/proc/PID/mem` the memory of a process.
+    /// The name of the file. The name `-` is standard input, and `/proc/PID/mem` is the memory of a process.
     pub file: &'a str,
-    /// The byte at which it begins in the file. In the memory of a process that is its address.
+    /// The byte of the file at which the memory begins. In the memory of a process this is the address.
     pub at: u64,
-    /// The name that its user gave it.
+    /// The name that the user gave to it.
     pub name: Option<&'a str>,
 }
 
@@ -18,14 +18,14 @@ fn is_number(text: &str) -> bool {
     !text.is_empty() && text.bytes().all(|byte| byte.is_ascii_digit())
 }
 
-/// The number of the process whose memory a file is, if it is one's.
+/// Returns the number of the process whose memory a file is, or `None` if it is another file.
 pub fn process_of(file: &str) -> Option<&str> {
     let pid = file.strip_prefix("/proc/")?.strip_suffix("/mem")?;
     if is_number(pid) { Some(pid) } else { None }
 }
 
 impl<'a> Origin<'a> {
-    /// What the file is, `pid` or `file`, and its number or its name.
+    /// Returns the kind of the source, which is `pid` or `file`, and its number or its name.
     pub(crate) fn source(self) -> (&'static str, &'a str) {
         match process_of(self.file) {
             Some(pid) => ("pid", pid),
@@ -33,7 +33,7 @@ impl<'a> Origin<'a> {
         }
     }
 
-    /// Adds its labels, without the brackets, and with commas between them.
+    /// Adds the labels without the brackets, and with commas between them.
     pub(crate) fn push_labels(self, text: &mut String) -> Result<(), AllocError> {
         let (what, source) = self.source();
         write!(text, "{what}=\"")?;
@@ -48,7 +48,7 @@ impl<'a> Origin<'a> {
     }
 }
 
-/// How a letter of a label's value is escaped, if it is.
+/// Returns the escaped form of a letter of a label's value, if the letter must be escaped.
 fn escaped(letter: char) -> Option<&'static str> {
     match letter {
         '\\' => Some("\\\\"),
@@ -66,8 +66,8 @@ fn push_letter(text: &mut String, letter: char) -> Result<(), AllocError> {
     }
 }
 
-/// Adds a label's value in the form that it has between quotes: with a backslash before each backslash, quote and
-/// line's end.
+/// Adds a label's value in the form that it has between quotes. There is a backslash before each backslash, quote and
+/// line end.
 pub(crate) fn push_escaped(text: &mut String, value: &str) -> Result<(), AllocError> {
     for letter in value.chars() {
         push_letter(text, letter)?;

@@ -1,10 +1,10 @@
-//! A buffer as one line.
+//! A buffer that is drawn as one line.
 use std::alloc::AllocError;
 
-/// The most pieces of a buffer.
+/// The largest number of pieces of a buffer.
 const MAX_WIDTH: usize = 512;
 
-/// What a piece of the buffer is shown as, the weakest first: of two the stronger one is shown.
+/// The marks of the pieces of a buffer, the weakest first. If a piece has two marks, the stronger one is shown.
 #[derive(Clone, Copy, PartialEq, Eq, PartialOrd, Ord)]
 pub enum Mark {
     Free,
@@ -35,12 +35,12 @@ impl Mark {
 pub struct Picture {
     capacity: u32,
     width: u32,
-    /// Those of the pieces, and then others.
+    /// The marks of the pieces. The marks after them are unused.
     marks: [Mark; MAX_WIDTH],
 }
 
 impl Picture {
-    /// A buffer with nothing in it, in at most `width` pieces.
+    /// Returns an empty buffer in at most `width` pieces.
     pub fn new(capacity: u32, width: u32) -> Picture {
         Picture {
             capacity,
@@ -49,7 +49,7 @@ impl Picture {
         }
     }
 
-    /// The piece of a byte index.
+    /// Returns the piece of a byte index.
     fn piece(&self, index: u64) -> usize {
         let capacity = u64::from(self.capacity.max(1));
         (index.min(capacity) * u64::from(self.width) / capacity) as usize

@@ -1,8 +1,8 @@
-//! Text that comes from outside, as it is printed.
+//! The form in which text from outside is printed.
 use std::fmt;
 
-/// A text with each control character as a backslash, an `x` and its number in hexadecimal digits, so that the text
-/// changes no terminal.
+/// A text in which each control character is a backslash, an `x`, and its number in hexadecimal digits. So the text
+/// cannot change a terminal.
 #[derive(Clone, Copy, Debug, PartialEq, Eq)]
 pub struct Printable<'a>(pub &'a str);
 

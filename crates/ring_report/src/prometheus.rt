@@ -1,23 +1,24 @@
-//! Reports in the text format of Prometheus.
+//! Writes reports in the text format of Prometheus.
 use crate::origin::{Origin, push_escaped};
 use crate::report::{Cell, Report, number};
 use crate::state::State;
 use std::alloc::{AllocError, Global};
 use std::fmt::Write;
 
-/// A report, and its file and place.
+/// A report with its origin.
 #[derive(Clone, Copy)]
 pub struct Labelled<'a> {
     /// The report.
     pub report: &'a Report,
-    /// Its file and place: the labels of its metrics. `None` gives them no label.
+    /// The file and the place of the report, which are the labels of its metrics. If it is `None`, the metrics have no
+    /// label.
     pub origin: Option<Origin<'a>>,
 }
 
-/// The number of a metric.
+/// The number that a metric has.
 #[derive(Clone, Copy)]
 enum Number {
-    /// The number of the whole with this name.
+    /// The number of the report with this name.
     Field(&'static str),
     /// The bytes that are claimed and not yet read.
     Used,
@@ -25,15 +26,15 @@ enum Number {
     Settled,
     /// 1 if two looks saw the consumer blocked.
     Blocked,
-    /// For how many milliseconds they did.
+    /// The number of milliseconds between two looks that saw the consumer blocked.
     BlockedMillis,
     /// The number of findings.
     Findings,
 }
 
-/// A metric that a report has at most once.
+/// A metric that each report has at most once.
 struct Metric {
-    /// The kind of report that has it, or any for an empty text.
+    /// The kind of report that has the metric. An empty text means any kind.
     of: &'static str,
     name: &'static str,
     /// `gauge` or `counter`.
@@ -122,14 +123,14 @@ static METRICS: [Metric; 11] = [
     },
 ];
 
-/// The bytes that are claimed and not yet read. `None` if the positions make no sense.
+/// Returns the bytes that are claimed and not yet read. Returns `None` if the positions make no sense.
 fn used(report: &Report) -> Option<u64> {
     let capacity = report.number("capacity")?;
     let free = number(report.details.as_slice(), "free")?;
     Some(capacity.saturating_sub(free))
 }
 
-/// A number of a report.
+/// Returns a number of a report.
 fn number_of(report: &Report, wanted: Number) -> Option<u64> {
     match wanted {
         Number::Field(name) => report.number(name),
@@ -142,8 +143,8 @@ fn number_of(report: &Report, wanted: Number) -> Option<u64> {
 }
 
 impl Metric {
-    /// The number that a report has of this metric, if it has one. Memory that is not what it was said to be has no
-    /// number but that of its findings.
+    /// Returns the number that a report has for this metric, if it has one. If the memory is not what it was said to
+    /// be, the report only has the number of its findings.
     fn number_in(&self, report: &Report) -> Option<u64> {
         if self.of.is_empty() {
             return number_of(report, self.number);
@@ -154,7 +155,7 @@ impl Metric {
         number_of(report, self.number)
     }
 
-    /// The lines that come before the first sample.
+    /// Adds the lines that come before the first sample.
     fn push_head(&self, text: &mut String) -> Result<(), AllocError> {
         let Metric {
             name,
@@ -168,7 +169,7 @@ impl Metric {
         )
     }
 
-    /// The line of a sample. Times are in seconds.
+    /// Adds the line of a sample. Times are in seconds.
     fn push_sample(
         &self,
         text: &mut String,
@@ -187,7 +188,7 @@ impl Metric {
         }
     }
 
-    /// The lines of this metric in all reports that have it.
+    /// Adds the lines of this metric for all reports that have it.
     fn push_all(&self, text: &mut String, reports: &[Labelled<'_>]) -> Result<(), AllocError> {
         let mut is_first = true;
         for labelled in reports {
@@ -203,7 +204,7 @@ impl Metric {
     }
 }
 
-/// The line of a counter in use whose value is known.
+/// Adds the line of a counter in use whose value is known.
 fn push_counter(
     text: &mut String,
     origin: Option<Origin<'_>>,
@@ -233,7 +234,7 @@ fn push_counter(
     writeln!(text, "\",owner=\"{owner}\"}} {value}")
 }
 
-/// The lines of the counters in use of all reports that have counters.
+/// Adds the lines of the counters in use, for all reports of counters.
 fn push_counters(text: &mut String, reports: &[Labelled<'_>]) -> Result<(), AllocError> {
     text.push_str(
         "\
@@ -251,8 +252,8 @@ fn push_counters(text: &mut String, reports: &[Labelled<'_>]) -> Result<(), Allo
     Ok(())
 }
 
-/// Reports in the text format of Prometheus, which has each metric once: the positions of rings and of broadcast
-/// buffers, the counters in use that are listed, and the number of findings of each report.
+/// Writes reports in the text format of Prometheus, which has each metric only once. The metrics are the positions of
+/// rings and of broadcast buffers, the counters in use that are listed, and the number of findings of each report.
 pub fn to_prometheus(alloc: Global, reports: &[Labelled<'_>]) -> Result<String, AllocError> {
     let mut text = String::new(alloc);
     if reports.iter().any(|it| it.report.kind == "counters") {

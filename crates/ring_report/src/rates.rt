@@ -1,15 +1,15 @@
-//! How fast a ring, a broadcast buffer or counters change between two reports.
+//! The rates of a ring, a broadcast buffer or counters, from two reports.
 use crate::report::{Cell, Report, number};
 use std::alloc::{AllocError, Global};
 use std::fmt::Write;
 
-/// The change of a number in a second, if it changed so much in some milliseconds. A number that fell does not count.
+/// Returns the change of a number in a second, from its change in some milliseconds. A number that fell counts as 0.
 fn per_second(before: Option<u64>, after: Option<u64>, millis: u64) -> u64 {
     let (before, after) = (before.unwrap_or(0), after.unwrap_or(0));
     after.saturating_sub(before).saturating_mul(1000) / millis.max(1)
 }
 
-/// The id and the value of a counter.
+/// Returns the id and the value of a counter.
 fn value_of(row: &[Cell]) -> Option<(u64, i64)> {
     match row {
         [Cell::Unsigned(id), _, _, Cell::Signed(value), ..] => Some((*id, *value)),
@@ -17,7 +17,7 @@ fn value_of(row: &[Cell]) -> Option<(u64, i64)> {
     }
 }
 
-/// The value that a counter had.
+/// Returns the value that a counter had.
 fn value_in(report: &Report, wanted: u64) -> Option<i64> {
     for row in report.rows.iter() {
         if let Some((id, value)) = value_of(row.as_slice()) {
@@ -29,7 +29,7 @@ fn value_in(report: &Report, wanted: u64) -> Option<i64> {
     None
 }
 
-/// Adds the change of each counter that is listed in both reports and changed.
+/// Adds the change of each counter that is listed in both reports and has changed.
 fn push_changes(
     text: &mut String,
     before: &Report,
@@ -52,7 +52,7 @@ fn push_changes(
     Ok(())
 }
 
-/// Adds how fast a number of the whole grew.
+/// Adds the rate at which a number of the report grew.
 fn push_rate(
     text: &mut String,
     what: &str,
@@ -64,8 +64,8 @@ fn push_rate(
     write!(text, "  {what} {rate}")
 }
 
-/// How many messages a report counts: of a ring the committed and the open ones, of a broadcast buffer the valid and
-/// the lapped ones.
+/// Returns how many messages a report counts. For a ring these are the committed and the open records. For a broadcast
+/// buffer they are the valid and the lapped ones.
 fn messages(report: &Report) -> u64 {
     let counts = report.counts.as_slice();
     let whole = number(counts, "committed").or(number(counts, "valid"));
@@ -73,8 +73,8 @@ fn messages(report: &Report) -> u64 {
     whole.unwrap_or(0).saturating_add(other.unwrap_or(0))
 }
 
-/// Adds about how many messages these bytes a second are, if those that lie there are of the usual length: memory
-/// counts no messages.
+/// Adds about how many messages these bytes a second are. Memory counts no messages, so the messages that are in the
+/// buffer give the usual length.
 fn push_messages(text: &mut String, report: &Report, bytes: u64) -> Result<(), AllocError> {
     if report.message_bytes == 0 {
         return Ok(());
@@ -83,14 +83,14 @@ fn push_messages(text: &mut String, report: &Report, bytes: u64) -> Result<(), A
     write!(text, "  messages about {rate}")
 }
 
-/// The rates of a ring: what they are called, and the numbers that grow.
+/// The rates of a ring, with the numbers that grow.
 static RING_RATES: [(&str, &str); 3] = [
     ("bytes written", "tail"),
     ("bytes read", "head"),
     ("correlation ids", "correlation"),
 ];
 
-/// Adds how fast a ring was written and read.
+/// Adds the rates at which a ring was written and read.
 fn push_ring(
     text: &mut String,
     before: &Report,
@@ -104,7 +104,7 @@ fn push_ring(
     push_messages(text, after, bytes)
 }
 
-/// Adds how fast a broadcast buffer was transmitted on.
+/// Adds the rate at which a broadcast buffer was transmitted on.
 fn push_board(
     text: &mut String,
     before: &Report,
@@ -117,10 +117,11 @@ fn push_board(
 }
 
 impl Report {
-    /// How fast it changed since an earlier report of the same memory, some milliseconds before, in one line: the bytes
-    /// that were written and read in a second and the correlation ids that were drawn, the bytes that were transmitted,
-    /// or the change of each counter. Of a ring and a broadcast buffer also about how many messages that were: memory
-    /// counts none, so those that lie there are taken as a sample.
+    /// Returns one line with the rates since an earlier report of the same memory, which was made some milliseconds
+    /// before. For a ring these are the bytes that were written and read in a second, and the correlation ids that were
+    /// drawn. For a broadcast buffer they are the bytes that were transmitted, and for counters the change of each
+    /// counter. For a ring and a broadcast buffer the line also says about how many messages these were. Memory counts
+    /// no messages, so the messages in the buffer are taken as a sample.
     pub fn rates_since(
         &self,
         alloc: Global,

@@ -1,4 +1,4 @@
-//! A list of records: what rings and broadcast buffers have in common.
+//! The list of records that rings and broadcast buffers share.
 ghost use Rattle.std.specs.Prelude.{◌≡◌, ◌<◌, ◌≤◌, length, OnOk, IfOk};
 ghost use Rattle.std.specs.Iterator.{IsFinite};
 ghost use Rattle.ring_report.specs.Rows.{IsAppended, IsRowOf};
@@ -14,7 +14,7 @@ use ring_snapshot::Body;
 use std::alloc::{AllocError, Global};
 use std::fmt::Display;
 
-/// The columns of a list of records, the last one for bodies.
+/// The columns of a list of records. The last column is for bodies.
 static COLUMNS: [Column; 6] = [
     Column {
         name: "place",
@@ -50,7 +50,7 @@ pub struct Shown<'a> {
     pub state: State,
     pub type_id: i32,
     pub length: u32,
-    /// Its message, if it has one.
+    /// The message of the record, if it has one.
     pub body: Option<Body<'a>>,
 }
 
@@ -62,7 +62,7 @@ fn body_cell(alloc: Global, bodies: Bodies, body: Option<Body<'_>>) -> Result<Ce
     bodies::cell(alloc, bodies, bytes.as_slice())
 }
 
-/// Marks the bytes of a record. If headers are not yet stored they may go on at the buffer's start.
+/// Marks the bytes of a record. If headers are not yet stored, the bytes may go on at the buffer's start.
 fn mark(picture: &mut Picture, capacity: u32, shown: &Shown<'_>) {
     let span = align8(u64::from(shown.length));
     let room = u64::from(capacity.saturating_sub(shown.index));
@@ -74,7 +74,7 @@ fn mark(picture: &mut Picture, capacity: u32, shown: &Shown<'_>) {
 }
 
 impl<'a> Shown<'a> {
-    /// Where a reader stops, if it is open.
+    /// Returns the place at which a reader stops, if the record is open.
     fn open_stop(&self) -> Stop {
         Stop {
             place: self.place,
@@ -85,7 +85,7 @@ impl<'a> Shown<'a> {
         }
     }
 
-    /// Its cells, one for each column.
+    /// Returns the cells of the record, one cell for each column.
     fn row(self, alloc: Global, bodies: Bodies) -> Result<Vec<Cell>, AllocError>
         ensures { IfOk result (λ row. IsRowOf self.entry.place self.entry.index self.entry.type_id self.entry.length
             row.items) }
@@ -110,10 +110,10 @@ pub struct Tally {
     pub committed: u32,
     pub lapped: u32,
     pub open: u32,
-    /// Aborted ones, and padding.
+    /// The number of aborted records and of padding.
     pub passed: u32,
     pub unstored: bool,
-    /// The bytes of the records that are messages, from the start of each to the next one's.
+    /// The number of bytes of the records that are messages, each from its start to the start of the next record.
     pub message_bytes: u64,
     /// The first record at which a reader stops.
     pub stop: Option<Stop>,
@@ -147,12 +147,12 @@ impl Tally {
     }
 }
 
-/// What is gathered of the records of a buffer, besides what is added to its report.
+/// The results of a listing, apart from what is added to its report.
 #[derive(Clone, Copy)]
 pub struct Listed {
     capacity: u32,
     bodies: Bodies,
-    /// How many rows are listed at most.
+    /// The largest number of rows that are listed.
     limit: u64,
     picture: Picture,
     tally: Tally,
@@ -161,7 +161,7 @@ pub struct Listed {
 }
 
 impl Listed {
-    /// Nothing yet of a buffer.
+    /// Returns empty results for a buffer.
     pub fn new(capacity: u32, view: View) -> Listed {
         Listed {
             capacity,
@@ -173,7 +173,7 @@ impl Listed {
         }
     }
 
-    /// Adds a record: as one row if fewer than the limit are listed.
+    /// Adds a record. The record becomes a row if fewer rows than the limit are listed.
     fn add(
         &mut self,
         alloc: Global,
@@ -198,7 +198,7 @@ impl Listed {
         Ok(())
     }
 
-    /// Adds the records of a listing, and what it finds wrong.
+    /// Adds the records of a listing, and its findings.
     pub fn gather<
         'a,
         R: Into<Shown<'a>> + Drop,
@@ -223,13 +223,13 @@ impl Listed {
         Ok(())
     }
 
-    /// The number of records that were added.
+    /// Returns the number of records that were added.
     pub fn tally(&self) -> Tally {
         self.tally
     }
 
-    /// Adds the columns, what was left out, the bytes of messages, and the picture, with letters before the pieces of
-    /// these byte indexes.
+    /// Adds the columns, the number of rows that were left out, the bytes of messages, and the picture. The picture has
+    /// letters before the pieces of these byte indexes.
     pub fn draw(&self, report: &mut Report, signs: &[(char, u64)]) -> Result<(), AllocError> {
         report.columns = if self.bodies == Bodies::None {
             &COLUMNS[..5]

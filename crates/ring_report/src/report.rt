@@ -1,4 +1,4 @@
-//! What is shown, whatever it is and however it is printed.
+//! The content of a report of any kind, in any format.
 use crate::blocked::Stop;
 use crate::state::State;
 use std::alloc::{AllocError, Global};
@@ -7,7 +7,7 @@ use std::fmt::Display;
 /// A value in a table.
 #[derive(Debug, Drop)]
 pub enum Cell {
-    /// No value: an empty place in a table, `null` in JSON.
+    /// No value, which is an empty place in a table and `null` in JSON.
     Nothing,
     /// A number that is never negative.
     Unsigned(u64),
@@ -22,14 +22,14 @@ pub enum Cell {
 /// A number with a name.
 #[derive(Clone, Copy, Debug, PartialEq, Eq)]
 pub struct Field {
-    /// Its name.
+    /// The name of the number.
     pub name: &'static str,
-    /// The number, `null` in JSON if there is none.
+    /// The number. If it is `None`, it is `null` in JSON.
     pub value: Option<u64>,
 }
 
 impl Field {
-    /// A number with this name.
+    /// Returns a number with this name.
     pub(crate) fn new(name: &'static str, value: u64) -> Field {
         Field {
             name,
@@ -41,55 +41,55 @@ impl Field {
 /// A column of the list.
 #[derive(Clone, Copy, Debug, PartialEq, Eq)]
 pub struct Column {
-    /// Its name, which is that of its cells in JSON.
+    /// The name of the column, which is the name of its cells in JSON.
     pub name: &'static str,
-    /// Whether it has numbers, which are at its right.
+    /// Whether the column has numbers, which are aligned right.
     pub is_number: bool,
 }
 
-/// What is in a copy of memory.
+/// The content of a copy of memory.
 #[derive(Debug, Drop)]
 pub struct Report {
-    /// What it is: `ring`, `board` or `counters`.
+    /// The kind of the report, which is `ring`, `board` or `counters`.
     pub kind: &'static str,
-    /// What holds of the whole.
+    /// The numbers of the whole.
     pub fields: Vec<Field>,
-    /// The buffer as one line, empty if there is none.
+    /// The buffer as one line, which is empty if there is no buffer.
     pub picture: String,
-    /// The list's name: `records` or `counters`.
+    /// The name of the list, which is `records` or `counters`.
     pub list: &'static str,
     /// The list's columns.
     pub columns: &'static [Column],
     /// The list's rows, each with a cell for each column.
     pub rows: Vec<Vec<Cell>>,
-    /// How many rows were left out, since no more were to be listed.
+    /// How many rows were left out because of the limit.
     pub unlisted: u64,
-    /// How many of each kind there are.
+    /// The number of records or counters of each kind.
     pub counts: Vec<Field>,
-    /// What the records say of the whole.
+    /// The numbers that follow from the records.
     pub details: Vec<Field>,
-    /// The bytes of the records that are messages, from the start of each to the next one's.
+    /// The number of bytes of the records that are messages, each from its start to the start of the next record.
     pub message_bytes: u64,
-    /// The number of each kind, in one line.
+    /// The number of each kind, as one line.
     pub summary: String,
     /// The first record at which the consumer of a ring stops.
     pub stop: Option<Stop>,
-    /// For how many milliseconds at least the consumer was blocked there, if two looks saw it.
+    /// The least number of milliseconds for which the consumer was blocked there, if two looks showed this.
     pub blocked_ms: Option<u64>,
-    /// Whether the positions stayed the same while the memory was read. If they did not, what is listed can be of
-    /// different moments, so that it is no finding.
+    /// Whether the positions stayed the same while the memory was read. If they changed, the list can be of different
+    /// moments, so it gives no finding.
     pub is_settled: bool,
-    /// What is wrong with the memory, one text each.
+    /// The findings about the memory, each as one text.
     pub findings: Vec<String>,
 }
 
 impl Report {
-    /// The number of the whole with this name, if there is one.
+    /// Returns the number of the report with this name, if there is one.
     pub fn number(&self, name: &str) -> Option<u64> {
         number(self.fields.as_slice(), name)
     }
 
-    /// A report of this kind with nothing in it, and with a list of this name.
+    /// Returns an empty report of this kind, with a list of this name.
     pub(crate) fn empty(alloc: Global, kind: &'static str, list: &'static str) -> Report {
         Report {
             kind,
@@ -110,7 +110,7 @@ impl Report {
         }
     }
 
-    /// Adds that the memory is not what it is said to be.
+    /// Adds the finding that the memory is not what it is said to be.
     pub(crate) fn refuse<F: Display + Drop>(
         &mut self,
         alloc: Global,
@@ -121,7 +121,7 @@ impl Report {
         self.summary.push_str(summary)
     }
 
-    /// Adds what is wrong with the memory.
+    /// Adds a finding about the memory.
     pub(crate) fn find<F: Display + Drop>(
         &mut self,
         alloc: Global,
@@ -141,7 +141,7 @@ pub(crate) fn add_finding<F: Display + Drop>(
     Ok(())
 }
 
-/// The number with this name, if there is one.
+/// Returns the number with this name, if there is one.
 pub(crate) fn number(fields: &[Field], name: &str) -> Option<u64> {
     for field in fields {
         if field.name == name {

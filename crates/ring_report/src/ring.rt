@@ -37,13 +37,13 @@ impl<'a> From<Record<'a>> for Shown<'a> {
     }
 }
 
-/// How many bytes are free: `None` if head and tail make no sense.
+/// Returns how many bytes are free, or `None` if the head and the tail make no sense.
 fn free(ring: &RingSnapshot<'_>) -> Option<u64> {
     let used = ring.tail().checked_sub(ring.head())?;
     u64::from(ring.capacity()).checked_sub(used)
 }
 
-/// Adds the numbers of the whole.
+/// Adds the numbers of the ring.
 fn add_numbers(report: &mut Report, ring: &RingSnapshot<'_>) -> Result<(), AllocError> {
     report.fields.extend_from_slice(&[
         Field::new("capacity", u64::from(ring.capacity())),
@@ -55,7 +55,7 @@ fn add_numbers(report: &mut Report, ring: &RingSnapshot<'_>) -> Result<(), Alloc
     ])
 }
 
-/// Adds what the records say of the whole.
+/// Adds the numbers that follow from the records.
 fn add_counts(
     report: &mut Report,
     ring: &RingSnapshot<'_>,
@@ -73,7 +73,7 @@ fn add_counts(
     }])
 }
 
-/// Adds all of it in one line.
+/// Adds the summary, which is one line.
 fn sum_up(text: &mut String, ring: &RingSnapshot<'_>, tally: Tally) -> Result<(), AllocError> {
     let (committed, open, passed) = (tally.committed, tally.open, tally.passed);
     write!(
@@ -89,7 +89,7 @@ fn sum_up(text: &mut String, ring: &RingSnapshot<'_>, tally: Tally) -> Result<()
     Ok(())
 }
 
-/// Letters, and the byte indexes before which they are.
+/// Returns letters, and the byte indexes before which they are drawn.
 fn signs(ring: &RingSnapshot<'_>) -> [(char, u64); 2] {
     let capacity = ring.capacity();
     [
@@ -113,15 +113,16 @@ fn list(
 }
 
 impl Report {
-    /// What is in the words of a ring, from its head on, or from the position that is asked for. Words that are not
-    /// those of a ring, positions that make no sense, and what is wrong with the records are its findings.
+    /// Returns the report of the words of a ring. It lists the records from the head on, or from the position that is
+    /// asked for. The findings are words that are not those of a ring, positions that make no sense, and faults of the
+    /// records.
     pub fn of_ring(alloc: Global, words: &[u64], view: View) -> Result<Report, AllocError> {
         let mut report = Report::empty(alloc, "ring", "records");
         report.add_ring(alloc, words, view)?;
         Ok(report)
     }
 
-    /// Adds what is in the words of a ring.
+    /// Adds the report of the words of a ring.
     fn add_ring(&mut self, alloc: Global, words: &[u64], view: View) -> Result<(), AllocError> {
         let ring = match RingSnapshot::new(words) {
             Ok(ring) => ring,

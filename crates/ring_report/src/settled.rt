@@ -1,4 +1,4 @@
-//! Reading memory that others may change at the same time.
+//! Reads memory that others may change at the same time.
 ghost use Rattle.std.specs.Prelude.{◌≡◌, [], false, IfOk};
 
 use crate::input::{Section, section_words};
@@ -9,19 +9,20 @@ use std::alloc::{AllocError, Global};
 use std::io::Input;
 use std::rt::Files;
 
-/// How often memory is read again at most.
+/// The largest number of times that memory is read again.
 const READS: u32 = 3;
 
-/// Words, and whether their positions stayed the same while they were read.
+/// Words, and whether the positions in them stayed the same while they were read.
 #[derive(Drop)]
 pub struct Words {
     /// The words.
     pub words: Vec<u64>,
-    /// Whether their positions stayed the same.
+    /// Whether the positions stayed the same.
     pub is_settled: bool,
 }
 
-/// The positions of a ring or a broadcast buffer, between which its records are. `None` for other words.
+/// Returns the positions of a ring or a broadcast buffer, between which its records are. Returns `None` for other
+/// words.
 fn positions(words: &[u64], is_ring: bool) -> Option<(u64, u64)> {
     if is_ring {
         let ring = RingSnapshot::new(words).ok()?;
@@ -32,9 +33,9 @@ fn positions(words: &[u64], is_ring: bool) -> Option<(u64, u64)> {
     }
 }
 
-/// The words of a ring or a broadcast buffer. Each read ends with the trailer, so two in a row with the same positions
-/// show that these did not change during the second. It is read up to three times more until they do. Standard input is
-/// read once.
+/// Returns the words of a ring or a broadcast buffer. Each read ends with the trailer. If two reads in a row show the
+/// same positions, the positions did not change during the second one. The memory is read up to three more times until
+/// the positions stay the same. Standard input is read once.
 pub fn settled_words<'a, R: AllocGlobal + Files + Input>(
     rt: &R,
     section: Section<'a>,
@@ -53,7 +54,7 @@ pub fn settled_words<'a, R: AllocGlobal + Files + Input>(
     Ok(Words { words, is_settled })
 }
 
-/// Adds the bodies that lie apart to the words of a ring. Words that no ring has stay as they are.
+/// Adds the bodies that are stored separately to the words of a ring. Words that no ring has stay as they are.
 fn add_bodies<'a, R: AllocGlobal + Files + Input>(
     rt: &R,
     words: &mut Vec<u64>,
@@ -74,7 +75,7 @@ fn add_bodies<'a, R: AllocGlobal + Files + Input>(
     Ok(())
 }
 
-/// The positions of a ring that are now in a section.
+/// Returns the positions of a ring that are now in a section.
 fn positions_in<'a, R: AllocGlobal + Files + Input>(
     rt: &R,
     section: Section<'a>,
@@ -83,8 +84,8 @@ fn positions_in<'a, R: AllocGlobal + Files + Input>(
     Ok(positions(words.as_slice(), true))
 }
 
-/// The words of a ring whose bodies lie apart, as those of `settled_words`. Bodies are read after the words, so that
-/// what is shown as committed was whole, and both between two looks at the positions.
+/// Returns the words of a ring whose bodies are stored separately, as `settled_words` does. Bodies are read after the
+/// words, so a record that is shown as committed was whole. Both reads are between two looks at the positions.
 fn joined_words<'a, R: AllocGlobal + Files + Input>(
     rt: &R,
     section: Section<'a>,
@@ -106,7 +107,7 @@ fn joined_words<'a, R: AllocGlobal + Files + Input>(
     Ok(Words { words, is_settled })
 }
 
-/// The words of a ring, in the format: with its bodies, if these lie apart.
+/// Returns the words of a ring in the format. If the bodies are stored separately, they are added.
 pub fn ring_words<'a, R: AllocGlobal + Files + Input>(
     rt: &R,
     section: Section<'a>,
@@ -118,8 +119,8 @@ pub fn ring_words<'a, R: AllocGlobal + Files + Input>(
     }
 }
 
-/// A report of words, and whether they are settled. Words that are not settled can be of different moments, so that
-/// what looks wrong with them is no finding.
+/// Returns a report of words, and notes in it whether they are settled. Words that are not settled can be of different
+/// moments. So faults in them are not findings.
 pub fn note_settled(
     report: Result<Report, AllocError>,
     is_settled: bool,
@@ -135,8 +136,8 @@ pub fn note_settled(
     Ok(report)
 }
 
-/// The words of memory with each header as the format has it. A ring whose bodies lie apart is listed by these, without
-/// its bodies; and so is one whose bodies do not.
+/// Returns the words of memory with each header as the format has it. A ring whose bodies are stored separately is
+/// listed by these words, without its bodies. The words of other rings stay the same.
 pub fn formatted_words(alloc: Global, words: &[u64]) -> Result<Vec<u64>, AllocError> {
     let mut formatted = Vec::new(alloc);
     for word in words {

@@ -13,7 +13,7 @@ pub enum State {
     Aborted,
     /// A record of a ring that is passed over.
     AbortedOrPadding,
-    /// Claims of a ring whose headers are not stored yet.
+    /// Claims of a ring whose headers are not yet stored.
     Unstored,
     /// A message of a broadcast buffer.
     Valid,
@@ -21,7 +21,7 @@ pub enum State {
     Lapped,
     /// Padding of a broadcast buffer.
     Padding,
-    /// The same in a lap before.
+    /// Padding of a broadcast buffer in the lap before.
     LappedPadding,
     /// A counter that is allocated.
     InUse,
@@ -30,7 +30,7 @@ pub enum State {
 }
 
 impl State {
-    /// Its name.
+    /// Returns the name of the state.
     pub fn name(self) -> &'static str {
         match self {
             State::Open => "open",
@@ -47,7 +47,7 @@ impl State {
         }
     }
 
-    /// Its colour at a terminal.
+    /// Returns the colour of the state at a terminal.
     pub(crate) fn colour(self) -> Colour {
         match self {
             State::Open | State::Unstored => Colour::Yellow,
@@ -56,7 +56,7 @@ impl State {
         }
     }
 
-    /// What a piece of the buffer is shown as that has a record of this state.
+    /// Returns the mark of a piece of the buffer that has a record of this state.
     pub(crate) fn mark(self) -> Mark {
         match self {
             State::Open => Mark::Open,

@@ -1,15 +1,15 @@
-//! A report as a table that a person reads.
+//! Writes a report as a table for people to read.
 use crate::colour::{Colour, push_colored, push_picture, row_colour};
 use crate::report::{Cell, Column, Field, Report};
 use std::alloc::{AllocError, Global};
 use std::fmt::Write;
 
-/// How many characters a number has.
+/// Returns how many characters a number has.
 fn digits(value: u64) -> usize {
     value.checked_ilog10().unwrap_or(0) as usize + 1
 }
 
-/// How many characters a value has.
+/// Returns how many characters a value has.
 fn cell_len(cell: &Cell) -> usize {
     match cell {
         Cell::Nothing => 0,
@@ -39,7 +39,8 @@ fn push_spaces(text: &mut String, count: usize) -> Result<(), AllocError> {
     Ok(())
 }
 
-/// How many spaces are before and after a text of this many characters, with which its column and two spaces are full.
+/// Returns how many spaces come before and after a text of this many characters. With these spaces the column and two
+/// spaces are full.
 fn spaces(column: &Column, len: usize, width: usize) -> (usize, usize) {
     let spaces = width.saturating_sub(len);
     if column.is_number {
@@ -70,7 +71,7 @@ fn push_word(
     push_spaces(line, after)
 }
 
-/// Pushes a number of the whole with its name.
+/// Pushes a number of the report with its name.
 fn push_field(text: &mut String, field: &Field) -> Result<(), AllocError> {
     write!(text, "  {}", field.name)?;
     match field.value {
@@ -80,7 +81,7 @@ fn push_field(text: &mut String, field: &Field) -> Result<(), AllocError> {
 }
 
 impl Report {
-    /// The width of a column: that of its name or of its longest value.
+    /// Returns the width of a column, which is the width of its name or of its longest value.
     fn width(&self, column: usize, name: &str) -> usize {
         let mut width = name.len();
         for row in self.rows.iter() {
@@ -91,7 +92,7 @@ impl Report {
         width
     }
 
-    /// How wide each column is.
+    /// Returns how wide each column is.
     fn widths(&self, alloc: Global) -> Result<Vec<usize>, AllocError> {
         let mut widths = Vec::new(alloc);
         for (k, column) in self.columns.iter().enumerate() {
@@ -114,7 +115,7 @@ impl Report {
         push_colored(text, Colour::Plain, line.as_str().trim_end())
     }
 
-    /// Pushes the line of a row, each value in its column.
+    /// Pushes the line of a row, with each value in its column.
     fn push_row(
         &self,
         text: &mut String,
@@ -151,7 +152,7 @@ impl Report {
         Ok(())
     }
 
-    /// Pushes the line of what holds of the whole.
+    /// Pushes the line of the numbers of the whole.
     fn push_whole(&self, text: &mut String) -> Result<(), AllocError> {
         text.push_str(self.kind)?;
         for field in self.fields.iter() {
@@ -160,14 +161,15 @@ impl Report {
         text.push('\n')
     }
 
-    /// The report as a table: a line of what holds of the whole, the picture of a buffer, the list with the names of
-    /// its columns, how many rows were left out, and the summary. The findings are not in it.
+    /// Returns the report as a table. The table begins with a line of the numbers of the whole, and the picture of a
+    /// buffer. Then come the list with the names of its columns, how many rows were left out, and the summary. The
+    /// findings are not in it.
     pub fn to_table(&self, alloc: Global) -> Result<String, AllocError> {
         self.table(alloc, false)
     }
 
-    /// The table with colours, for a terminal: open records and headers that are not yet stored in yellow, aborted and
-    /// lapped records and freed counters dimmed, and in the picture messages in green.
+    /// Returns the table with colours, for a terminal. Open records and headers that are not yet stored are yellow.
+    /// Aborted and lapped records and freed counters are dimmed. Messages are green in the picture.
     pub fn to_colored_table(&self, alloc: Global) -> Result<String, AllocError> {
         self.table(alloc, true)
     }
@@ -185,7 +187,7 @@ impl Report {
         text.push('\n')
     }
 
-    /// Pushes the lines of the list. Those of rows are in the colour of their state, if there are colours.
+    /// Pushes the lines of the list. If there are colours, the line of each row has the colour of its state.
     fn push_list(
         &self,
         alloc: Global,
@@ -216,7 +218,7 @@ impl Report {
         text.push('\n')
     }
 
-    /// The report as a table, with colours or without.
+    /// Returns the report as a table, with colours or without.
     fn table(&self, alloc: Global, is_colored: bool) -> Result<String, AllocError> {
         let mut text = String::new(alloc);
         self.push_table(alloc, &mut text, is_colored)?;

@@ -1,4 +1,4 @@
--- What a closed ring hands out.
+-- The parts that a closed ring hands out.
 use Rattle.std.specs.Prelude.{◌≡◌, ℕ, ◌-◌, ◌%◌, ◌^◌, ◌≤◌, ℤ, pos, List, ◌∷◌, ◌++◌, length, slice_index}
 use Rattle.std.specs.Prelude.{Option, Some, None, if◌then◌else◌, nat_lt, ◌==◌}
 use mathlib.Core.Option.{some}
@@ -19,19 +19,19 @@ use Rattle.ring_rings.specs.declared.ring.CloseRefused.{CloseRefused}
 use Rattle.ring_rings.specs.declared.ring.Producer.{Producer}
 use Rattle.ring_rings.specs.declared.ring.Consumer.{Consumer}
 
--- why a producer with this many open claims and shares does not close a ring, in the order of the tests
+-- the reason why a producer with this many open claims and shares does not close a ring, in the order of the tests
 abbrev pub close_refusal_of : ℕ → ℕ → Option CloseFault
 close_refusal_of open_claims shares =
     if nat_lt 0 open_claims then Some (ClaimsOpen open_claims)
     else (if shares == all_shares then None
     else Some (ProducersOut (all_shares - shares)))
 
--- the number of why a ring is not closed
+-- the number of the reason why a ring is not closed
 abbrev pub close_code : CloseFault → ℤ
 close_code (ClaimsOpen _) = pos 10
 close_code (ProducersOut _) = pos 11
 
--- ring, producer and consumer come back with the reason
+-- the ring, the producer and the consumer come back with the reason
 abbrev pub kept_open : {R : Type 0} → R → Producer → Consumer → CloseFault → CloseRefused R
 kept_open ring producer consumer reason =
     record { reason = reason; ring = ring; producer = producer; consumer = consumer }
@@ -42,8 +42,8 @@ pub record AreOrdered (C start : ℕ) (cs : List StagedClaim) : Type 0 where
   pub rising : AreRising cs
 
 -- The producer p has all claims of the ring, which are one after the other from its start on, and r was its consumer.
--- The first claims are settled, and the messages that r took are the committed ones among them, with their places. The
--- others are a history that the rest has, at the same places
+-- The first claims are settled. The messages that r took are the committed ones among them, with their places. The
+-- other claims are a history of the ring that is left, at the same places.
 pub record HandsOut (C start : ℕ) (p r : View) (rest : Ring) : Type 0 where
   pub ordered : AreOrdered C start p.producer.claims
   pub passed : List StagedClaim
@@ -56,8 +56,8 @@ pub record HandsOut (C start : ℕ) (p r : View) (rest : Ring) : Type 0 where
   pub head : head_of rest ≡ r.consumer.head
   pub has : Has rest (unplaced left)
 
--- The numbers below some number were drawn, each once, and each producer's heartbeats are entries of those stored. The
--- words of both services follow from that, and the trailer's words without a name are 0
+-- The numbers below some number were drawn, each once. Each producer's heartbeats are among those that were stored. The
+-- words of both services follow from this. The trailer's words without a name are 0.
 pub record Serves (C : ℕ) (p r : View) (rest : Ring) : Type 0 where
   pub drawn : ℕ
   pub once : (x : ℕ) → times_drawn x p.producer ≡ once_below x drawn

@@ -6,18 +6,18 @@ use Rattle.ring_rings.specs.declared.bodies.Bodies.{Ghosts}
 use Rattle.ring_rings.specs.declared.ring.Producer.{Producer}
 use Rattle.ring_rings.specs.Seats.{IsOpenClaimOf}
 
--- what these slots hold, of which some are empty
+-- the contents of these slots, of which some are empty
 abbrev pub in_slots : {A : Type 0} → List (Option A) → List A
 in_slots [] = []
 in_slots (None ∷ slots) = in_slots slots
 in_slots (Some x ∷ slots) = x ∷ in_slots slots
 
--- they lie at different places
+-- the claims are at different places
 abbrev pub AreApart : List ClaimAt → Type 0
 AreApart [] = Unit {0}
 AreApart (t ∷ ts) = All (λ u. t.place ≢ u.place) ts × AreApart ts
 
--- each is an open one of the producer's, and they lie at different places
+-- each claim is an open one of the producer, and the claims are at different places
 pub record AreOpen {K B : Type 0} {G : Ghosts B} (ring : Ring K B G) (p : Producer) (claims : List ClaimAt) : Type 0 where
   pub each : All (IsOpenClaimOf ring p) claims
   pub apart : AreApart claims

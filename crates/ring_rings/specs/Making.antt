@@ -1,4 +1,4 @@
--- How a claim is made, in parts.
+-- The parts of the making of a claim.
 use Rattle.std.specs.Prelude.{◌≡◌, ◌≢◌, ℕ, ◌+◌, ◌%◌, ◌≤◌, ◌<◌, ◌==◌, ℤ, List, [], ◌∷◌, ◌++◌, Bool, None}
 use Rattle.ring_layout.specs.History.{IsMessage, span}
 use Rattle.ring_layout.specs.Places.{next_place, end_after, max_position}
@@ -16,7 +16,7 @@ use Rattle.ring_rings.specs.declared.fault.TryFault.{TryFault}
 use Rattle.ring_rings.specs.declared.fault.TryFault.TheVariants.{Refused, Contended}
 use Rattle.ring_rings.specs.Claiming.{GoesBy, LooksTwice, SeesRoom, SeesTail, looked, tail_loads, tail_refusal_of}
 
--- a valid message goes here past the tail
+-- the admission is the place of a valid message after the tail
 pub record GoesBehind (C tail : ℕ) (type_id : ℤ) (len : ℕ) (a : Admission) : Type 0 where
   pub message : IsMessage C (blank type_id len)
   pub tail_is : a.tail ≡ tail
@@ -32,7 +32,7 @@ pub record FindsRoom (C tail end : ℕ) (v w : View) : Type 0 where
   pub looks : SeesRoom C tail end loads
   pub room : end ≤ head + C
 
--- neither the cached head nor the head, which were loaded, has room up to `end`
+-- the cached head and the head were loaded, and there is no room up to `end` after either of them
 pub record FindsNoRoom (C tail end : ℕ) (fault : ClaimFault) (v w : View) : Type 0 where
   pub head : ℕ
   pub fault_is : fault ≡ InsufficientCapacity tail head
@@ -56,8 +56,8 @@ abbrev pub FindsShortage : ℕ → ℕ → ℕ → TryFault → View → View �
 FindsShortage C tail end (Refused fault) v w = FindsNoRoom C tail end fault v w
 FindsShortage C tail end (Contended from seen) v w = (from ≡ tail) × FindsPassed C tail end seen v w
 
--- a claim whose tail is moved, and whose header is not stored: its type id and length may be provisional, with the span
--- of len bytes
+-- A claim for which the tail is moved, and whose header is not stored. Its type id and its length may be provisional,
+-- with the span of len bytes.
 pub record IsMovedClaim (C tail len : ℕ) (c : StagedClaim) : Type 0 where
   pub type_id : ℤ
   pub some_len : ℕ
@@ -78,12 +78,13 @@ pub record Moves (C tail : ℕ) (type_id : ℤ) (len : ℕ) (front : List (ℕ �
   pub view : w ≡ with_claim claim (end_after C tail (span len)) (looked (front ++ loads) tail head v)
   pub behind : EndBelow tail v.producer.claims
 
--- after the tail that a producer of this kind goes by
+-- the tail is moved, after the tail by which a producer of this kind goes
 abbrev pub MovesBehind : Bool → ℕ → ℤ → ℕ → View → Admission → View → Type 0
 MovesBehind many C type_id len v a w =
     Moves C a.tail type_id len (tail_loads many C a.tail) v a w × SeesTail many v a.tail
 
--- c is the last claim of the view, made from the tail on for len bytes. No header is stored, and the others are before
+-- c is the last claim of the view. It was made from the tail on for len bytes. Its header is not stored, and the other
+-- claims are before it.
 pub record IsNewest (tail place len : ℕ) (cs : List StagedClaim) (c : StagedClaim) (v : View) : Type 0 where
   pub claims : v.producer.claims ≡ cs ++ c ∷ []
   pub behind : EndBelow tail cs

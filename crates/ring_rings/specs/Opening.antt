@@ -1,4 +1,4 @@
--- What the first producer and the consumer of a ring know.
+-- The first views of the producer and of the consumer of a ring.
 use Rattle.std.specs.Prelude.{◌≡◌, ℕ}
 use Rattle.ring_table.specs.declared.view.View.{View}
 use Rattle.ring_table.specs.declared.view.Key.{Key}
@@ -13,11 +13,11 @@ use Rattle.ring_rings.specs.Seats.{consumer_view, view_of, IsConsumerOf, IsProdu
 abbrev pub key_of : ℕ → ℕ → Key
 key_of C start = record { capacity = C; start = start }
 
--- the producer with all shares: no claims, and the start as the greatest end seen
+-- The view of the producer with all shares. It has no claims, and the start is the greatest end that it has seen.
 abbrev pub first_producer : ℕ → ℕ → View
 first_producer C start = without_consumer (first_view (key_of C start))
 
--- the consumer at the start: it took no messages
+-- the view of the consumer at the start, which took no messages
 abbrev pub first_consumer : ℕ → ℕ → View
 first_consumer C start = consumer_alone (first_view (key_of C start))
 

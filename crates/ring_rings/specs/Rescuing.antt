@@ -1,4 +1,4 @@
--- What a ring hands out of which producers are lost.
+-- The parts that a ring hands out after producers were lost.
 use Rattle.std.specs.Prelude.{◌≡◌, ℕ, ◌≤◌, List, ◌++◌}
 use Rattle.ring_words.specs.Ring.{Has, head_of}
 use Rattle.ring_table.specs.declared.claim.StagedClaim.{StagedClaim}
@@ -14,14 +14,15 @@ use Rattle.ring_rings.specs.Reading.{messages_of}
 use Rattle.ring_rings.specs.Ring.{IsUnread}
 use Rattle.ring_rings.specs.declared.rescue.Rescued.{Rescued}
 
--- Of a ring with this history of all claims, those of lost producers among them, and with this number of ids drawn, r
--- was rescued. The claims are one after the other from the ring's start on, and v's own claims are their part. The
--- first claims end at or below the head, they are settled, and the messages that v's consumer took are the committed
--- ones among them, with their places. The others, `left`, are at or above the head. Of them the rest has the committed
--- ones at their places, in their order, each whole and once, and nothing that was not committed. `unsettled` has the
--- number of claims of `left` that were claimed and not settled, and the bytes of those of which not even a header was
--- stored. In the rest's words the head cache is not above the head, the correlation counter is the number of ids that
--- were drawn, the heartbeat is the last one that was stored, and the words without a name are 0
+-- r was rescued from a ring with this history of all claims, which include those of lost producers. In the ring this
+-- number of ids was drawn. The claims are one after another from the ring's start on, and v's own claims are a part of
+-- them. The first claims end at or below the head, and are settled. The messages that v's consumer took are the
+-- committed ones among them, with their places. The other claims, `left`, are at or above the head. The ring that is
+-- left has the committed claims of `left` at their places and in their order. Each is there whole and once. Nothing
+-- that was not committed is there. `unsettled` has the number of claims of `left` that were not settled. It also has
+-- the bytes of those claims of which not even a header was stored. The head cache of the ring that is left is not above
+-- its head. Its correlation counter is the number of ids that were drawn. Its heartbeat is the last one that was
+-- stored. Its words without a name are 0.
 pub record IsRescuedOf (C start : ℕ) (v : View) (hist : OwnedHistory) (drawn : ℕ) (r : Rescued) : Type 0 where
   pub ordered : AreOrdered C start (all_of hist)
   pub id : ℕ
@@ -49,10 +50,10 @@ pub record IsRescuedOf (C start : ℕ) (v : View) (hist : OwnedHistory) (drawn :
 abbrev pub Had : Bodies → ℕ → ℕ → View → Rescued → OwnedHistory → ℕ → Type 0
 Had B C start v r hist drawn = HadHistory B (record { capacity = C; start = start }) v r.before.value hist drawn
 
--- `r.before` is what a table of this capacity and start left, in which a seat knew v. There is a history that the table
--- had, and of each history that it had, r was rescued. The one that producers and consumer made is among them, so no
--- message of it is lost, invented or counted wrongly. No clause says of which table a `Closed` is: `close_with` alone
--- makes one, of a table and a seat of it
+-- `r.before` is what a table of this capacity and this start left. A seat of the table knew v. The table had a history,
+-- and r was rescued from each history that the table had. The history that the producers and the consumer made is among
+-- them. So no message of this history is lost, invented or counted wrongly. No clause says from which table a `Closed`
+-- is. Only `close_with` makes one, from a table and one of its seats.
 pub record IsRescued (B : Bodies) (C start : ℕ) (v : View) (r : Rescued) : Type 0 where
   pub hist : OwnedHistory
   pub drawn : ℕ

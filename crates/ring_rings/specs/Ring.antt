@@ -17,15 +17,15 @@ use Rattle.ring_rings.specs.Seats.{consumer_view, view_of}
 abbrev pub message : ℤ → List ℕ → Message
 message type_id body = record { type_id = type_id; body = body }
 
--- what the producer with this view committed
+-- the messages that the producer with this view committed
 abbrev pub sent_in : View → List Message
 sent_in v = messages_of (placed_committed_of v.producer.claims)
 
--- what the consumer with this view took
+-- the messages that the consumer with this view took
 abbrev pub received_in : View → List Message
 received_in v = messages_of v.consumer.taken
 
--- the messages that a producer committed, in the order of their claims, which is that of the moves of the tail
+-- the messages that a producer committed, in the order of their claims, which is the order of the moves of the tail
 abbrev pub sent : Producer → List Message
 sent p = sent_in (view_of p)
 
@@ -33,7 +33,7 @@ sent p = sent_in (view_of p)
 abbrev pub received : Consumer → List Message
 received c = received_in (consumer_view c)
 
--- the messages that a closed ring still has: those committed in each history that it has
+-- the messages that a closed ring still has, which are those committed in each history that it has
 abbrev pub IsUnread : ClosedRing → List Message → Type 0
 IsUnread rest unread = (h : List Claim) → Has rest h → committed_of h ≡ unread
 
@@ -50,7 +50,8 @@ HasMessageAt v place m = HasClaimAt v place (λ c. c.message ≡ m)
 abbrev pub HasMessage : Producer → ℕ → Message → Type 0
 HasMessage p place m = HasMessageAt (view_of p) place m
 
--- the message of the claim at this place was sent: after those of earlier claims, before those of later ones
+-- The message of the claim at this place was sent. In the list it is after those of earlier claims, and before those of
+-- later claims.
 pub record SendsClaimedAt (place : ℕ) (v w : View) : Type 0 where
   pub message : Message
   pub claimed : HasMessageAt v place message
@@ -62,7 +63,7 @@ pub record SendsClaimedAt (place : ℕ) (v w : View) : Type 0 where
 abbrev pub SendsClaimed : ℕ → Producer → Producer → Type 0
 SendsClaimed place old new = SendsClaimedAt place (view_of old) (view_of new)
 
--- zs is xs and ys put together, each in its order
+-- zs is xs and ys merged, with the elements of each in their order
 abbrev pub AreMerged : {A : Type 0} → List A → List A → List A → Type 0
 AreMerged xs ys [] = (xs ≡ []) × (ys ≡ [])
 AreMerged {A} xs ys (z ∷ zs) = ((rest : List A) × (xs ≡ z ∷ rest) × AreMerged rest ys zs)
@@ -80,7 +81,8 @@ pub record ReceivesIn {S : Type 0} (step : S → Message → S → Action → Ty
 abbrev pub Receives : {S : Type 0} → (S → Message → S → Action → Type 0) → Consumer → Consumer → S → S → ℕ → Type 0
 Receives step old new s t count = ReceivesIn step (consumer_view old) (consumer_view new) s t count
 
--- or it was shown one more, at which it stopped the read by Abort: the next one of the ring, in which it was left
+-- This many messages were received. The handler was shown one more message, at which it stopped the read by Abort. This
+-- is the next message of the ring, and it was left in the ring.
 pub record LeavesIn {S : Type 0} (step : S → Message → S → Action → Type 0) (v w : View) (s t : S) (count : ℕ)
     : Type 0 where
   pub between : S

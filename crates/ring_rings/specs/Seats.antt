@@ -1,4 +1,4 @@
--- What clauses say of rings, producers and consumers.
+-- The words of clauses for rings, producers and consumers.
 use Rattle.std.specs.Prelude.{◌≡◌, ◌≢◌, ℕ, ◌+◌, ◌%◌, ◌≤◌, List, Bool, false}
 use Rattle.ring_layout.specs.History.{IsMessage}
 use Rattle.ring_layout.specs.Places.{max_position}
@@ -27,22 +27,22 @@ start_of {K} {B} {G} ring = ring.table.shared.key.start
 
 -- Producers ------------------------------------------------------------------
 
--- what the producer knows
+-- the view of the producer
 abbrev pub view_of : Producer → View
 view_of p = p.seat.me.0
 
--- its claims with their places, the oldest first
+-- the producer's claims with their places, the oldest first
 abbrev pub claims_of : Producer → List StagedClaim
 claims_of p = p.seat.me.0.producer.claims
 
 abbrev pub shares_of : Producer → ℕ
 shares_of p = p.seat.me.0.producer.shares
 
--- the number of its claims that are open
+-- the number of open claims of the producer
 abbrev pub open_claims_of : Producer → ℕ
 open_claims_of p = open_count p.seat.me.0.producer.claims
 
--- the greatest end of a claim that it has seen
+-- the greatest end of a claim that the producer has seen
 abbrev pub seen_tail_of : Producer → ℕ
 seen_tail_of p = p.seat.me.0.producer.seen_tail
 
@@ -50,21 +50,21 @@ pub record IsProducerOf {K B : Type 0} {G : Ghosts B} (ring : Ring K B G) (p : P
   pub table : p.seat.table_id ≡ ring.table.shared.table_id
   pub capacity : p.seat.me.0.capacity ≡ ring.capacity
 
--- if the ring is not for many producers, this one holds all shares
+-- if the ring is not for many producers, this producer holds all shares
 abbrev pub MayClaim : Bool → Producer → Type 0
 MayClaim many p = many ≡ false → shares_of p ≡ all_shares
 
 -- The consumer ---------------------------------------------------------------
 
--- what its seat knows
+-- the view of the consumer's seat
 abbrev pub seat_view : Consumer → View
 seat_view c = c.seat.me.0
 
--- what the consumer knows between two calls: that, without what a running read has got
+-- The view of the consumer between two calls. It is the view of the seat, without what a running read has found.
 abbrev pub consumer_view : Consumer → View
 consumer_view c = at_rest (seat_view c)
 
--- the messages that it took, with their places
+-- the messages that the consumer took, with their places
 abbrev pub taken_of : Consumer → List PlacedMessage
 taken_of c = c.seat.me.0.consumer.taken
 
@@ -81,7 +81,7 @@ IsSameConsumer old new = IsSameSeat old.seat new.seat
 
 -- Claims -----------------------------------------------------------------------
 
--- of a capacity and what a producer knows: the claim in its hands is one of its own, and open
+-- the claim that a producer holds is one of its own, and is open
 pub record IsOpenAt (C : ℕ) (v : View) (t : ClaimAt) : Type 0 where
   pub index : t.index ≡ t.place % C + 8
   pub message : IsMessage C (blank t.type_id t.len)
@@ -91,14 +91,14 @@ pub record IsOpenAt (C : ℕ) (v : View) (t : ClaimAt) : Type 0 where
 abbrev pub IsOpenClaimOf : {K B : Type 0} {G : Ghosts B} → Ring K B G → Producer → ClaimAt → Type 0
 IsOpenClaimOf ring p t = IsOpenAt (capacity_of ring) (view_of p) t
 
--- what was open stays open
+-- claims that were open stay open
 abbrev pub KeepsOpen : ℕ → View → View → Type 0
 KeepsOpen C v w = (t : ClaimAt) → IsOpenAt C v t → IsOpenAt C w t
 
 abbrev pub KeepsClaims : {K B : Type 0} {G : Ghosts B} → Ring K B G → Producer → Producer → Type 0
 KeepsClaims ring old new = KeepsOpen (capacity_of ring) (view_of old) (view_of new)
 
--- what a producer holds stays: its open claims and its shares
+-- a producer keeps its open claims and its shares
 pub record KeepsHeld (C : ℕ) (v w : View) : Type 0 where
   pub claims : KeepsOpen C v w
   pub shares : w.producer.shares ≡ v.producer.shares
@@ -106,7 +106,7 @@ pub record KeepsHeld (C : ℕ) (v w : View) : Type 0 where
 abbrev pub KeepsHoldings : {K B : Type 0} {G : Ghosts B} → Ring K B G → Producer → Producer → Type 0
 KeepsHoldings ring old new = KeepsHeld (capacity_of ring) (view_of old) (view_of new)
 
--- and no claim more is open
+-- a producer keeps its open claims and its shares, and no further claim is open
 pub record OpensNoneAt (C : ℕ) (v w : View) : Type 0 where
   pub holdings : KeepsHeld C v w
   pub open_claims : open_count w.producer.claims ≡ open_count v.producer.claims
@@ -114,7 +114,7 @@ pub record OpensNoneAt (C : ℕ) (v w : View) : Type 0 where
 abbrev pub OpensNone : {K B : Type 0} {G : Ghosts B} → Ring K B G → Producer → Producer → Type 0
 OpensNone ring old new = OpensNoneAt (capacity_of ring) (view_of old) (view_of new)
 
--- claims are at different places, and what was open stays open, but at this place
+-- The claims are at different places. Claims that were open stay open, except the one at this place.
 pub record KeepsAllBut (C place : ℕ) (v w : View) : Type 0 where
   pub rising : AreRising v.producer.claims
   pub claims : (t : ClaimAt) → IsOpenAt C v t → t.place ≢ place → IsOpenAt C w t
@@ -122,14 +122,14 @@ pub record KeepsAllBut (C place : ℕ) (v w : View) : Type 0 where
 abbrev pub KeepsOthers : {K B : Type 0} {G : Ghosts B} → Ring K B G → ℕ → Producer → Producer → Type 0
 KeepsOthers ring place old new = KeepsAllBut (capacity_of ring) place (view_of old) (view_of new)
 
--- a claim is at a place without an open one of the producer
+-- no open claim of the producer is at the place of this claim
 abbrev pub LiesApartAt : ℕ → View → ClaimAt → Type 0
 LiesApartAt C v new = (t : ClaimAt) → IsOpenAt C v t → t.place ≢ new.place
 
 abbrev pub LiesApart : {K B : Type 0} {G : Ghosts B} → Ring K B G → Producer → ClaimAt → Type 0
 LiesApart ring p new = LiesApartAt (capacity_of ring) (view_of p) new
 
--- a claim that was opened is apart from those that were open before
+-- a claim that was opened is at another place than the claims that were open before
 pub record OpensAt (C : ℕ) (v w : View) (t : ClaimAt) : Type 0 where
   pub is_open : IsOpenAt C w t
   pub apart : LiesApartAt C v t
@@ -137,7 +137,7 @@ pub record OpensAt (C : ℕ) (v w : View) (t : ClaimAt) : Type 0 where
 abbrev pub IsNewClaimOf : {K B : Type 0} {G : Ghosts B} → Ring K B G → Producer → Producer → ClaimAt → Type 0
 IsNewClaimOf ring old new t = OpensAt (capacity_of ring) (view_of old) (view_of new) t
 
--- what was open of either of two producers is open in the one that has both, at different places
+-- claims that were open in one of two producers are open in the joined producer, at different places
 pub record KeepsBothOpen (C : ℕ) (v w joined : View) : Type 0 where
   pub first : KeepsOpen C v joined
   pub second : KeepsOpen C w joined

@@ -1,4 +1,4 @@
-//! Where the bodies of a ring's messages lie, and the steps that differ by it. The others are functions of
+//! The memory of the bodies of a ring's messages, and the steps that depend on it. The other steps are functions of
 //! `ring_table`.
 ghost use Rattle.std.specs.Prelude.{◌≡◌, ℕ, ◌+◌, ◌/◌, ◌%◌, ◌≤◌, List, [], ◌∷◌, ◌++◌, length, vec_len, IfOk};
 ghost use Rattle.std.specs.Slots.{slots_len};
@@ -26,13 +26,13 @@ use atomic_table::Closed;
 use ring_table::{Key, Mode, RingSeat, RingTable, SharedRing, Unsettled, Wanted};
 use std::alloc::{AllocError, Global};
 
-/// Where the bodies of messages lie: in words (`InWords`) or in slots (`InSlots`).
+/// The memory of the bodies of messages, which is words (`InWords`) or slots (`InSlots`).
 pub trait Bodies: Mode {
-    /// The number of slots of a table of this many bytes.
+    /// Returns the number of slots of a table of this many bytes.
     ghost slots_for: { ℕ → ℕ };
 
-    /// A fresh ring, and its first seat, which is the only producer and the consumer. The only error is that there was
-    /// no memory.
+    /// Returns a fresh ring and its first seat. This seat is the only producer and the consumer. The only error is out
+    /// of memory.
     fn open(alloc: Global, key: Key) -> Result<(RingTable<Self>, RingSeat), AllocError>
         requires lawful { IsLawful key.capacity key.start }
         requires limit { key.start ≤ max_position }
@@ -42,8 +42,8 @@ pub trait Bodies: Mode {
         ensures seat { IfOk result (λ t. t.1.table_id ≡ t.0.shared.table_id) }
         ensures view { IfOk result (λ t. t.1.me ≡ (first_view key, [])) };
 
-    /// Stores the header of a claim of `len` bytes, its length negated. The claim is open from then on, with zeros for
-    /// its bytes.
+    /// Stores the header of a claim of `len` bytes, with its length negated. The claim is then open, and its bytes are
+    /// zeros.
     fn store_claimed_header(
         words: &SharedRing<Self>,
         producer: &mut RingSeat,
@@ -95,7 +95,7 @@ pub trait Bodies: Mode {
         ensures seat { IsSameSeat seat.old seat.new }
         ensures put { PutsBytes place offset bytes.now seat.old.me.0 seat.new.me.0 };
 
-    /// Copies the body of the message that the read got last to the front of the scratch.
+    /// Copies the body of the message that the read found last to the front of the scratch.
     fn load_body(
         words: &SharedRing<Self>,
         seat: &mut RingSeat,
@@ -123,7 +123,8 @@ pub trait Bodies: Mode {
         ensures seat { IsSameSeat seat.old seat.new }
         ensures view { seat.new.me.0 ≡ with_consumer (cleared_to to seat.old.me.0.consumer) seat.old.me.0 };
 
-    /// The words of a ring in its format, in `room`, from what its table left.
+    /// Writes the words of a ring into `room`, in the ring's format, and returns them. They are made from what the
+    /// ring's table left.
     fn show(closed: Closed<u64, Global>, room: Vec<u64>) -> Vec<u64>
         requires left { (k : TheKey) × (v : View) × IsLeft Self.bodies k v closed
             × (slots_len closed.slots ≡ slots_for k.capacity) }
@@ -131,8 +132,8 @@ pub trait Bodies: Mode {
         ensures { (k : TheKey) (v : View) → IsLeft Self.bodies k v closed
             → IsClosed k.capacity k.start result.items v × LeavesRest k.capacity result.items v };
 
-    /// The words of a ring in its format, in `room`, from what its table left, whatever became of other seats than the
-    /// consumer's. What no seat settled is settled in them.
+    /// Does the same, even if other seats than the consumer's were lost. Claims that no seat settled are settled in
+    /// these words.
     fn rescue(closed: Closed<u64, Global>, capacity: u32, room: Vec<u64>) -> (Vec<u64>, Unsettled)
         requires left { (k : TheKey) × (v : View) × IsSaved Self.bodies k v closed
             × (slots_len closed.slots ≡ slots_for k.capacity) × (k.capacity ≡ capacity) }

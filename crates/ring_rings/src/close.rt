@@ -1,4 +1,4 @@
-//! How a ring is closed.
+//! The call that closes a ring.
 ghost use Rattle.std.specs.Prelude.{◌≡◌, vec_len, IfOk, OnOk};
 ghost use Rattle.ring_layout.specs.Refusals.{all_shares};
 ghost use Rattle.ring_table.specs.Closed.{IsClosed, IsLast, LeavesRest};
@@ -33,7 +33,7 @@ fn test_close(producer: &Producer) -> Result<(), CloseFault>
     Ok(())
 }
 
-/// The words of a ring in its format, in `room`, from its last seat.
+/// Writes the words of a ring into `room`, in the ring's format, by its last seat, and returns them.
 fn take_words<B: Bodies>(table: RingTable<B>, seat: RingSeat, room: Vec<u64>) -> Vec<u64>
     requires table { (seat.table_id ≡ table.shared.table_id)
         × (table.shared.table_id.slots ≡ B.slots_for table.shared.key.capacity) }
@@ -46,9 +46,10 @@ fn take_words<B: Bodies>(table: RingTable<B>, seat: RingSeat, room: Vec<u64>) ->
 }
 
 impl<K, B: Bodies> Ring<K, B> {
-    /// Takes the ring apart and returns what is in it as a ring of one owner: what was committed and not read, and the
-    /// trailer's words. Returns, in this order: `ClaimsOpen` if claims of this producer are open; `ProducersOut` if
-    /// shares are with other producers. After an error everything comes back unchanged.
+    /// Takes the ring apart, and returns what is in it as a ring of one owner. These are the messages that were
+    /// committed and not read, and the words of the trailer. Returns `ClaimsOpen` if claims of this producer are open.
+    /// Otherwise returns `ProducersOut` if other producers have shares. After an error all arguments come back
+    /// unchanged.
     pub fn close(
         self,
         producer: Producer,

@@ -1,4 +1,4 @@
-//! What the consumer does.
+//! The calls of the consumer.
 pub(crate) mod heartbeat;
 pub(crate) mod pass;
 pub(crate) mod read;

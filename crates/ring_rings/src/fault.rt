@@ -1,4 +1,4 @@
-//! Why a call of a shared ring refuses.
+//! The reasons why a call of a shared ring refuses.
 ghost use Rattle.std.specs.Prelude.{◌≡◌};
 ghost use Rattle.ring_rings.specs.declared.fault.TryFault.TheVariants.{Refused};
 ghost use Rattle.ring_rings.specs.Claiming.{try_code};
@@ -8,19 +8,19 @@ use ring_layout::refusal_codes::{CLAIMS_OPEN, CONTENDED, PRODUCERS_OUT};
 use ring_words::ClaimFault;
 use thiserror::Error;
 
-/// Why one try of a claim was refused.
+/// The reason why one try of a claim was refused.
 #[derive(Clone, Copy, Debug, PartialEq, Eq, Error)]
 pub enum TryFault {
     /// The ring refuses the claim.
     #[error("{0}")]
     Refused(ClaimFault),
-    /// Another producer was faster: the tail that was loaded, and a greater position that was loaded after it.
+    /// Another producer was faster. `tail` was loaded first, and then `seen`, which is greater.
     #[error("{} Contended tail {tail} seen {seen}", self.code())]
     Contended { tail: u64, seen: u64 },
 }
 
 impl TryFault {
-    /// The number of the refusal.
+    /// Returns the number of the refusal.
     pub fn code(self) -> i32
         ensures { result ≡ try_code self }
     {
@@ -39,19 +39,19 @@ impl From<ClaimFault> for TryFault {
     }
 }
 
-/// Why a ring is not closed.
+/// The reason why a ring was not closed.
 #[derive(Clone, Copy, Debug, PartialEq, Eq, Error)]
 pub enum CloseFault {
     /// This many claims of this producer are open.
     #[error("{} ClaimsOpen {claims}", self.code())]
     ClaimsOpen { claims: u64 },
-    /// This many shares are with other producers.
+    /// Other producers have this many shares.
     #[error("{} ProducersOut {shares}", self.code())]
     ProducersOut { shares: u32 },
 }
 
 impl CloseFault {
-    /// The number of the refusal.
+    /// Returns the number of the refusal.
     pub fn code(self) -> i32
         ensures { result ≡ close_code self }
     {

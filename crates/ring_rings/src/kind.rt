@@ -1,4 +1,4 @@
-//! The kinds of rings, and how a producer of each moves the tail.
+//! The kinds of rings. The kind says how a producer moves the tail.
 ghost use Rattle.std.specs.Prelude.{◌≡◌, ◌%◌, ◌<◌, ◌≤◌, Bool, false, true, MatchResult, OnErr};
 ghost use Rattle.ring_layout.specs.Places.{max_position};
 ghost use Rattle.ring_layout.specs.Refusals.{all_shares};
@@ -14,11 +14,13 @@ use ring_table::{Mode, RingSeat, SharedRing, Wanted, load_tail, move_tail, store
 
 /// A kind of ring: `OneToOne` or `ManyToOne`.
 pub trait Kind: Sized {
-    /// Its rings may have many producers. Otherwise a producer holds all shares when it claims, and knows the tail.
+    /// States that rings of this kind may have many producers. Otherwise a producer holds all shares when it claims,
+    /// and knows the tail.
     ghost many: { Bool };
 
-    /// Makes one try to move the tail past a message: by a store of the only producer, whose own tail is the ring's, or
-    /// by an exchange with a tail that was loaded. The claim has no header yet. The refusals are those of `try_claim`.
+    /// Makes one try to move the tail past a message. The only producer stores the tail, since its own tail is that of
+    /// the ring. One of several producers exchanges a tail that it loaded. The claim has no header yet. The refusals
+    /// are those of `try_claim`.
     fn try_move<M: Mode>(
         words: &SharedRing<M>,
         seat: &mut RingSeat,

@@ -1,13 +1,15 @@
-//! The rings that threads share: any number of producers or one, and one consumer.
+//! The rings that threads share. A ring has one consumer, and one producer or any number of producers.
 //!
-//! - `ring`: a ring, its producers and its consumer. `open` makes it, `close` takes it apart.
+//! - `ring`: a ring, its producers and its consumer. `open` makes a ring, and `close` takes it apart.
 //! - `kind`: how a producer of each kind moves the tail.
-//! - `producer`: `try_once` has one try for both kinds, `one_to_one` and `many_to_one` the calls, `wait` those that try
-//!   again, `settle` what becomes of a claim. `service`: ids, heartbeats and positions.
-//! - `consumer`: `read` has the calls, `turn` one turn of a read, made of `load` and `pass`. `heartbeat`.
-//! - `source`: what a conductor needs of a ring.
-//! - `bodies`: the steps that differ by whether bodies lie in words (`words`) or in slots (`slots`).
-//! - `claim`, `fault`: an open claim, and why calls refuse.
+//! - `producer`: the calls of producers. `try_once` has one try for both kinds of rings. `one_to_one` and `many_to_one`
+//!   have the calls of one kind. `wait` has the calls that try again. `settle` settles claims. `service` has the calls
+//!   for ids, heartbeats and positions.
+//! - `consumer`: the calls of the consumer. `read` has the calls, `turn` has one turn of a read, and `pass` has the end
+//!   of a read. `heartbeat` stores the heartbeat.
+//! - `source`: the traits that a conductor needs of a ring.
+//! - `bodies`: the steps that depend on whether bodies are in words (`words`) or in slots (`slots`).
+//! - `claim`, `fault`: an open claim, and the reasons why calls refuse.
 #![tactic(auto)]
 
 mod bodies;

@@ -1,4 +1,4 @@
-//! Rings as they are made, with the first producer and the consumer.
+//! The calls that make rings, with their first producer and their consumer.
 ghost use Rattle.std.specs.Prelude.{◌≡◌, ◌/◌, ◌%◌, ◌≤◌, [], IfOk};
 ghost use Rattle.ring_layout.specs.Places.{is_capacity, IsCapacity, max_position};
 ghost use Rattle.ring_layout.specs.Refusals.{make_refusal_of, IsMadeUnless};
@@ -15,8 +15,8 @@ use std::alloc::{AllocError, Global};
 use std::marker::PhantomData;
 
 impl<K, B: Bodies> Ring<K, B> {
-    /// Makes an empty ring that starts at position 0, with a producer that holds all shares. Returns the errors of
-    /// `new_at`.
+    /// Makes an empty ring that starts at position 0, with its consumer and a producer that holds all shares. Returns
+    /// the errors of `new_at`.
     pub fn new(alloc: Global, capacity: u32) -> Result<(Self, Producer, Consumer), MakeFault>
         ensures refused { IsMadeUnless (make_refusal_of (is_capacity capacity) capacity 0) result }
         ensures ring { IfOk result (λ made. (capacity_of made.0 ≡ capacity) × (start_of made.0 ≡ 0)) }
@@ -27,9 +27,11 @@ impl<K, B: Bodies> Ring<K, B> {
         Self::new_at(alloc, capacity, 0)
     }
 
-    /// Makes an empty ring that starts at a multiple of its capacity, in bytes, with a producer that holds all shares.
-    /// Returns, in this order: `BadCapacity` if the capacity is no power of two from 128 to 2^24; `BadStart` if the
-    /// start is no multiple of the capacity or is above 2^62; `OutOfMemory`.
+    /// Makes an empty ring that starts at a multiple of its capacity, in bytes, with its consumer and a producer that
+    /// holds all shares. These are the errors, in this order:
+    /// - `BadCapacity` if the capacity is not a power of two from 128 to 2^24;
+    /// - `BadStart` if the start is not a multiple of the capacity, or is above 2^62;
+    /// - `OutOfMemory`.
     pub fn new_at(
         alloc: Global,
         capacity: u32,
@@ -85,14 +87,15 @@ impl<K, B: Bodies> Ring<K, B> {
         Ok((ring, producer, consumer))
     }
 
-    /// The most bytes of a message: an eighth of the capacity. A longer one is refused with `TooLong`.
+    /// Returns the number of bytes of the longest message, which is an eighth of the capacity. A longer message is
+    /// refused with `TooLong`.
     pub fn max_message(&self) -> u32
         ensures { result ≡ capacity_of self.now / 8 }
     {
         max_message(self.capacity)
     }
 
-    /// The bytes of the buffer.
+    /// Returns the number of bytes of the buffer.
     pub fn capacity(&self) -> u32
         ensures { result ≡ capacity_of self.now }
     {

@@ -1,4 +1,4 @@
-//! What producers say of themselves, and how they are cut in two and put together.
+//! Calls that return the counts of a producer.
 pub(crate) mod many_to_one;
 pub(crate) mod one_to_one;
 pub(crate) mod record;
@@ -14,14 +14,14 @@ ghost use Rattle.ring_rings.specs.Seats.{open_claims_of, shares_of};
 use crate::ring::Producer;
 
 impl Producer {
-    /// Returns the number of shares of the ring that it holds.
+    /// Returns the number of shares of the ring that this producer holds.
     pub fn shares(&self) -> u32
         ensures { result ≡ shares_of self.now }
     {
         self.shares
     }
 
-    /// Returns the number of its claims that are open.
+    /// Returns the number of open claims of this producer.
     pub fn open_claims(&self) -> u64
         ensures { result ≡ open_claims_of self.now }
     {

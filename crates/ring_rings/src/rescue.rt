@@ -1,4 +1,4 @@
-//! How a ring is taken apart of which producers are lost.
+//! The calls that take a ring apart although producers are lost.
 ghost use Rattle.std.specs.Prelude.{◌≡◌, ℕ, vec_len, true, []};
 ghost use Rattle.ring_table.specs.Owners.{OwnedHistory};
 ghost use Rattle.ring_table.specs.Rescued.{HadHistory, Rescues};
@@ -15,17 +15,19 @@ use ring_words::SoloRing;
 use std::alloc::Global;
 use std::snapshot::Snapshot;
 
-/// What was saved of a ring: the messages that were committed and not read, as a ring of one owner, and what lost
-/// producers had claimed and not settled.
+/// The result of a rescue. It has the messages that were committed and not read, as a ring of one owner. It also has
+/// what lost producers had claimed and not settled.
 #[derive(Drop)]
 pub struct Rescued {
     pub rest: SoloRing,
     pub unsettled: Unsettled,
-    /// What the ring's table left, for contracts: it has no bytes. They read in it which claims there were.
+    /// What the ring's table left. This field is for contracts, and has no bytes. Contracts read in it which claims
+    /// there were.
     pub before: Snapshot<Closed<u64, Global>>,
 }
 
-/// The words of a ring in its format, in `room`, from a seat that consumes, and what its table left, by name.
+/// Writes the words of a ring into `room`, in the ring's format, and returns them. They are made from a seat that
+/// consumes and from what the table left, by name.
 fn save_words<B: Bodies>(
     table: RingTable<B>,
     seat: RingSeat,
@@ -52,8 +54,8 @@ fn save_words<B: Bodies>(
 }
 
 impl<K, B: Bodies> Ring<K, B> {
-    /// Takes the ring apart with its consumer alone, whatever became of its producers. What was committed and not read
-    /// stays, in its order and at its places, and what was claimed and not settled is aborted.
+    /// Takes the ring apart with its consumer alone, even if producers were lost. Messages that were committed and not
+    /// read stay, in their order and at their places. Claims that were not settled are aborted.
     pub fn rescue(self, consumer: Consumer) -> Rescued
         requires consumer { IsConsumerOf self consumer }
         ensures rescued { IsRescued B.bodies (capacity_of self) (start_of self) (seat_view consumer) result }
@@ -77,8 +79,9 @@ impl<K, B: Bodies> Ring<K, B> {
         }
     }
 
-    /// Takes the ring apart with its consumer and a producer that is left, whose claims the contract distinguishes from
-    /// those of others. Its own open claims are aborted too: once the ring is apart, nothing can settle them.
+    /// Takes the ring apart with its consumer and a producer that is left. The contract distinguishes the claims of
+    /// this producer from the claims of others. The open claims of this producer are aborted too, since nothing can
+    /// settle them after the ring was taken apart.
     pub fn rescue_with(self, producer: Producer, consumer: Consumer) -> Rescued
         requires producer { IsProducerOf self producer }
         requires consumer { IsConsumerOf self consumer }

@@ -15,13 +15,13 @@ pub struct OneToOne;
 /// The kind of a ring that any number of producers write.
 pub struct ManyToOne;
 
-/// A ring of messages between threads, shared by reference. It has one consumer, and producers as its kind says. `B`
-/// says where the bodies of messages lie: `InWords` in atomic words, `InSlots` in plain memory. The calls and what they
-/// do are the same.
+/// A ring of messages between threads, shared by reference. A ring has one consumer. Its kind `K` says whether it has
+/// one producer or many. `B` says where the bodies of messages are: `InWords` in atomic words, `InSlots` in plain
+/// memory. The calls are the same for both, and do the same.
 #[derive(Drop)]
 pub struct Ring<K, B: Bodies = InWords> {
     pub(crate) table: RingTable<B>,
-    // Room for the words that `close` hands on.
+    // Room for the words that `close` returns.
     pub(crate) room: Vec<u64>,
     pub(crate) capacity: u32,
     pub(crate) kind: PhantomData<K>,
@@ -33,45 +33,46 @@ pub struct Ring<K, B: Bodies = InWords> {
 
 /// A ring with one producer, which moves the tail by a store.
 ///
-/// Its memory has the format of a ring at all times, bodies included. So a body costs an atomic step for each eight
-/// bytes, and one more to clear them. Take it if something else reads the memory by the format, and otherwise a
-/// `PlainOneToOneRing`.
+/// The memory of this ring always has the format of a ring, bodies included. So a body costs an atomic step for each
+/// eight bytes, and one more step to clear them. Use this ring if something else reads the memory by the format.
+/// Otherwise use a `PlainOneToOneRing`.
 pub type OneToOneRing = Ring<OneToOne>;
 
-/// A ring with any number of producers, which move the tail by a compare-exchange. Its memory is that of a
-/// `OneToOneRing`.
+/// A ring with any number of producers, which move the tail by a compare-exchange. Its memory has the format of a ring,
+/// as that of a `OneToOneRing` does.
 pub type ManyToOneRing = Ring<ManyToOne>;
 
-/// A ring whose bodies lie in plain memory, which one thread at a time reads and writes.
+/// A ring whose bodies are in plain memory, which one thread at a time reads and writes.
 pub type PlainRing<K> = Ring<K, InSlots>;
 
-/// A ring with one producer whose bodies lie in plain memory.
+/// A ring with one producer, whose bodies are in plain memory.
 ///
-/// It has the calls of a `OneToOneRing`, and a body costs about what copying it costs. It takes the memory of its
-/// buffer once more, since headers and bodies lie apart, and has the format of a ring only once it is closed.
+/// This ring has the calls of a `OneToOneRing`. A body costs about as much as copying it. Headers and bodies are stored
+/// separately, so the ring takes the memory of its buffer once more. Its words have the format of a ring only after it
+/// was closed.
 pub type PlainOneToOneRing = PlainRing<OneToOne>;
 
-/// A ring with any number of producers whose bodies lie in plain memory, as in a `PlainOneToOneRing`.
+/// A ring with any number of producers, whose bodies are in plain memory as in a `PlainOneToOneRing`.
 pub type PlainManyToOneRing = PlainRing<ManyToOne>;
 
-/// Writes into a ring. It is used by one thread at a time, and may move between threads.
+/// Writes messages into a ring. One thread at a time uses a producer. A producer may move between threads.
 ///
-/// The first producer holds 65,536 shares, and `ManyToOneRing::split` moves one of them to a new producer; `close`
-/// needs all of them back. So a dropped producer keeps its ring from ever being closed.
+/// The first producer holds 65,536 shares. `ManyToOneRing::split` moves one of them to a new producer. `close` needs
+/// all shares back. So a ring can never be closed after one of its producers was dropped.
 #[derive(Drop)]
 pub struct Producer {
     pub(crate) seat: RingSeat,
     pub(crate) shares: u32,
     pub(crate) open_claims: u64,
-    // The ring's tail, if it holds all shares.
+    // The ring's tail, if this producer holds all shares.
     pub(crate) own_tail: u64,
     ghost known: { Matches seat.me.0 shares open_claims own_tail } by { matches_prop _ _ _ _ _ _ },
     ghost produces: { (seat.me.0.consumes ≡ false) × (seat.me.1 ≡ []) },
     ghost home: { seat.me.0.out ≡ [] },
 }
 
-/// Reads a ring. It is used by one thread at a time, and may move between threads. If it is dropped, the ring fills up
-/// and can never be closed.
+/// Reads messages from a ring. One thread at a time uses a consumer. A consumer may move between threads. If the
+/// consumer is dropped, the ring fills up, and can never be closed.
 #[derive(Drop)]
 pub struct Consumer {
     pub(crate) seat: RingSeat,
@@ -84,7 +85,7 @@ pub struct Consumer {
     ghost room: { vec_len scratch ≡ seat.me.0.capacity / 8 },
 }
 
-/// A ring was not closed: the reason, and all arguments unchanged.
+/// The error of a ring that was not closed. It has the reason, and all arguments unchanged.
 #[derive(Drop)]
 pub struct CloseRefused<R> {
     pub reason: CloseFault,

@@ -1,4 +1,4 @@
-//! The steps of a ring whose bodies lie in slots, which one seat at a time reads and writes as plain memory. Headers
+//! The steps of a ring whose bodies are in slots. One seat at a time reads and writes a slot as plain memory. Headers
 //! and the trailer are words.
 ghost use Rattle.std.specs.Prelude.{◌≡◌, ◌+◌, ◌/◌, ◌%◌, ◌≤◌, ◌<◌};
 ghost use Rattle.ring_table.specs.Seats.{IsSameSeat};
@@ -15,8 +15,8 @@ use ring_table::{
 };
 use std::alloc::{AllocError, Global};
 
-/// Clears what the read has passed from the position `at` on: a message's record that ends at or below `to`, or
-/// otherwise one word. Returns the end of that.
+/// Clears what the read has passed from the position `at` on. This is a message's record that ends at or below `to`, or
+/// otherwise one word. Returns the end of what was cleared.
 #[inline(always)]
 fn clear_next(
     slots: &SharedRing<InSlots>,
@@ -109,7 +109,7 @@ impl Bodies for InSlots {
 
     #[inline(always)]
     fn clear_up(slots: &SharedRing<Self>, seat: &mut RingSeat, capacity: u32, head: u64, to: u64) {
-        // Of a message's record it stores to the header alone, and touches no other word.
+        // In a message's record only the header is stored to, and no other word is touched.
         let mut at = head;
         while at < to {
             at = clear_next(slots, seat, capacity, at, to);

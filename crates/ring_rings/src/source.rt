@@ -1,4 +1,4 @@
-//! What a conductor needs of a ring, whatever its kind.
+//! The traits that a conductor needs of a ring of any kind.
 ghost use Rattle.std.specs.Prelude.{◌≡◌, ◌⊎◌, ℕ, IfOk};
 ghost use Rattle.ring_table.specs.Staged.{Bodies as TheBodies};
 ghost use Rattle.ring_table.specs.Views.{with_beat, with_consumer_of};
@@ -16,21 +16,21 @@ use crate::rescue::Rescued;
 use crate::ring::{CloseRefused, Consumer, Producer, Ring};
 use ring_words::{Handler, ReadEnd, SoloRing, Stop};
 
-/// A ring that commands are read from: of one producer or of many.
+/// A ring from which commands are read, with one producer or with many.
 pub trait CommandSource: Sized {
-    /// The bytes of its buffer.
+    /// Returns the number of bytes of the ring's buffer.
     ghost bytes: { Self → ℕ };
 
-    /// The position of its first claim.
+    /// Returns the position of the ring's first claim.
     ghost start: { Self → ℕ };
 
-    /// A producer of this ring.
+    /// States that a producer is one of this ring.
     ghost is_producer: { Self → TheProducer → Type 0 };
 
-    /// The consumer of this ring.
+    /// States that a consumer is the one of this ring.
     ghost is_consumer: { Self → TheConsumer → Type 0 };
 
-    /// Reads at most `limit` messages, and heeds the handler's actions, as `Ring::controlled_read` does.
+    /// Reads at most `limit` messages, and follows the handler's actions, as `Ring::controlled_read` does.
     fn controlled_read<H: Handler>(
         &self,
         consumer: &mut Consumer,
@@ -59,7 +59,7 @@ pub trait CommandSource: Sized {
         ensures service { IfOk result (Serves (bytes self) (view_of producer) (consumer_view consumer)) };
 }
 
-/// A ring that commands are read from, and whose consumer stores a heartbeat.
+/// A ring from which commands are read, and whose consumer stores a heartbeat.
 pub trait Heartbeat: CommandSource {
     /// Stores the consumer's heartbeat, as `Ring::set_heartbeat` does.
     fn set_heartbeat(&self, consumer: &mut Consumer, value: u64)
@@ -93,9 +93,9 @@ impl<K, B: Bodies> CommandSource for Ring<K, B> {
     }
 }
 
-/// A ring that commands are read from, and that can be taken apart though producers are lost.
+/// A ring from which commands are read, and which can be taken apart although producers are lost.
 pub trait Rescue: CommandSource {
-    /// Where the bodies of its messages lie.
+    /// The kind of memory in which the bodies of messages are.
     ghost bodies: { TheBodies };
 
     /// Takes the ring apart with its consumer alone, as `Ring::rescue` does.

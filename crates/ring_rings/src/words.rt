@@ -1,4 +1,4 @@
-//! The steps of a ring whose bodies lie in words, one atomic word for eight bytes, as the ring's format has it.
+//! The steps of a ring whose bodies are in words. Each atomic word has eight bytes, as in the ring's format.
 ghost use Rattle.std.specs.Prelude.{◌≡◌, ℕ, ◌+◌, ◌*◌, ◌%◌, ◌<◌, ◌≤◌, List, [], ◌∷◌, ◌++◌, length};
 ghost use Rattle.ring_layout.specs.Places.{index, max_position};
 ghost use Rattle.ring_table.specs.declared.claim.StagedClaim.{StagedClaim};
@@ -19,7 +19,7 @@ use ring_table::{
 };
 use std::alloc::{AllocError, Global};
 
-/// Stores a whole body into the newest claim, which has its length and zeros for its bytes.
+/// Stores a whole body into the newest claim. The claim has the body's length, and its bytes are zeros.
 #[inline(always)]
 fn store_body(
     words: &SharedRing<InWords>,
@@ -42,7 +42,7 @@ fn store_body(
     let whole = body.len() / 8;
     for k in 0..whole {
         let word = first_word(&body[8 * k..8 * k + 8]);
-        // What is 0 already needs no store.
+        // A word that is already 0 needs no store.
         if word != 0 {
             store_body_word(words, seat, capacity, place, 8 * k as u64, first + k, word);
         }
@@ -56,8 +56,8 @@ fn store_body(
     }
 }
 
-/// The word of an open claim's body with these bytes in place of its own from byte `at` on. The word is loaded if the
-/// bytes are not all of it.
+/// Returns a word of an open claim's body, in which these bytes replace those from byte `at` on. The word is loaded
+/// first unless the bytes replace all of it.
 fn merged_word(
     words: &SharedRing<InWords>,
     seat: &mut RingSeat,
@@ -79,7 +79,8 @@ fn merged_word(
     put_bytes_word(load_own_word(words, seat, capacity, position), at, bytes)
 }
 
-/// Copies the word number `k` of the body at `place` to its room in the scratch. Its first word has the index `first`.
+/// Copies the word with the number `k` of the body at `place` to its room in the scratch. The first word of the body
+/// has the index `first`.
 #[inline(always)]
 fn load_word(
     ring: &SharedRing<InWords>,
@@ -104,7 +105,7 @@ fn load_word(
     put_word(scratch, 8 * k, word);
 }
 
-/// Clears the next word that the read has passed. Its index in the buffer is `target`.
+/// Clears the next word that the read has passed. The index of this word in the buffer is `target`.
 #[inline(always)]
 fn pass_word(
     ring: &SharedRing<InWords>,
@@ -120,7 +121,7 @@ fn pass_word(
     ensures seat { IsSameSeat seat.old seat.new }
     ensures told { ClearsWord seat.old.me.0 seat.new.me.0 }
 {
-    // A load costs little of what a store does, and many words of messages are 0.
+    // A load costs much less than a store, and many words of messages are 0.
     if load_passed_word(ring, seat, capacity, cleared, target) != 0 {
         clear_word(ring, seat, capacity, cleared, target);
     }
@@ -191,10 +192,10 @@ impl Bodies for InWords {
         len: usize,
         scratch: &mut [u8],
     ) {
-        // A record does not cross the end of the buffer, so its words lie side by side.
+        // A record does not cross the end of the buffer, so its words are side by side.
         let first = word_index(capacity, place) + 1;
         let count = len.div_ceil(8);
-        // Four in a turn, since the compiler keeps a turn for each.
+        // A turn handles four words, since the compiler keeps one turn for each pass of the loop.
         for k in 0..count / 4 {
             load_word(words, seat, capacity, place, first, 4 * k, scratch);
             load_word(words, seat, capacity, place, first, 4 * k + 1, scratch);
@@ -208,10 +209,10 @@ impl Bodies for InWords {
 
     #[inline(always)]
     fn clear_up(words: &SharedRing<Self>, seat: &mut RingSeat, capacity: u32, head: u64, to: u64) {
-        // A read does not cross the end of the buffer, so the words lie side by side.
+        // A read does not cross the end of the buffer, so the words are side by side.
         let first = word_index(capacity, head);
         let count = (to - head) / 8;
-        // Four in a turn, since the compiler keeps a turn for each.
+        // A turn handles four words, since the compiler keeps one turn for each pass of the loop.
         for k in 0..count / 4 {
             let (at, target) = (head + 32 * k, first + 4 * k as usize);
             pass_word(words, seat, capacity, at, target);

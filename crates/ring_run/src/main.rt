@@ -1,5 +1,5 @@
-//! Runs a scenario on a ring of messages and a broadcast buffer: it reads lines of a file or on standard input, and
-//! writes on standard output.
+//! Runs a scenario on a ring of messages and a broadcast buffer. The program reads lines of a file or on standard
+//! input, and writes on standard output.
 #![tactic(auto)]
 
 mod command_line;
@@ -86,7 +86,7 @@ fn run_asked<R: AllocGlobal + Files + Input + Print + Eprint + Threads + Wait>(
     Ok(ExitCode::SUCCESS)
 }
 
-/// Runs the scenario in a file, which is opened once the options were tested.
+/// Runs the scenario in a file, which is opened after the options were tested.
 fn run_file<R: AllocGlobal + Files + Print + Eprint + Threads + Wait>(
     rt: &R,
     options: &Options,
@@ -102,7 +102,7 @@ fn run_file<R: AllocGlobal + Files + Print + Eprint + Threads + Wait>(
     }
 }
 
-/// The words of the command line. Returns `None` if one of them is not UTF-8.
+/// Returns the words of the command line. Returns `None` if one of them is not UTF-8.
 fn words_of<R: AllocGlobal + Env>(rt: &R) -> Result<Option<Vec<String>>, RunFault> {
     match env::args(rt) {
         Ok(arguments) => Ok(Some(arguments.collect(rt.alloc())?)),

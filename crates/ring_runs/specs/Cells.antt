@@ -1,4 +1,4 @@
--- What is at each position, and what words and slots show of it. Positions count words.
+-- The cell at each position, and the parts of it that words and slots show. Positions count words.
 use Rattle.std.specs.Prelude.{◌≡◌, ◌⊎◌, ℕ, ◌+◌, ◌*◌, ◌-◌, ◌≤◌, ◌<◌, List, length, slice_index, if◌then◌else◌, nat_lt, suc, zero}
 use mathlib.Core.Option.{Option, none, some}
 use lib.ListN.{get_elem?}
@@ -8,8 +8,9 @@ pub use Rattle.ring_runs.specs.declared.view.Stage.TheVariants.{Open, Out, Publi
 pub use Rattle.ring_runs.specs.declared.view.Claim.{Claim}
 pub use Rattle.ring_runs.specs.declared.view.Run.{Run}
 
--- free: at the tail or after it. claimed, held: of the claim of this seat at this place, with a word at home, or out
--- with the seat. published: it has this word, and a run of these records begins there, or none
+-- The kinds of cells. A free cell is at the tail or after it. A claimed or held cell is of the claim of this seat at
+-- this place. A claimed cell has a word in its slot, and the slot of a held cell is out with the seat. A published cell
+-- has this word. A run of these records begins there, or no run.
 pub data Cell : Type 0 where
   free : Cell
   claimed : ℕ → ℕ → ℕ → Cell
@@ -19,7 +20,7 @@ pub data Cell : Type 0 where
 abbrev pub Cells : Type 0
 Cells = ℕ → Cell
 
--- these cells from p on, this many
+-- the cells in which this many of these cells replace those from p on
 abbrev pub patched : ℕ → ℕ → Cells → Cells → Cells
 patched p len new cells q = if nat_lt q p then cells q else (if nat_lt q (p + len) then new q else cells q)
 
@@ -56,15 +57,15 @@ Begins c = (es : List Entry) × BeginsAs es c
 abbrev pub IsRun : Cells → ℕ → List Entry → List ℕ → Type 0
 IsRun cells p es ws = (i y : ℕ) → get_elem? ws i ≡ some y → cells (p + i) ≡ published (begun es i) y
 
--- THE RULE OF A WORD: it is above its position if and only if a run was published there, which is of whole records and
--- ends where the word says
+-- The rule of a word. It is above its position exactly if a run was published there. The run has whole records, and
+-- ends at the position that the word has.
 pub data ShowsWord (n : ℕ) (cells : Cells) (p w : ℕ) : Type 0 where
   older : w ≤ p → ¬ Begins (cells p) → ShowsWord n cells p w
   ends : (es : List Entry) (ws : List ℕ) → 0 < length ws → w ≡ p + length ws → IsRun cells p es ws
       → AreRecords (8 * n) es ws
       → ShowsWord n cells p w
 
--- what the slot of a position shows
+-- the content of the slot of a position
 abbrev pub Shows : List (Option ℕ) → ℕ → Cell → Type 0
 Shows homes i free = (y : ℕ) × (get_elem? homes i ≡ some (some y))
 Shows homes i (claimed id p y) = get_elem? homes i ≡ some (some y)
@@ -75,7 +76,7 @@ Shows homes i (published b y) = get_elem? homes i ≡ some (some y)
 abbrev pub IsOf : ℕ → ℕ → Cell → Type 0
 IsOf id p c = (c ≡ held id p) ⊎ ((y : ℕ) × (c ≡ claimed id p y))
 
--- what the cells show of a claim of the seat
+-- the content of the cells of a claim of the seat
 abbrev pub ShowStage : Cells → ℕ → ℕ → List Entry → List ℕ → Stage → Type 0
 ShowStage cells id p es ws Open = (i y : ℕ) → get_elem? ws i ≡ some y → cells (p + i) ≡ claimed id p y
 ShowStage cells id p es ws Out = (i : ℕ) → i < length ws → cells (p + i) ≡ held id p

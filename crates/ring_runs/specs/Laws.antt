@@ -1,4 +1,4 @@
--- A run that the consumer took, and a claim of a producer, that are one.
+-- The relation of a run that the consumer took and the claim of a producer.
 use Rattle.std.specs.Prelude.{◌≡◌, ℕ, List}
 use mathlib.Core.Option.{some}
 use lib.ListN.{get_elem?}

@@ -1,4 +1,4 @@
--- A run that is read: each of its records is shown once, in order.
+-- The reading of a run. Each of its records is shown once, in order.
 use Rattle.std.specs.Prelude.{◌≡◌, ℕ, ◌+◌, ◌*◌, ◌≤◌, List, [], ◌++◌, length, drop, true}
 use Rattle.atomic_table.specs.Seated.{TableId}
 use Rattle.ring_layout.specs.Handles.{Handles}
@@ -12,7 +12,7 @@ use Rattle.ring_runs.specs.Turns.{Held, turned_by}
 use Rattle.ring_runs.specs.Views.{View, looked, passed, with_reader}
 pub use Rattle.ring_runs.specs.declared.read.Consumer.{Consumer}
 
--- what a handler's call does: the state before, the message, the state after and the answer
+-- the effect of a handler's call, which relates the state before, the message, the state after and the result
 abbrev pub Step : Type 0 → Type 1
 Step S = S → Message → S → Action → Type 0
 
@@ -68,7 +68,7 @@ pub record IsConsumer (id : TableId) (key capacity : ℕ) (c : Consumer) : Type 
   pub logged : length c.seat.me.0.reader.log ≡ c.seat.me.0.reader.scan
   pub limit : c.head ≤ last_position
 
--- One run was taken, from the head to its end. The handler was shown its messages in order, each once
+-- One run was taken, from the head to the end of the run. The handler was shown its messages in order, each once.
 pub record TakesRun {S : Type 0} (step : Step S) (n : ℕ) (old new : View) (s t : S) : Type 0 where
   pub entries : List Entry
   pub words : List ℕ

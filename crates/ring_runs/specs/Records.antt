@@ -1,4 +1,4 @@
--- The records of a run, one after the other: messages, and what a reader passes.
+-- The records of a run, one after another. They are messages, and records that a reader passes.
 use Rattle.std.specs.Prelude.{◌≡◌, ℕ, ℤ, ◌+◌, ◌/◌, ◌^◌, ◌≤◌, ◌<◌, List, [], ◌∷◌, ◌++◌, length, drop, slice_index}
 use Rattle.ring_layout.specs.Bytes.{HoldsBytes}
 use Rattle.ring_layout.specs.Headers.{committed_header, padding_header, padding_type}
@@ -7,12 +7,12 @@ use Rattle.ring_layout.specs.History.{IsMessage}
 pub use Rattle.ring_runs.specs.declared.view.Entry.{Entry}
 pub use Rattle.ring_runs.specs.declared.view.Entry.TheVariants.{Holds, Skips}
 
--- the bytes of a record, those of its header among them, without the zeros after them
+-- the number of bytes of a record, with those of its header and without the zeros after them
 abbrev pub entry_bytes : Entry → ℕ
 entry_bytes (Holds m) = 8 + length m.body
 entry_bytes (Skips bytes) = bytes
 
--- the words of a record
+-- the number of words of a record
 abbrev pub entry_words : Entry → ℕ
 entry_words e = (entry_bytes e + 7) / 8
 
@@ -41,17 +41,17 @@ pub record IsRecord (C : ℕ) (e : Entry) (ws : List ℕ) : Type 0 where
   pub header : slice_index ws 0 ≡ entry_header e
   pub body : HoldsBytes ws 1 (entry_body e)
 
--- the words are these records, one after the other
+-- the words are these records, one after another
 abbrev pub AreRecords : ℕ → List Entry → List ℕ → Type 0
 AreRecords C [] ws = ws ≡ []
 AreRecords C (e ∷ es) ws = IsRecord C e ws × AreRecords C es (drop (entry_words e) ws)
 
--- the words of all these records
+-- the number of words of all these records
 abbrev pub total_words : List Entry → ℕ
 total_words [] = 0
 total_words (e ∷ es) = entry_words e + total_words es
 
--- what a handler is shown of a record
+-- the message that a handler is shown of a record, if there is one
 abbrev pub shown_of : Entry → List Message
 shown_of (Holds m) = m ∷ []
 shown_of (Skips bytes) = []

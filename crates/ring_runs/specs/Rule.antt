@@ -1,4 +1,4 @@
--- The rule: words and slots are functions of the cells, the head and what the consumer has out.
+-- The rule. Words and slots are functions of the cells, the head, and what the consumer has out.
 use Rattle.std.specs.Prelude.{◌≡◌, ◌⊎◌, ℕ, ◌+◌, ◌%◌, ◌^◌, ◌≤◌, ◌<◌, List, [], ◌∷◌, Bool, true, false, length, slice_index}
 use mathlib.Core.Option.{Option, some}
 use lib.ListN.{get_elem?}
@@ -6,7 +6,7 @@ use Rattle.ring_runs.specs.Records.{total_words}
 use Rattle.ring_runs.specs.Cells.{Cells, Claim, free, Has, IsRun, IsUnsettled, Run, ShowClaim, Shows, ShowsWord}
 use Rattle.ring_runs.specs.Views.{Reader, View}
 
--- the tail's word and the head's come after the n words of the buffer, as in the formats
+-- the index of the tail's word, which comes with the head's word after the n words of the buffer, as in the formats
 abbrev pub tail_at : ℕ → ℕ
 tail_at n = n + 16
 
@@ -25,7 +25,7 @@ abbrev pub IsTaken : Cells → Run → Type 0
 IsTaken cells x = (ws : List ℕ) × (0 < length ws) × (length ws ≡ total_words x.entries)
     × IsRun cells x.place x.entries ws
 
--- the runs are one after the other from the position p up to `scan`
+-- the runs come one after another from the position p up to `scan`
 abbrev pub AreRuns : ℕ → List Run → ℕ → Type 0
 AreRuns p [] scan = p ≡ scan
 AreRuns p (x ∷ xs) scan = (x.place ≡ p) × AreRuns (p + total_words x.entries) xs scan
@@ -35,7 +35,7 @@ pub record IsMemory (n : ℕ) (alone : Bool) (words : List ℕ) (homes : List (O
   pub some_words : 0 < n
   pub wide : length words ≡ table_words n
   pub long : length homes ≡ n
-  -- a producer that is alone keeps the tail to itself
+  -- a producer that is alone does not store the tail in the table
   pub tail_is : alone ≡ false → slice_index words (tail_at n) ≡ tail
   pub head_is : slice_index words (head_at n) ≡ r.head
   pub limit : tail ≤ last_position
@@ -51,11 +51,11 @@ pub record IsMemory (n : ℕ) (alone : Bool) (words : List ℕ) (homes : List (O
   pub shown : (p : ℕ) → r.head ≤ p → p < r.head + n → ShowsWord n cells p (slice_index words (p % n))
   pub home : (p : ℕ) → r.head ≤ p → p < r.head + n → (p < r.from) ⊎ (r.scan ≤ p) → Shows homes (p % n) (cells p)
 
--- what the seat id, which knows v, knows of the table
+-- the knowledge of the seat id, which has the view v, about the table
 pub record Knows (alone : Bool) (cells : Cells) (tail writer reader id : ℕ) (r : Reader) (v : View) : Type 0 where
   pub seen : v.head_seen ≤ r.head
   pub claims : (k : ℕ) (c : Claim) → get_elem? v.claims k ≡ some c → (0 < length c.words) × ShowClaim cells id c
-  -- no two claims that are not published have one place
+  -- no two claims that are not published have the same place
   pub apart : (j k : ℕ) (x y : Claim) → get_elem? v.claims j ≡ some x → get_elem? v.claims k ≡ some y
       → IsUnsettled x.stage → IsUnsettled y.stage → x.place ≡ y.place → j ≡ k
   pub only : v.alone ≡ true → (alone ≡ true) × (id ≡ writer) × (v.tail ≡ tail)

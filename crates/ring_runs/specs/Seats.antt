@@ -1,4 +1,4 @@
--- What a step asks of a seat, and leaves of it.
+-- The conditions of a step on a seat, and its effect on the seat.
 use Rattle.std.specs.Prelude.{◌≡◌, ℕ, ◌^◌, ◌≤◌, IsTrue}
 use Rattle.std.specs.Int.{is_power_of_two}
 use Rattle.atomic_table.specs.Seated.{TableId}
@@ -6,7 +6,7 @@ use Rattle.atomic_table.specs.declared.shared.Seat.{Seat}
 use Rattle.ring_runs.specs.Rule.{table_words}
 use Rattle.ring_runs.specs.Views.{View}
 
--- a valid capacity, in words: a power of two from 16 to 2^21, which are 128 to 2^24 bytes
+-- A valid capacity in words. It is a power of two from 16 to 2^21, which are 128 to 2^24 bytes.
 pub record IsCapacity (n : ℕ) : Type 0 where
   pub power : IsTrue (is_power_of_two n)
   pub least : 16 ≤ n
@@ -21,7 +21,7 @@ pub record IsSeatOf (id : TableId) (key capacity : ℕ) (s : Seat ℕ View) : Ty
   pub view_is : s.me.0.capacity ≡ capacity
   pub lawful : IsCapacity capacity
 
--- the same seat, of a table of the same capacity
+-- the seat is the same, of a table of the same capacity
 pub record IsSameSeat (old new : Seat ℕ View) : Type 0 where
   pub table : new.table_id ≡ old.table_id
   pub id : new.id ≡ old.id

@@ -1,4 +1,4 @@
--- What the steps say: me is the seat before, me' after.
+-- The relations of the steps. me is the seat before a step, and me' is the seat after it.
 use Rattle.std.specs.Prelude.{◌≡◌, ◌≢◌, ℕ, ◌+◌, ◌*◌, ◌%◌, ◌≤◌, ◌<◌, List, [], ◌∷◌, ◌++◌, length, true}
 use mathlib.Core.Option.{some}
 use lib.ListN.{get_elem?}
@@ -14,20 +14,20 @@ Mine = Me ℕ View
 
 -- ---- producers
 
--- an open claim of this many words, from `place` on, comes after the others, with whatever its slots have
+-- an open claim of this many words, from `place` on, comes after the others, with the words that its slots have
 pub record Claims (tail place len : ℕ) (me me' : Mine) : Type 0 where
   pub words : List ℕ
   pub count : length words ≡ len
   pub held : me'.1 ≡ me.1
   pub view : me'.0 ≡ with_claims (me.0.claims ++ new_claim Open place [] words ∷ []) tail me.0
 
--- The only producer claims at its tail. A load has no operand that says how much. The index i of the loaded word does,
--- which is that of the new tail
+-- The only producer claims at its tail. A load has no operand for the number of words. The index i of the loaded word,
+-- which is that of the new tail, determines this number.
 abbrev pub ClaimsAlone : ℕ → Mine → Mine → Type 0
 ClaimsAlone i me me' = (len : ℕ) → 0 < len → len ≤ me.0.capacity → (me.0.tail + len) % me.0.capacity ≡ i
     → Claims (me.0.tail + len) me.0.tail len me me'
 
--- the tail n was the expected one, and is moved up; otherwise nothing changes
+-- If the tail n was the expected one, it is moved up. Otherwise nothing changes.
 pub record ClaimsShared (old new : ℕ) (me : Mine) (n : ℕ) (me' : Mine) : Type 0 where
   pub won : n ≡ old → (len : ℕ) × (new ≡ old + len) × Claims me.0.tail old len me me'
   pub lost : n ≢ old → me' ≡ me
@@ -46,7 +46,7 @@ pub record LoadsHead (me : Mine) (n : ℕ) (me' : Mine) : Type 0 where
 abbrev pub HasClaim : View → ℕ → Claim → Type 0
 HasClaim v k c = get_elem? v.claims k ≡ some c
 
--- the claim at this stage whose place has the index i
+-- the claim is at this stage, and its place has the index i
 pub record IsAt (t : Stage) (i : ℕ) (v : View) (k : ℕ) (c : Claim) : Type 0 where
   pub has : HasClaim v k c
   pub stage : c.stage ≡ t
@@ -57,12 +57,12 @@ abbrev pub Takes : ℕ → Mine → Mine → Type 0
 Takes i me me' = (k : ℕ) (c : Claim) → IsAt Open i me.0 k c
     → (me'.1 ≡ spots me.0.capacity c.place c.words) × (me'.0 ≡ changed k (new_claim Out c.place [] c.words) me.0)
 
--- the slots of a claim are given back, which is open again and has the words that they have
+-- the slots of a claim are given back, and the claim is open again and has the words of these slots
 abbrev pub GivesBack : ℕ → Mine → Mine → Type 0
 GivesBack i me me' = (k : ℕ) (c : Claim) → IsAt Out i me.0 k c
     → (me'.1 ≡ []) × (me'.0 ≡ changed k (new_claim Open c.place [] (values_of me.1)) me.0)
 
--- the slots of a claim are given back, which is a run of the records that they have
+-- the slots of a claim are given back, and the claim is a run of the records in these slots
 abbrev pub Publishes : ℕ → Mine → Mine → Type 0
 Publishes i me me' = (k : ℕ) (c : Claim) → IsAt Out i me.0 k c
     → (es : List Entry) → AreRecords (8 * me.0.capacity) es (values_of me.1)
@@ -93,7 +93,7 @@ pub record Looks (me : Mine) (n : ℕ) (me' : Mine) : Type 0 where
 abbrev pub StoresHead : ℕ → Mine → Mine → Type 0
 StoresHead head me me' = (me'.1 ≡ []) × (me'.0 ≡ with_reader (passed head me.0.reader) me.0)
 
--- the consumer has out what is published from `from` up to its scan
+-- the consumer has out the slots that are published from `from` up to its scan
 pub record HasOut (r : Reader) (n : ℕ) (slots : List (ℕ × ℕ)) : Type 0 where
   pub before : List ℕ
   pub values : List ℕ
@@ -101,7 +101,7 @@ pub record HasOut (r : Reader) (n : ℕ) (slots : List (ℕ × ℕ)) : Type 0 wh
   pub count : length before ≡ r.from
   pub slots_are : slots ≡ spots n r.from values
 
--- what is known and not passed is taken again
+-- the slots that are known and not passed are taken again
 pub record Retakes (me me' : Mine) : Type 0 where
   pub view : me'.0 ≡ with_reader (retaken me.0.reader) me.0
   pub out : HasOut me'.0.reader me.0.capacity me'.1

@@ -1,4 +1,4 @@
--- A seat goes through its slots once. Each is written or read, and then goes after the others.
+-- A seat goes through its slots once. Each slot is written or read, and then goes after the others.
 use Rattle.std.specs.Prelude.{◌≡◌, ℕ, ◌+◌, ◌≤◌, List, ◌++◌, length, take, drop}
 use Rattle.atomic_table.specs.declared.shared.Seat.{Seat}
 use Rattle.ring_runs.specs.Spots.{spots}
@@ -21,7 +21,7 @@ pub record Filling (n p total : ℕ) (done : List ℕ) (held : Held) : Type 0 wh
   pub held_is : held ≡ spots n (p + length done) left ++ spots n p done
   pub count : length done + length left ≡ total
 
--- the next slot is that of the position `at`, and this many at least are not yet written
+-- The next slot is that of the position `at`. At least this many slots are not yet written.
 pub record HasRoom (n at count : ℕ) (held : Held) : Type 0 where
   pub first : ℕ
   pub total : ℕ
@@ -37,11 +37,11 @@ Fills n at ws held held' = (p total : ℕ) (done : List ℕ) → Filling n p tot
 
 -- ---- read
 
--- the slots from the position p on, which have the words ws. The first j went after the others
+-- The slots from the position p on, which have the words ws. The first j of them went after the others.
 abbrev pub turned_by : ℕ → ℕ → ℕ → List ℕ → Held
 turned_by n p j ws = spots n (p + j) (drop j ws) ++ spots n p (take j ws)
 
--- the next slot is that of the position `at` and has the j-th word, and this many at least are not yet read
+-- The next slot is that of the position `at` and has the j-th word. At least this many slots are not yet read.
 pub record IsPast (n at count p j : ℕ) (ws : List ℕ) (held : Held) : Type 0 where
   pub at_is : at ≡ p + j
   pub held_is : held ≡ turned_by n p j ws

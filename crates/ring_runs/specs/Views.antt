@@ -1,4 +1,4 @@
--- What each seat knows at first, and how steps, splits and joins change it.
+-- The first view of each seat, and the changes of views by steps, splits and joins.
 use Rattle.std.specs.Prelude.{ℕ, ◌+◌, List, [], ◌∷◌, ◌++◌, true, false, length, slice_set}
 use Rattle.ring_runs.specs.Records.{Entry}
 use Rattle.ring_runs.specs.Cells.{Claim, Stage}
@@ -8,7 +8,7 @@ pub use Rattle.ring_runs.specs.declared.view.View.{View}
 abbrev pub first_reader : Reader
 first_reader = record { head = 0; from = 0; scan = 0; log = []; runs = [] }
 
--- the first seat is the only producer, and the consumer
+-- the view of the first seat, which is the only producer and the consumer
 abbrev pub first_view : ℕ → View
 first_view n = record {
   capacity = n;
@@ -24,18 +24,18 @@ first_view n = record {
 
 -- ---- seats
 
--- the consumer's part goes to a seat of its own
+-- the consumer's part goes to a separate seat
 abbrev pub without_reader : View → View
 without_reader v = record v { consumes = false }
 
 abbrev pub reader_alone : View → View
 reader_alone v = record v { produces = false; alone = false; claims = []; heads = [] }
 
--- one more of many producers
+-- the view of one more producer of many
 abbrev pub producer_alone : View → View
 producer_alone v = record v { consumes = false; claims = []; heads = [] }
 
--- the tail is in the table from then on
+-- the view of a producer whose tail is in the table from then on
 abbrev pub sharing : View → View
 sharing v = record v { alone = false }
 
@@ -47,7 +47,7 @@ new_claim t place es ws = record { place = place; words = ws; entries = es; stag
 abbrev pub with_claims : List Claim → ℕ → View → View
 with_claims cs tail v = record v { claims = cs; tail = tail }
 
--- the k-th claim is this one
+-- the k-th claim is changed to this one
 abbrev pub changed : ℕ → Claim → View → View
 changed k c v = with_claims (slice_set v.claims k c) v.tail v
 
@@ -59,7 +59,7 @@ with_head_seen head v = record v { head_seen = head; heads = v.heads ++ head ∷
 abbrev pub with_reader : Reader → View → View
 with_reader r v = record v { reader = r }
 
--- a run of these records was found at the scan, and has these words
+-- a run of these records was found at the scan, and the run has these words
 abbrev pub looked : List Entry → List ℕ → Reader → Reader
 looked es ws r = record r {
   scan = r.scan + length ws;

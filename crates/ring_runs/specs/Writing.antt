@@ -1,4 +1,4 @@
--- Messages that are written together: their records and words, and what a call makes of them.
+-- Messages that are written together, with their records and words, and the effect of a call on them.
 use Rattle.std.specs.Prelude.{◌≡◌, ◌⊎◌, ℕ, zero, suc, ℤ, pos, ◌≤ℤ◌, ◌+◌, ◌/◌, ◌≤◌, ◌<◌, min, List, [], ◌∷◌, ◌++◌, FitsSigned, length, take, true}
 use Rattle.std.specs.Int.{w32}
 use Rattle.atomic_table.specs.Seated.{TableId}
@@ -27,7 +27,7 @@ abbrev pub entries_of : List Outgoing → List Entry
 entries_of [] = []
 entries_of (o ∷ os) = Holds (message_of o) ∷ entries_of os
 
--- the words of this many bytes
+-- the number of words of this many bytes
 abbrev pub words_in : ℕ → ℕ
 words_in len = (len + 7) / 8
 
@@ -67,21 +67,21 @@ pub record IsProducer (id : TableId) (key capacity : ℕ) (p : Producer) : Type 
 abbrev pub end_of_room : ℕ → ℕ → ℕ
 end_of_room n head = min (head + n) last_position
 
--- the first messages, this many, have this many words
+-- the first messages, of which there are this many, have this many words
 abbrev pub IsBatch : List Outgoing → Batch → Type 0
 IsBatch os b = (b.count ≤ length os) × (b.words ≡ total_words (entries_of (take b.count os)))
 
--- the view is the old one, or has one head more that was loaded
+-- the view is the old one, or has one more head that was loaded
 abbrev pub MayHaveLooked : View → View → Type 0
 MayHaveLooked old seen = (seen ≡ old) ⊎ ((head : ℕ) × (seen ≡ with_head_seen head old))
 
--- a head was loaded, and one message more than these would not have had room before it
+-- A head was loaded. There would not have been room before it for one message more than these.
 pub record IsLongest (n tail : ℕ) (os : List Outgoing) (count : ℕ) (old seen : View) : Type 0 where
   pub head : ℕ
   pub loaded : seen ≡ with_head_seen head old
   pub full : end_of_room n head < tail + total_words (entries_of (take (count + 1) os))
 
--- as many messages as there is room for
+-- the call chooses as many messages as there is room for
 pub record Chooses (n tail : ℕ) (os : List Outgoing) (b : Batch) (old new : View) : Type 0 where
   pub looked : MayHaveLooked old new
   pub batch : IsBatch os b
@@ -94,12 +94,13 @@ pub record HasNewest (place total : ℕ) (v : View) : Type 0 where
   pub claims_are : v.claims ≡ others ++ new_claim Open place [] words ∷ []
   pub count : length words ≡ total
 
--- the published claim of these messages. It is one for all of them, and there is none of no message
+-- The published claim of these messages. There is one claim for all of them, and no claim for no messages.
 abbrev pub run_of : ℕ → List Outgoing → List Claim
 run_of place [] = []
 run_of place (o ∷ os) = new_claim Published place (entries_of (o ∷ os)) (batch_words (o ∷ os)) ∷ []
 
--- the first `count` messages were published as one run at the tail. They are all, or as many as there was room for
+-- The first `count` messages were published as one run at the tail. They are all messages, or as many as there was room
+-- for.
 pub record SendsBatch (n tail : ℕ) (os : List Outgoing) (count : ℕ) (old new : View) : Type 0 where
   pub seen : View
   pub looked : MayHaveLooked old seen

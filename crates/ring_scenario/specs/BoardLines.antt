@@ -1,4 +1,4 @@
--- What lines of the broadcast buffer do, with what they print.
+-- The effects of lines of the broadcast buffer, with the text that they print.
 use Rattle.std.specs.Prelude.{◌≡◌, ℕ, ℤ, List, codes, length, IfOk, OnErr, OnOk, Result}
 use Rattle.ring_board.specs.Refusals.{subscribe_refusal_of, transmit_refusal_of, IsRefusedBy, IsSubscribedUnless}
 use Rattle.ring_board.specs.Seats.{capacity_of, next_record, shares_of, tail_of, view_of}

@@ -1,4 +1,4 @@
--- What a run hands out at its end.
+-- The parts that a run hands out at its end.
 use Rattle.std.specs.Prelude.{◌≡◌, ℕ, ◌-◌, ◌^◌, List, ◌++◌, length, min}
 use Rattle.ring_layout.specs.Refusals.{all_shares}
 use Rattle.ring_table.specs.declared.claim.PlacedMessage.{PlacedMessage}
@@ -12,12 +12,13 @@ use Rattle.ring_service.specs.Conducting.{manager_in, received_of}
 use Rattle.ring_scenario.specs.declared.service.CommandService.{CommandService}
 use Rattle.ring_scenario.specs.declared.service.closing.Served.{Served}
 
--- the number of messages that the reads of a ring took, held within 64 bits
+-- the number of messages that the reads of a ring took, within 64 bits
 abbrev pub read_count : Standalone → ℕ
 read_count l = min (length l.consumer.consumer.taken) (2 ^ 64 - 1)
 
--- The claims are one after another from the ring's start on, in tail-exchange order. Their committed messages, with
--- their places, are those that were taken, followed by those that are left, which are this many
+-- The claims come one after another from the ring's start on, in the order of the tail exchanges. Their committed
+-- messages, with their places, are the messages that were taken, followed by the messages that are left. This many
+-- messages are left.
 pub record TakesAllBut (C start : ℕ) (claims : List StagedClaim) (taken : List PlacedMessage) (count : ℕ)
     : Type 0 where
   pub ordered : AreOrdered C start claims
@@ -25,13 +26,13 @@ pub record TakesAllBut (C start : ℕ) (claims : List StagedClaim) (taken : List
   pub whole : placed_committed_of claims ≡ taken ++ left
   pub counted : count ≡ length left
 
--- the ring of a run took all but this many messages, after its open claims were aborted
+-- the ring of a run took all messages except this many, after its open claims were aborted
 abbrev pub LeavesMessages : Standalone → ℕ → Type 0
 LeavesMessages l count =
     TakesAllBut l.capacity 0 (aborted_view l.producer).producer.claims l.consumer.consumer.taken count
 
--- the number of commands that the conductor took, which are all messages committed to its ring but those that it left,
--- with its counters, which have all shares of the values
+-- The number of commands that the conductor took. They are all messages that were committed to its ring, except those
+-- that it left. Its counters have all shares of the values.
 pub record TookAndLeft (service : CommandService) (served : Served) : Type 0 where
   pub received : served.received ≡ length (received_of service.conductor)
   pub left : TakesAllBut (capacity_of service.ring) (start_of service.ring) (claims_of service.producer)

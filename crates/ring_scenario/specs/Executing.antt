@@ -1,4 +1,4 @@
--- What lines do, with what they print.
+-- The effects of lines, with the text that they print.
 use Rattle.std.specs.Prelude.{◌≡◌, ◌↔◌, ℕ, List, codes, IfOk, Result, Err}
 use Rattle.ring_layout.specs.declared.message.ClaimState.{ClaimState}
 use Rattle.ring_layout.specs.declared.message.ClaimState.TheVariants.{Aborted, Committed}
@@ -29,7 +29,7 @@ use Rattle.ring_scenario.specs.ServiceTexts.{storm_text}
 use Rattle.ring_scenario.specs.Serving.{FitsRoom}
 use Rattle.ring_scenario.specs.Texts.{answer_text, number_text, ok_text, positions_text}
 
--- a line of the conductor's side made its call, and the text is what the call returned
+-- a line of the conductor's side made its call, and the text is the result of the call
 abbrev pub Serves : ServiceCall → CommandService → CommandService → List ℕ → Type 0
 Serves (asks.Send type_id body) old new text = SendsLine type_id body.items old new text
 Serves (asks.Request request) old new text = RequestsLine (content_of_owned request) old new text
@@ -42,7 +42,8 @@ Serves asks.Watch old new text = WatchesLine old new text
 Serves (asks.Peek number id) old new text = PeeksLine number id old new text
 Serves (asks.Unwatch number) old new text = UnwatchesLine number old new text
 
--- a line of the conductor's side cannot be executed: nothing is held under its number, or its command has no room
+-- a line of the conductor's side cannot be executed, because nothing is kept under its number or its command has no
+-- room
 abbrev pub CannotServe : ServiceCall → CommandService → Type 0
 CannotServe (asks.Request request) s = ¬ FitsRoom (content_of_owned request)
 CannotServe (asks.Hear number) s = IsFree (held_in s.listeners) number
@@ -67,7 +68,7 @@ abbrev pub SettlesLine : ClaimState → ℕ → Standalone → Standalone → Li
 SettlesLine state number old new text =
     SettlesAt state old.producer number new.producer × (new ≡ with_numbered_claims new.producer old) × (text ≡ ok_text)
 
--- a line made its call, and the text is what the call returned
+-- a line made its call, and the text is the result of the call
 abbrev pub Executes : Call → Runner → Runner → List ℕ → Type 0
 Executes (call.Write type_id body) old new text = WritesLine type_id body.items old.ring new.ring text
 Executes (call.Claim type_id len) old new text = ClaimsLine type_id len old.ring new.ring text
@@ -93,7 +94,7 @@ Executes (call.Leave number) old new text = LeavesLine number old.board new.boar
 Executes (call.Storm clients commands) old new text = StormsLine (plan_of clients commands old) text
 Executes (call.Service c) old new text = Serves c old.service new.service text
 
--- a line cannot be executed: nothing is held under its number, or its command has no room
+-- a line cannot be executed, because nothing is kept under its number or its command has no room
 abbrev pub CannotExecute : Call → Runner → Type 0
 CannotExecute (call.Put number offset bytes) r = IsFree r.ring.producer.claims number
 CannotExecute (call.Commit number) r = IsFree r.ring.producer.claims number

@@ -1,4 +1,4 @@
--- What lines leave as it was.
+-- The parts that lines leave as they were.
 use Rattle.std.specs.Prelude.{◌≡◌, true}
 use Rattle.ring_lines.specs.declared.call.Call.{Call}
 use Rattle.ring_lines.specs.declared.call.Call.TheVariants.{Receive, Leave, Service, Storm, Subscribe, Transmit}
@@ -10,20 +10,20 @@ abbrev pub KeepsService : Runner → Runner → Type 0
 KeepsService old new =
     (new.service ≡ old.service) × (new.serves ≡ old.serves) × (new.commands ≡ old.commands)
 
--- all but the ring is as it was
+-- all parts except the ring are as they were
 abbrev pub KeepsButRing : Runner → Runner → Type 0
 KeepsButRing old new = (new.board ≡ old.board) × KeepsService old new
 
--- all but the broadcast buffer is as it was
+-- all parts except the broadcast buffer are as they were
 abbrev pub KeepsButBoard : Runner → Runner → Type 0
 KeepsButBoard old new = (new.ring ≡ old.ring) × KeepsService old new
 
--- all but the conductor's parts is as it was
+-- all parts except those of the conductor are as they were
 abbrev pub KeepsOthers : Runner → Runner → Type 0
 KeepsOthers old new = (new.ring ≡ old.ring) × (new.board ≡ old.board) × (new.serves ≡ old.serves)
     × (new.commands ≡ old.commands)
 
--- the same, and it is known that a line used them
+-- all parts except those of the conductor are as they were, and it is known that a line used the conductor's side
 abbrev pub KeepsButService : Runner → Runner → Type 0
 KeepsButService old new =
     (new.ring ≡ old.ring) × (new.board ≡ old.board) × (new.serves ≡ true) × (new.commands ≡ old.commands)
@@ -40,7 +40,7 @@ KeepsRest other old new = KeepsButRing old new
 
 -- The conductor's side -----------------------------------------------------------
 
--- its ring, its broadcast buffer and its values are as they were
+-- the ring, the broadcast buffer and the values of the conductor's side are as they were
 abbrev pub KeepsShared : CommandService → CommandService → Type 0
 KeepsShared old new = (new.ring ≡ old.ring) × (new.board ≡ old.board) × (new.values ≡ old.values)
 
@@ -48,22 +48,22 @@ KeepsShared old new = (new.ring ≡ old.ring) × (new.board ≡ old.board) × (n
 abbrev pub KeepsRing : CommandService → CommandService → Type 0
 KeepsRing old new = (new.ring ≡ old.ring) × (new.producer ≡ old.producer)
 
--- all but the producer is as it was
+-- all parts except the producer are as they were
 abbrev pub KeepsButProducer : CommandService → CommandService → Type 0
 KeepsButProducer old new = KeepsShared old new × (new.conductor ≡ old.conductor) × (new.listeners ≡ old.listeners)
     × (new.watchers ≡ old.watchers)
 
--- all but the conductor is as it was
+-- all parts except the conductor are as they were
 abbrev pub KeepsButConductor : CommandService → CommandService → Type 0
 KeepsButConductor old new = KeepsShared old new × (new.producer ≡ old.producer) × (new.listeners ≡ old.listeners)
     × (new.watchers ≡ old.watchers)
 
--- all but the conductor and the listeners is as it was
+-- all parts except the conductor and the listeners are as they were
 abbrev pub KeepsButListeners : CommandService → CommandService → Type 0
 KeepsButListeners old new =
     KeepsShared old new × (new.producer ≡ old.producer) × (new.watchers ≡ old.watchers)
 
--- all but the conductor and the watchers is as it was
+-- all parts except the conductor and the watchers are as they were
 abbrev pub KeepsButWatchers : CommandService → CommandService → Type 0
 KeepsButWatchers old new =
     KeepsShared old new × (new.producer ≡ old.producer) × (new.listeners ≡ old.listeners)

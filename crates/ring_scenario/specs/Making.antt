@@ -1,4 +1,4 @@
--- How a run is made.
+-- The making of a run.
 use Rattle.std.specs.Prelude.{◌≡◌, [], false}
 use Rattle.ring_rings.specs.Opening.{first_consumer, first_producer}
 use Rattle.ring_rings.specs.Seats.{capacity_of, view_of as producer_view}
@@ -15,9 +15,9 @@ use Rattle.ring_scenario.specs.declared.options.Options.{Options}
 use Rattle.ring_scenario.specs.declared.runner.Runner.{Runner}
 use Rattle.ring_scenario.specs.declared.service.CommandService.{CommandService}
 
--- the command ring, the broadcast buffer of its replies and the counters with their values are those that the options
--- describe, as they are made: no id was drawn, no command sent or taken, no reply transmitted, no value written, and
--- there is no listener and no watcher
+-- The command ring, the broadcast buffer of its replies, and the counters with their values are new ones that the
+-- options describe. No id was drawn, and no command was sent or taken. No reply was transmitted, and no value was
+-- written. There is no listener and no watcher.
 pub record ServesBy (options : Options) (s : CommandService) : Type 0 where
   pub ring : capacity_of s.ring ≡ options.commands
   pub board : board_capacity_of s.board ≡ options.replies
@@ -31,7 +31,7 @@ pub record ServesBy (options : Options) (s : CommandService) : Type 0 where
   pub listeners : held_in s.listeners ≡ []
   pub watchers : held_in s.watchers ≡ []
 
--- each part is the one that the options describe, as it is made, and no line asked anything of the conductor's side
+-- Each part is a new one that the options describe. No line used the conductor's side.
 pub record RunsBy (options : Options) (r : Runner) : Type 0 where
   pub ring : r.ring ≡ fresh_standalone options.ring
   pub board : board_capacity_of r.board.board ≡ options.board

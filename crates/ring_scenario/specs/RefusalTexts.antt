@@ -1,4 +1,4 @@
--- What lines print of refusals: the number, the name, and what the fault says.
+-- The text that lines print for refusals, which is the number, the name, and what the fault says.
 use Rattle.std.specs.Prelude.{ℕ, ℤ, pos, List, ◌++◌, codes, decimal}
 use Rattle.std.specs.Fmt.{signed_decimal}
 use Rattle.ring_layout.specs.declared.share.NoShares.{NoShares}
@@ -16,7 +16,7 @@ use Rattle.ring_counters.specs.declared.fault.OutOfMemory.{OutOfMemory}
 use Rattle.ring_storm.specs.declared.plan.StormFault.{StormFault}
 use Rattle.ring_storm.specs.declared.plan.StormFault.TheVariants as storm
 
--- the line of a refusal with this number; the rest begins with a space
+-- The line of a refusal with this number. The rest begins with a space.
 abbrev pub refused_text : ℤ → List ℕ → List ℕ
 refused_text code rest = codes "refused " ++ (signed_decimal code ++ rest)
 
@@ -24,7 +24,7 @@ refused_text code rest = codes "refused " ++ (signed_decimal code ++ rest)
 abbrev pub bad_type_text : ℤ → List ℕ
 bad_type_text type_id = codes " BadType " ++ (signed_decimal type_id ++ codes "\n")
 
--- a message of this many bytes, and the most that one may have
+-- a message of this many bytes, and the largest number that one may have
 abbrev pub too_long_text : ℕ → ℕ → List ℕ
 too_long_text len max = codes " TooLong " ++ (decimal len ++ (codes " max " ++ (decimal max ++ codes "\n")))
 

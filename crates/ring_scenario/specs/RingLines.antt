@@ -1,4 +1,4 @@
--- What lines of the ring do, with what they print.
+-- The effects of lines of the ring, with the text that they print.
 use Rattle.std.specs.Prelude.{◌≡◌, ℕ, ℤ, List, [], ◌++◌, length, IfErr, OnOk, Result}
 use Rattle.ring_words.specs.declared.fault.ClaimFault.{ClaimFault}
 use Rattle.ring_words.specs.declared.fault.PutRange.{PutRange}
@@ -45,7 +45,7 @@ pub record ReadsLine (limit : ℕ) (old new : Standalone) (text : List ℕ) : Ty
   pub rest : new ≡ with_reader new.consumer old
   pub prints : text ≡ printed.text ++ read_text end
 
--- the same of a read that heeds these actions, one for each message
+-- At most `limit` messages were read, and each was printed. The read followed these actions, one for each message.
 pub record ControlsLine (limit : ℕ) (actions : List Action) (old new : Standalone) (text : List ℕ) : Type 0 where
   pub end : ReadEnd
   pub printed : Printed

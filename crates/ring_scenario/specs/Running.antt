@@ -1,4 +1,4 @@
--- What a run does with the lines of a text, and all that it prints.
+-- The effect of a run on the lines of a text, and all text that it prints.
 use Rattle.std.specs.Prelude.{◌≡◌, ◌⊎◌, ◌↔◌, ℕ, ◌+◌, List, [], ◌∷◌, ◌++◌, IfSome, IsSome, IsTrue, Option, None, Some, codes, decimal, length}
 use Rattle.std.specs.Io.KnownBytes.{Appends}
 use Rattle.ring_board.specs.Runs.{AreAllRuns}
@@ -27,18 +27,18 @@ pub record MakesCall (words : List (List ℕ)) (old new : Runner) (text : List �
   pub executes : Executes call old new text
   pub rest : KeepsRest call old new
 
--- a line ran: it is blank and did nothing, or its call was made
+-- A line ran. Either it is blank and did nothing, or its call was made.
 abbrev pub RunsLine : List ℕ → Runner → Runner → List ℕ → Type 0
 RunsLine line old new text =
     (IsBlank (words_of line) × (new ≡ old) × (text ≡ [])) ⊎ MakesCall (words_of line) old new text
 
--- lines ran, each once and in order, and this is all that they printed
+-- lines ran, each once and in order, and this is all text that they printed
 abbrev pub RunsLines : List (List ℕ) → Runner → Runner → List ℕ → Type 0
 RunsLines [] old new text = (new ≡ old) × (text ≡ [])
 RunsLines (line ∷ more) old new text = (between : Runner) × (first rest : List ℕ)
     × RunsLine line old between first × RunsLines more between new rest × (text ≡ first ++ rest)
 
--- the lines in front of these ran, and what they printed was written
+-- the lines before these ran, and the text that they printed was written
 pub record HaveRun (lines left : List (List ℕ)) (old new : Runner) (was now : Option (List ℕ)) : Type 0 where
   pub taken : List (List ℕ)
   pub whole : lines ≡ taken ++ left
@@ -46,7 +46,7 @@ pub record HaveRun (lines left : List (List ℕ)) (old new : Runner) (was now : 
   pub runs : RunsLines taken old new printed
   pub written : Appends was now printed
 
--- the lines in front of a line that is `end` alone ran, and that line, which has this number, was taken
+-- The lines before a line that is `end` alone ran. This line, which has this number, was taken.
 pub record RunsToEnd (old new : List ℕ) (before after : Runner) (was now : Option (List ℕ)) (number : ℕ)
     : Type 0 where
   pub line : List ℕ
@@ -60,7 +60,7 @@ finished_text None = []
 finished_text (Some s) = codes "finished received " ++ (decimal s.received ++ (codes " left " ++ (decimal s.left
     ++ (codes " live " ++ (decimal (length (live_of (registry_of s.counters))) ++ codes "\n")))))
 
--- the first one
+-- the first line that `end` prints
 abbrev pub end_text : Ended → List ℕ
 end_text e = codes "end messages " ++ (decimal e.messages ++ (codes " left " ++ (decimal e.left ++ codes "\n")))
 
@@ -68,9 +68,9 @@ end_text e = codes "end messages " ++ (decimal e.messages ++ (codes " left " ++ 
 abbrev pub ended_text : Ended → List ℕ
 ended_text e = end_text e ++ finished_text e.served
 
--- a runner was closed: the number of messages that the reads took and of those that are left, which are all that were
--- committed; the runs of the broadcast buffer's messages that its receivers copied; and what the conductor finished
--- with, if a line used it
+-- A runner was closed. The result has the number of messages that the reads took, and the number of messages that are
+-- left. Together these are all committed messages. It also has the runs of the broadcast buffer's messages that its
+-- receivers copied. If a line used the conductor, it has the conductor's result too.
 pub record EndsAs (r : Runner) (e : Ended) : Type 0 where
   pub messages : e.messages ≡ read_count r.ring
   pub left : LeavesMessages r.ring e.left
@@ -79,8 +79,8 @@ pub record EndsAs (r : Runner) (e : Ended) : Type 0 where
   pub served : IsSome e.served ↔ IsTrue r.serves
   pub finished : IfSome e.served (TookAndLeft r.service)
 
--- Lines ran up to the first that is `end` alone, each once and in order, and then the runner was closed. What all of
--- that printed is what was written. The line of `end` has this number, and these are left
+-- Lines ran up to the first that is `end` alone, each once and in order. Then the runner was closed. The text that was
+-- written is what all of these printed. The line of `end` has this number, and these lines are left.
 pub record RunsAndEnds (lines left : List (List ℕ)) (r : Runner) (was now : Option (List ℕ)) (number : ℕ)
     : Type 0 where
   pub before : List (List ℕ)
@@ -104,12 +104,14 @@ RunsText text r was now = (after : List (List ℕ)) × (number : ℕ) × RunsAnd
 abbrev pub CannotRun : Runner → List (List ℕ) → Type 0
 CannotRun r words = AsksForNone words ⊎ ((call : Call) × AsksFor call words × CannotExecute call r)
 
--- the first of these lines is bad: it is not blank and not `end` alone, and this runner cannot run it; or there is none
+-- The first of these lines is bad, or there is no line. A bad line is not blank and not `end` alone, and this runner
+-- cannot run it.
 abbrev pub BeginsBad : Runner → List (List ℕ) → Type 0
 BeginsBad r [] = Unit {0}
 BeginsBad r (line ∷ more) = ¬ IsBlank (words_of line) × ¬ IsEnd (words_of line) × CannotRun r (words_of line)
 
--- the lines in front of the one of this number ran, and what they printed was written; that one is missing or bad
+-- The lines before the line of this number ran, and the text that they printed was written. The line of this number is
+-- missing or bad.
 pub record StopsAt (lines : List (List ℕ)) (r : Runner) (was now : Option (List ℕ)) (number : ℕ) : Type 0 where
   pub left : List (List ℕ)
   pub last : Runner
@@ -117,7 +119,7 @@ pub record StopsAt (lines : List (List ℕ)) (r : Runner) (was now : Option (Lis
   pub bad : BeginsBad last left
   pub counted : number ≡ length ran.taken + 1
 
--- the first of these lines that is not blank is the one of this number, if this many lines were in front of them
+-- the line of this number is the first of these lines that is not blank, if this many lines came before them
 pub record IsNotBlankAt (lines : List (List ℕ)) (taken number : ℕ) : Type 0 where
   pub blanks : List (List ℕ)
   pub line : List ℕ
@@ -127,16 +129,16 @@ pub record IsNotBlankAt (lines : List (List ℕ)) (taken number : ℕ) : Type 0 
   pub other : ¬ IsBlank (words_of line)
   pub counted : number ≡ taken + length blanks + 1
 
--- the line of this number is where a run stopped, or the first after its line `end` that is not blank
+-- the line of this number is the one at which a run stopped, or the first line after its line `end` that is not blank
 abbrev pub FailsAt : List ℕ → Runner → Option (List ℕ) → Option (List ℕ) → ℕ → Type 0
 FailsAt text r was now number = StopsAt (lines_of text) r was now number
     ⊎ ((after : List (List ℕ)) × (taken : ℕ) × RunsAndEnds (lines_of text) after r was now taken
     × IsNotBlankAt after taken number)
 
--- a runner was made as the options say, and the text ran
+-- a runner was made from the options, and the text ran
 abbrev pub RunsScenario : Options → List ℕ → Option (List ℕ) → Option (List ℕ) → Type 0
 RunsScenario options text was now = (r : Runner) × RunsBy options r × RunsText text r was now
 
--- a runner was made as the options say, and ran up to the line of this number
+-- a runner was made from the options, and ran up to the line of this number
 abbrev pub FailsScenario : Options → List ℕ → Option (List ℕ) → Option (List ℕ) → ℕ → Type 0
 FailsScenario options text was now number = (r : Runner) × RunsBy options r × FailsAt text r was now number

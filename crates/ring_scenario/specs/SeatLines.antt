@@ -1,4 +1,4 @@
--- What lines of listeners and watchers do, with what they print.
+-- The effects of lines of listeners and watchers, with the text that they print.
 use Rattle.std.specs.Prelude.{◌≡◌, ◌↔◌, ◌<◌, ℕ, ℤ, List, codes, IfOk, IsOk, OnErr, Result}
 use Rattle.ring_layout.specs.declared.share.NoShares.{NoShares}
 use Rattle.ring_board.specs.Refusals.{subscribe_refusal_of, IsSubscribedUnless}
@@ -49,7 +49,7 @@ pub record WatchesLine (old new : CommandService) (text : List ℕ) : Type 0 whe
   pub rest : KeepsButWatchers old new
   pub prints : text ≡ answer_text (number_text (codes "watcher")) shares_refused made
 
--- the watcher of this number, which is held, loaded the value of an id, or the id was refused
+-- the watcher of this number, which was not joined, loaded the value of an id, or the id was refused
 pub record PeeksLine (number id : ℕ) (old new : CommandService) (text : List ℕ) : Type 0 where
   pub watcher : ValueReader
   pub here : IsHeld (held_in old.watchers) number watcher
@@ -61,7 +61,7 @@ pub record PeeksLine (number id : ℕ) (old new : CommandService) (text : List �
   pub rest : KeepsButWatchers old new
   pub prints : text ≡ answer_text value_text load_refused loaded
 
--- the watcher of this number was taken away
+-- the watcher of this number was joined
 pub record UnwatchesLine (number : ℕ) (old new : CommandService) (text : List ℕ) : Type 0 where
   pub gone : Unwatches old.watchers number new.watchers
   pub keeps : KeepsAllCounters new.values old.conductor new.conductor

@@ -1,4 +1,4 @@
--- What lines of the command ring and of the conductor do, with what they print.
+-- The effects of lines of the command ring and of the conductor, with the text that they print.
 use Rattle.std.specs.Prelude.{◌≡◌, ℕ, ℤ, List, codes, length, IfErr, IfOk, OnOk, Result}
 use Rattle.ring_words.specs.declared.fault.ClaimFault.{ClaimFault}
 use Rattle.ring_rings.specs.Seats.{capacity_of, view_of}
@@ -53,7 +53,7 @@ pub record CountsLine (s : CommandService) (text : List ℕ) : Type 0 where
   pub infos : IfOk listed (λ infos. AreInfos infos (live_of (registry_of (manager_in s.conductor))))
   pub prints : text ≡ answer_text counters_text memory_refused listed
 
--- the owner of a counter in use, or why there is none
+-- the owner of a counter in use, or the reason why there is none
 abbrev pub owner_text : ℕ → CommandService → List ℕ
 owner_text id s =
     let registry = registry_of (manager_in s.conductor) in

@@ -13,7 +13,7 @@ use Rattle.ring_standalone.specs.declared.numbered.Numbered.{Numbered}
 abbrev pub AreWatchers : CounterValues → Numbered ValueReader → Type 0
 AreWatchers values watchers = (i : ℕ) (r : ValueReader) → HasAt (held_in watchers) i r → IsReaderOf values r
 
--- the manager is of these values, and so are the readers
+-- the manager and the readers are of these values
 pub record AreWatchedBy (values : CounterValues) (m : CountersManager) (readers : Numbered ValueReader) : Type 0 where
   pub manager : IsManagerOf values m
   pub watchers : AreWatchers values readers
@@ -26,8 +26,8 @@ pub record Watches (writes : List ValueWrite) (old : Numbered ValueReader) (next
   pub unread : loads_of reader ≡ []
   pub comes : Comes reader (held_in old) next (held_in new)
 
--- the reader of this number loaded this value of an id once, the one after writes that are no fewer than it had seen,
--- and no other reader changed
+-- The reader of this number loaded this value of an id once. It is the value after writes that include all that the
+-- reader had seen. No other reader changed.
 pub record Peeks (id : ℕ) (value : ℤ) (old : Numbered ValueReader) (number : ℕ)
     (new : Numbered ValueReader) : Type 0 where
   pub before : ValueReader
@@ -35,7 +35,7 @@ pub record Peeks (id : ℕ) (value : ℤ) (old : Numbered ValueReader) (number :
   pub loads : LoadsValue id value before after
   pub stays : Stays before after (held_in old) number (held_in new)
 
--- the reader of this number is given up
+-- the number of a reader is given up
 pub record Unwatches (old : Numbered ValueReader) (number : ℕ) (new : Numbered ValueReader) : Type 0 where
   pub reader : ValueReader
   pub goes : Goes reader (held_in old) number (held_in new)

@@ -1,9 +1,10 @@
 //! Runs a scenario on a ring of messages, a broadcast buffer and a conductor of counters.
 //!
-//! - `scenario`: a text, read whole, line by line. `options` are the command line.
-//! - `runner`: what a run holds, and what each call prints; `printer` shows messages, `refusal` faults.
-//! - `service`: the conductor's side of a run, made, working and closed.
-//! - `fault`: why a line or a run ends early.
+//! - `scenario`: reads a whole text, and executes it line by line. `options` has the options of the command line.
+//! - `runner`: the parts of a run, and the text that each call prints. `printer` prints messages, and `refusal` prints
+//!   faults.
+//! - `service`: the conductor's side of a run.
+//! - `fault`: the reasons why a line or a run ends early.
 #![tactic(auto)]
 
 mod fault;

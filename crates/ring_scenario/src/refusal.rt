@@ -1,4 +1,4 @@
-//! What lines print of refusals.
+//! The lines that are printed for refusals.
 ghost use Rattle.std.specs.Prelude.{◌≡◌, IfOk, List, string_bytes, ℕ};
 ghost use Rattle.ring_scenario.specs.RefusalTexts.{claim_refused, id_refused, load_refused, memory_refused, put_refused, shares_refused, storm_refused, subscribe_refused, transmit_refused};
 
@@ -8,12 +8,12 @@ use ring_storm::StormFault;
 use ring_words::{ClaimFault, PutRange};
 use std::alloc::{AllocError, Global};
 
-/// A fault that a line prints. Its `Display` prints the same, but states no text.
+/// A fault that a line prints. Its `Display` prints the same, but its contract states no text.
 pub trait Refusal {
-    /// The line.
+    /// The line of the fault.
     ghost line: { Self → List ℕ };
 
-    /// Gives its line.
+    /// Returns the line of the fault.
     fn line(self, alloc: Global) -> Result<String, AllocError>
         ensures { IfOk result (λ text. string_bytes text ≡ line self) };
 }

@@ -1,4 +1,4 @@
-//! What a run holds, and what its calls print.
+//! The parts of a run, and the text that its calls print.
 ghost use Rattle.std.specs.Prelude.{◌≡◌, ◌≢◌, ◌↔◌, ℕ, None, IfErr, IfOk, IfSome, IsOkUnless, IsSome, IsTrue, OnOk, codes, string_bytes};
 ghost use Rattle.ring_board.specs.Runs.{AreAllRuns};
 ghost use Rattle.ring_board.specs.Board.{transmitted};
@@ -24,29 +24,29 @@ use std::alloc::{AllocError, Global};
 use std::sync::Wait;
 use std::thread::Threads;
 
-/// What a run holds.
+/// The parts of a run.
 #[derive(Drop)]
 pub struct Runner {
     alloc: Global,
     ring: StandaloneRing,
     board: StandaloneBoard,
     service: CommandService,
-    /// Capacity of the command ring, and of a storm's.
+    /// The capacity of the command ring, and of the ring of a storm.
     commands: u32,
     messages: u64,
-    /// Whether a line asked something of the conductor's side.
+    /// Whether a line used the conductor's side.
     serves: bool,
     ghost counted: { messages ≡ read_count ring },
 }
 
-/// What `end` says.
+/// The numbers that `end` prints.
 #[derive(Drop)]
 pub struct Ended {
-    /// The number of messages that the reads consumed.
+    /// The number of messages that the reads took.
     pub messages: u64,
     /// The number of messages that were left.
     pub left: u64,
-    /// What the conductor returned, if a line used its side.
+    /// The result of the conductor, if a line used its side.
     pub served: Option<Served>,
 }
 
@@ -81,7 +81,7 @@ impl Runner {
         })
     }
 
-    /// Executes a call, and gives the lines that it prints.
+    /// Executes a call, and returns the lines that it prints.
     pub fn execute<R: Threads + Wait>(&mut self, rt: &R, call: Call) -> Result<String, LineFault>
         ensures line { IfOk result (λ text. Executes call self.old self.new (string_bytes text)) }
         ensures rest { OnOk result (KeepsRest call self.old self.new) }
@@ -245,8 +245,8 @@ impl Runner {
         Ok(self.received(received)?)
     }
 
-    /// Aborts the open claims, joins receivers, listeners and watchers, closes all, and counts the messages that are
-    /// left.
+    /// Aborts the open claims, and joins receivers, listeners and watchers. Then closes all parts, and counts the
+    /// messages that are left.
     pub fn close(self) -> Ended
         ensures messages { result.messages ≡ read_count self.ring }
         ensures left { LeavesMessages self.ring result.left }

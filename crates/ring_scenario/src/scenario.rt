@@ -1,4 +1,4 @@
-//! Runs a scenario, whose text is read whole.
+//! Reads a whole scenario, and runs it.
 ghost use Rattle.std.specs.Prelude.{◌≡◌, ◌≤◌, length, Some, IfSome, OnOk, IfErr, ◌≢◌, ◌<◌, ℕ, IfOk, string_bytes, vec_len};
 ghost use Rattle.ring_scenario.specs.Faults.{IsEarly, IsOfWriting, OfLine};
 ghost use Rattle.ring_scenario.specs.Running.{FailsAt, FailsScenario, IsNotBlankAt, RunsScenario, RunsText, RunsToEnd};
@@ -24,10 +24,10 @@ use std::io::{ErrorKind, Read, Write};
 use std::sync::Wait;
 use std::thread::Threads;
 
-/// The most calls of the reader.
+/// The largest number of read calls.
 pub const MAX_READS: u32 = 2_097_152;
 
-/// Reads a scenario whole, executes its lines in order, and writes what each of them gives.
+/// Reads a whole scenario, executes its lines in order, and writes the text that each of them prints.
 pub fn run_scenario<R: AllocGlobal + Threads + Wait, I: Read, O: Write>(
     rt: &R,
     alloc: Global,
@@ -35,12 +35,12 @@ pub fn run_scenario<R: AllocGlobal + Threads + Wait, I: Read, O: Write>(
     reader: &mut I,
     writer: &mut O,
 ) -> Result<(), RunFault>
-    // The last line that is not blank is `end`. The lines before it ran, each once and in order. What was written is
-    // what they and `end` printed.
+    // The last line that is not blank is `end`. The lines before it ran, each once and in order. The text that was
+    // written is what these lines and `end` printed.
     ensures ran { OnOk result (IfSome (I.remaining reader.old) (λ text.
         RunsScenario options.now text (O.contents writer.old) (O.contents writer.new))) }
 
-    // The line that is reported is the first that is bad. What was written is what the lines before it printed.
+    // The line that is reported is the first bad line. The text that was written is what the lines before it printed.
     ensures bad { IfErr result (OfLine (λ line. IfSome (I.remaining reader.old) (λ text.
         FailsScenario options.now text (O.contents writer.old) (O.contents writer.new) line))) }
 
@@ -58,7 +58,7 @@ pub fn run_scenario<R: AllocGlobal + Threads + Wait, I: Read, O: Write>(
     run_text(rt, alloc, runner, input.as_slice(), writer)
 }
 
-/// Reads to the end. An interrupted read is tried again, and counts as a call.
+/// Reads to the end of the input. A read that was interrupted is tried again, and is counted as a call.
 fn read_input<R: Read>(alloc: Global, reader: &mut R) -> Result<Vec<u8>, RunFault>
     ensures whole { IfOk result (λ input. IfSome (R.remaining reader.old) (λ bytes. input.items ≡ bytes)) }
     ensures short { IfOk result (λ input. vec_len input ≤ MAX_INPUT) }
@@ -88,7 +88,7 @@ fn read_input<R: Read>(alloc: Global, reader: &mut R) -> Result<Vec<u8>, RunFaul
     Err(RunFault::InputUnread)
 }
 
-/// Executes the lines of a text in order, closes what the runner holds, and writes how it ended.
+/// Executes the lines of a text in order, closes the parts of the runner, and writes how the run ended.
 fn run_text<R: Threads + Wait, O: Write>(
     rt: &R,
     alloc: Global,
@@ -156,7 +156,7 @@ fn parse_at(alloc: Global, text: &[u8], number: u32) -> Result<Line, RunFault>
     }
 }
 
-/// Executes the call of the line of this number, and gives the lines that it prints.
+/// Executes the call of the line of this number, and returns the lines that the call prints.
 fn execute_at<R: Threads + Wait>(
     rt: &R,
     runner: &mut Runner,
@@ -174,7 +174,7 @@ fn execute_at<R: Threads + Wait>(
     }
 }
 
-/// Tests that the lines after `end` have no words but comments.
+/// Tests that the lines after `end` have no words except those of comments.
 fn rest_is_blank(alloc: Global, lines: &mut Lines) -> Result<(), RunFault>
     ensures blank { OnOk result (AllBlank (lines_of lines.old.rest.now)) }
     ensures bad { IfErr result (OfLine (IsNotBlankAt (lines_of lines.old.rest.now) lines.old.taken)) }
@@ -195,7 +195,7 @@ fn rest_is_blank(alloc: Global, lines: &mut Lines) -> Result<(), RunFault>
     Ok(())
 }
 
-/// Writes what `end` prints: a line, and one more if a conductor finished.
+/// Writes what `end` prints. This is a line, and one more line if a conductor finished.
 fn write_end<O: Write>(alloc: Global, ended: Ended, writer: &mut O) -> Result<(), RunFault>
     ensures written { OnOk result (Appends (O.contents writer.old) (O.contents writer.new) (ended_text ended)) }
     ensures fault { IfErr result IsOfWriting }
@@ -222,11 +222,11 @@ fn write_finished<O: Write>(alloc: Global, served: &Served, writer: &mut O) -> R
     write_text(writer, text.as_str())
 }
 
-/// The number of counters in use.
+/// Returns the number of counters in use.
 fn count_live(counters: &CountersManager) -> usize
     ensures { result ≡ length (live_of (registry_of counters.now)) }
 {
-    // The proof needs a bound: those in use are no more than all, whose number is a u32.
+    // The proof needs a bound. The counters in use are at most all counters, whose number is a u32.
     let _all = counters.count();
     counters.iter().count()
 }

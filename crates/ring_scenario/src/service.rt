@@ -1,4 +1,4 @@
-//! The conductor's side of a run: a ring for commands, a broadcast buffer for replies, and counters.
+//! The conductor's side of a run. It has a ring for commands, a broadcast buffer for replies, and counters.
 ghost use Rattle.std.specs.Prelude.{◌≡◌, ◌+◌};
 ghost use Rattle.ring_layout.specs.Refusals.{all_shares};
 ghost use Rattle.ring_rings.specs.Seats.{open_claims_of, shares_of, IsConsumerOf, IsProducerOf};
@@ -20,8 +20,9 @@ use ring_rings::{ManyToOneRing, Producer};
 use ring_service::Conductor;
 use ring_standalone::Numbered;
 
-/// A conductor with its ring, its broadcast buffer and its counters, the listeners to its replies and the watchers of
-/// the counters' values. Listeners and watchers are numbered from 1, each kind for itself. No number is given twice.
+/// A conductor with its ring, its broadcast buffer and its counters. It also has the listeners to its replies, and the
+/// watchers of the counters' values. Listeners are numbered from 1, and watchers are too. No number is given to two
+/// listeners or to two watchers.
 #[derive(Drop)]
 pub struct CommandService {
     pub(crate) ring: ManyToOneRing,
@@ -30,7 +31,7 @@ pub struct CommandService {
     values: CounterValues,
     conductor: Conductor,
     listeners: Numbered<CopyReceiver>,
-    /// The watchers that were not taken away.
+    /// The watchers that were not joined.
     watchers: Numbered<ValueReader>,
     ghost produces: { IsProducerOf ring producer },
     ghost consumes: { IsConsumerOf ring (consumer_of conductor) },

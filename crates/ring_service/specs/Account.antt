@@ -1,4 +1,4 @@
--- What all messages together make of fresh counters, over plain lists.
+-- The effect of a list of messages on fresh counters, over plain lists.
 use Rattle.std.specs.Prelude.{◌≡◌, ℕ, ◌≤◌, ◌^◌, List, [], ◌∷◌, ◌++◌, All}
 use Rattle.ring_layout.specs.declared.message.Message.{Message}
 use Rattle.ring_rings.specs.declared.ring.Consumer.{Consumer}
@@ -21,15 +21,15 @@ pub record Account : Type 0 where
   pub writes : List ValueWrite
   pub replies : List Message
 
--- nothing was written, and no reply given
+-- nothing was written, and no reply was given
 abbrev pub fresh_account : ℕ → ℕ → Account
 fresh_account count reuse_ms = record { registry = fresh_registry count reuse_ms; writes = []; replies = [] }
 
--- the message that spells a reply
+-- the message that encodes a reply
 abbrev pub reply_message : Reply → Message
 reply_message reply = record { type_id = type_id_of reply; body = spelling_of reply }
 
--- a message is applied at a moment and gets its one reply
+-- a message is applied at a moment, and gets its one reply
 abbrev pub entered : Account → ℕ → Message → Account
 entered a now m =
     let o = applied now a.registry m in
@@ -50,8 +50,8 @@ abbrev pub messages_in : List Record → List Message
 messages_in [] = []
 messages_in (r ∷ rs) = r.message ∷ messages_in rs
 
--- there are moments, one for each message, such that the messages make these of as many fresh counters, with this reuse
--- timeout
+-- There are moments, one for each message. At these moments the messages make this registry, these writes and these
+-- replies from as many fresh counters, with this reuse timeout.
 pub record IsFoldOf (messages : List Message) (registry : Registry) (writes : List ValueWrite)
     (replies : List Message) : Type 0 where
   pub timed : List (ℕ × Message)
@@ -60,7 +60,7 @@ pub record IsFoldOf (messages : List Message) (registry : Registry) (writes : Li
   pub folded : account_of (fresh_account (count_of registry) registry.reuse_ms) timed
       ≡ record { registry = registry; writes = writes; replies = replies }
 
--- what was taken makes of fresh counters these counters, and the transmitted list
+-- the messages that were taken make these counters and the transmitted list from fresh counters
 abbrev pub HasFold : Consumer → CountersManager → Transmitter → Type 0
 HasFold consumer counters transmitter = IsFoldOf (messages_of (taken_of consumer)) (registry_of counters)
     (writes_of counters) (messages_in (transmitted transmitter))

@@ -1,4 +1,4 @@
--- What one message does to the counters, and its one reply.
+-- The effect of one message on the counters, and its one reply.
 use Rattle.std.specs.Prelude.{ℕ, ◌==◌, ℤ, pos, List, [], ◌∷◌, length, Option, Some, None, Result, Ok, Err, if◌then◌else◌}
 use Rattle.ring_layout.specs.declared.message.Message.{Message}
 use Rattle.ring_counters.specs.declared.values.view.ValueWrite.{ValueWrite}
@@ -23,11 +23,11 @@ pub record Outcome : Type 0 where
   pub writes : List ValueWrite
   pub reply : Reply
 
--- nothing is changed, and the reply says why
+-- nothing is changed, and the reply gives the reason
 abbrev pub refused : Registry → ℕ → ℤ → Outcome
 refused r correlation code = record { registry = r; writes = []; reply = Refused correlation code }
 
--- a counter gets this id, or none
+-- a counter gets this id, or the allocation is refused
 abbrev pub allocated : Registry → ℕ → Counter → Result ℕ AllocateRefused → Outcome
 allocated r correlation c (Ok id) =
     record { registry = allocated_in r id c; writes = value_write id (pos 0) ∷ []; reply = Allocated correlation id }
@@ -38,7 +38,7 @@ abbrev pub done_unless : Option IdFault → Registry → ℕ → Registry → Li
 done_unless None r correlation new writes = record { registry = new; writes = writes; reply = Done correlation }
 done_unless (Some fault) r correlation new writes = refused r correlation (id_code fault)
 
--- what a request does at a moment. The registration id of a counter is the correlation id of its command
+-- The effect of a request at a moment. The registration id of a counter is the correlation id of its command.
 abbrev pub obeyed : ℕ → Registry → ℕ → Request (List ℕ) → Outcome
 obeyed now r correlation (Allocate type_id key label) =
     allocated r correlation (new_counter type_id key label correlation 0) (allocation_of r now key label)
@@ -56,11 +56,11 @@ obeyed now r correlation (Close owner) =
           Closed correlation (length (owned_ids r owner));
     }
 
--- what was read is obeyed; what can't be read is refused
+-- A message that can be read is obeyed. A message that cannot be read is refused.
 abbrev pub obeyed_if_read : ℕ → Registry → Result Instruction Bad → Outcome
 obeyed_if_read now r (Ok command) = obeyed now r command.correlation command.request
 obeyed_if_read now r (Err bad) = refused r (bad_correlation bad) (bad_code bad)
 
--- what a message does at a moment
+-- the effect of a message at a moment
 abbrev pub applied : ℕ → Registry → Message → Outcome
 applied now r m = obeyed_if_read now r (command_of m.type_id m.body)

@@ -1,4 +1,4 @@
--- What a call does to the counters.
+-- The effect of a call on the counters.
 use Rattle.std.specs.Prelude.{◌≡◌, ℕ, ◌++◌}
 use Rattle.ring_counters.specs.declared.manager.CountersManager.{CountersManager}
 use Rattle.ring_counters.specs.Manager.{registry_of, writes_of, shares_of, table_of}
@@ -7,13 +7,13 @@ use Rattle.ring_counters.specs.Registry.{Registry, allocation_of, new_counter}
 use Rattle.ring_service.specs.declared.conductor.working.Wanted.{Wanted}
 use Rattle.ring_service.specs.Applied.{Outcome, allocated}
 
--- what a command does that asks for a counter
+-- the effect of a command that asks for a counter
 abbrev pub allocates : Registry → ℕ → ℕ → Wanted → Outcome
 allocates r now correlation w =
     allocated r correlation (new_counter w.type_id w.key.now w.label.now correlation w.owner)
     (allocation_of r now w.key.now w.label.now)
 
--- the counters, their value writes and the reply are those of the outcome, and everything else is unchanged
+-- The counters, their value writes and the reply are those of the outcome. All other parts are unchanged.
 pub record Applies (o : Outcome) (old new : CountersManager) (reply : Reply) : Type 0 where
   pub registry : registry_of new ≡ o.registry
   pub writes : writes_of new ≡ writes_of old ++ o.writes

@@ -1,4 +1,4 @@
--- What a client asks, and what it receives.
+-- The requests of a client, and the replies that it receives.
 use Rattle.std.specs.Prelude.{◌≡◌, ◌≢◌, ℕ, ◌≤◌, ℤ, List, length, Bool}
 use Rattle.ring_layout.specs.Lists.{total}
 use Rattle.ring_table.specs.declared.view.Service.{Service}
@@ -31,7 +31,7 @@ producer_of c = c.producer
 abbrev pub receiver_of : Client → CopyReceiver
 receiver_of c = c.receiver
 
--- what a producer drew and read, the numbers that it drew, and the services of those that were joined into it
+-- the numbers that a producer drew, what it read, and the services of the producers that were joined to it
 abbrev pub service_of : Producer → Service
 service_of p = (view_of p).producer.service
 
@@ -45,42 +45,43 @@ services_of p = (view_of p).producer.joined
 abbrev pub drawn_in : ℕ → List Service → ℕ
 drawn_in x services = total (λ (s : Service). times x s.draws) services
 
--- what a client's producer knows of the ring
+-- the view of a client's producer of the ring
 abbrev pub client_view : Client → View
 client_view c = view_of c.producer
 
--- what its receiver knows of the broadcast buffer
+-- the view of a client's receiver of the broadcast buffer
 abbrev pub client_seat : Client → Sat
 client_seat c = receiver_seat c.receiver
 
--- its producer may claim in this ring, whose kind is for many producers or for one, and its receiver is this broadcast
--- buffer's
+-- The client's producer may claim in this ring, whose kind is for many producers or for one. Its receiver is one of
+-- this broadcast buffer.
 abbrev pub IsSeatedAt : {K B : Type 0} {G : Ghosts B} → Bool → Ring K B G → Board → Client → Type 0
 IsSeatedAt many ring board c =
     IsProducerOf ring (producer_of c) × MayClaim many (producer_of c) × IsReceiverOf board (receiver_of c)
 
--- the command takes at most 520 bytes, whatever its correlation id
+-- the command takes at most 520 bytes, with any correlation id
 pub record IsSendable (r : Request) : Type 0 where
   pub texts : HasTextLengths (content_of_request r)
   pub room : length (spelling_of (asked r 0)) ≤ 520
 
 -- Sending ----------------------------------------------------------------------
 
--- W is what a write does to a producer's view, and R what a refused try does, by the ring's kind
+-- W is the effect of a write on a producer's view, and R is the effect of a refused try. Both depend on the ring's
+-- kind.
 
--- the command with this correlation id is one committed claim more
+-- the view has one more committed claim, which is the command with this correlation id
 abbrev pub SendsAs : Writing → ℕ → ℕ → Request → View → View → Type 0
 SendsAs W C correlation request v w =
     let command = asked request correlation in W C (type_id_of command) (spelling_of command) v w
 
--- nothing was written: the command is too long, or the ring refused it
+-- nothing was written, because the command is too long or the ring refused it
 abbrev pub RefusesAs : Refusing → ℕ → ℕ → Request → View → SendFault → View → Type 0
 RefusesAs R C correlation request v TooLong w = (IsSendable request → ⊥) × (w ≡ v)
 RefusesAs R C correlation request v (Refused id reason) w =
     let command = asked request correlation in IsSendable request × (id ≡ correlation)
     × R C (type_id_of command) (length (spelling_of command)) v reason w
 
--- an id was drawn, and the command with that correlation id is one committed claim more
+-- an id was drawn, and the view has one more committed claim, which is the command with this id
 pub record Sends (W : Writing) (C : ℕ) (request : Request) (v : View) (correlation : ℕ) (w : View) : Type 0 where
   pub between : View
   pub draws : DrawsId v correlation between
@@ -100,7 +101,7 @@ RefusesSend R C request v (Refused correlation reason) w = RefusesDrawn R C requ
 
 -- Hearing ----------------------------------------------------------------------
 
--- one copy more came, which spells this reply
+-- one more copy came, which encodes this reply
 pub record Hears (r : Reply) (old new : Sat) : Type 0 where
   pub place : ℕ
   pub type_id : ℤ
@@ -108,7 +109,7 @@ pub record Hears (r : Reply) (old new : Sat) : Type 0 where
   pub copied : GotCopy place type_id body old new
   pub spells : reply.Spells type_id body r
 
--- one copy more came, which spells no reply
+-- one more copy came, which encodes no reply
 pub record HearsNoReply (old new : Sat) : Type 0 where
   pub place : ℕ
   pub type_id : ℤ
@@ -116,7 +117,7 @@ pub record HearsNoReply (old new : Sat) : Type 0 where
   pub copied : GotCopy place type_id body old new
   pub spells : (r : Reply) → reply.Spells type_id body r → ⊥
 
--- what a poll for the reply to the command with this correlation id returns
+-- the result of a poll for the reply to the command with this correlation id
 abbrev pub IsHeard : ℕ → Sat → Sat → Polled → Type 0
 IsHeard correlation old new (Answered r) = Hears r old new × (reply.correlation_id_of r ≡ correlation)
 IsHeard correlation old new (Another r) = Hears r old new × (reply.correlation_id_of r ≢ correlation)

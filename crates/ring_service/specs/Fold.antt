@@ -1,4 +1,4 @@
--- What a list of messages does, each at a moment.
+-- The effect of a list of messages, each at a moment.
 use Rattle.std.specs.Prelude.{ℕ, List, [], ◌∷◌, ◌++◌}
 use Rattle.ring_layout.specs.declared.message.Message.{Message}
 use Rattle.ring_counters.specs.declared.values.view.ValueWrite.{ValueWrite}
@@ -12,7 +12,7 @@ use Rattle.ring_protocol.specs.declared.reply.Reply.{Reply}
 use Rattle.ring_protocol.specs.Reply.{type_id_of, spelling_of}
 use Rattle.ring_service.specs.Applied.{applied}
 
--- the counters, all value writes, and what the transmitter knows: its list is the part `sent`
+-- the counters, all value writes, and the view of the transmitter, whose part `sent` is its list
 pub record Ledger : Type 0 where
   pub registry : Registry
   pub writes : List ValueWrite
@@ -22,7 +22,7 @@ pub record Ledger : Type 0 where
 abbrev pub replied : View → Reply → View
 replied v reply = sent_on v (next_record v.capacity v.at (type_id_of reply) (spelling_of reply))
 
--- a message is applied at a moment and gets its one reply
+-- a message is applied at a moment, and gets its one reply
 abbrev pub served : Ledger → ℕ → Message → Ledger
 served l now m =
     let o = applied now l.registry m in
@@ -33,7 +33,7 @@ abbrev pub fold_of : Ledger → List (ℕ × Message) → Ledger
 fold_of l [] = l
 fold_of l (p ∷ ps) = fold_of (served l p.0 p.1) ps
 
--- what the transmitter knows of its shares, and of the receivers that it took back, is this
+-- the ledger whose transmitter has these shares, this start, these copies and these joined receivers
 abbrev pub with_receivers : ℕ → ℕ → List Taken → List Joined → Ledger → Ledger
 with_receivers shares from copies heard l =
     record l { board = record l.board { shares = shares; from = from; copies = copies; heard = heard } }

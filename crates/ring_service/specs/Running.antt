@@ -11,8 +11,8 @@ use Rattle.ring_service.specs.Conducting.{Works}
 abbrev pub report : ℕ → WorkStop → Work
 report messages stopped = record { messages = messages; stopped = stopped }
 
--- A call for each cycle, up to one that came to the end of the broadcast buffer. The report has the sum of the messages
--- and the last stop, or `last` if there is no cycle
+-- A call was made for each cycle, up to a cycle that reached the end of the broadcast buffer. The report has the sum of
+-- the messages and the last stop, or `last` if there is no cycle.
 abbrev pub Runs : List Cycle → WorkStop → View → View → Ledger → Ledger → Work → Type 0
 Runs [] last v w l k done = (w ≡ v) × (k ≡ l) × (done ≡ report 0 last)
 Runs (c ∷ cs) last v w l k done =

@@ -1,5 +1,5 @@
--- The service in a caller's words: the commands that a client sent, what the conductor made of them, and the replies that
--- the client received.
+-- The service in a caller's words. These are the commands that a client sent, their effect on the conductor, and the
+-- replies that the client received.
 use Rattle.std.specs.Prelude.{◌≡◌, ◌≢◌, ℕ, List, [], ◌∷◌, ◌++◌, length}
 use Rattle.ring_layout.specs.declared.message.Message.{Message}
 use Rattle.ring_rings.specs.Ring.{message, received, sent}
@@ -17,7 +17,7 @@ use Rattle.ring_service.specs.Asking.{producer_of, receiver_of}
 use Rattle.ring_service.specs.Conducting.{consumer_of, ledger_of}
 use Rattle.ring_service.specs.Fold.{Ledger, at_moment}
 
--- the message that spells a command
+-- the message that encodes a command
 abbrev pub command_message : Instruction → Message
 command_message command = message (type_id_of command) (spelling_of command)
 
@@ -25,7 +25,7 @@ command_message command = message (type_id_of command) (spelling_of command)
 abbrev pub sent_by : Client → List Message
 sent_by c = sent (producer_of c)
 
--- the client sent the request with this correlation id, and nothing else
+-- the client sent only the request with this correlation id
 abbrev pub SendsRequest : Request → ℕ → Client → Client → Type 0
 SendsRequest request correlation old new =
     sent_by new ≡ sent_by old ++ command_message (asked request correlation) ∷ []
@@ -53,8 +53,8 @@ abbrev pub CopiesMessage : CopyReceiver → CopyReceiver → Message → Type 0
 CopiesMessage old new m = (lapped_count_of new ≡ lapped_count_of old) × (place : ℕ)
     × (copied new ≡ copied old ++ new_copy place m.type_id m.body (lapped_count_of old) ∷ [])
 
--- a poll for the reply to the command with this correlation id copied the message of the reply that it returned, or one
--- that is no reply, or nothing, or the receiver was lapped
+-- A poll was made for the reply to the command with this correlation id. It copied the message of the reply that it
+-- returned, or a message that is no reply, or nothing, or the receiver was lapped.
 abbrev pub Polls : ℕ → Client → Client → Polled → Type 0
 Polls correlation old new (Answered r) =
     CopiesMessage (receiver_of old) (receiver_of new) (reply_message r) × (correlation_id_of r ≡ correlation)

@@ -1,4 +1,4 @@
--- What the conductor does with a message.
+-- The work of the conductor on a message.
 use Rattle.std.specs.Prelude.{◌≡◌, ℕ, ◌<◌, ◌≤◌, ◌^◌, List, [], ◌∷◌}
 use Rattle.ring_words.specs.declared.read.action.Action.{Action}
 use Rattle.ring_words.specs.declared.read.action.Action.TheVariants.{Abort, Break, Commit, Continue}
@@ -15,7 +15,7 @@ use Rattle.ring_board.specs.declared.shared.view.View.{View}
 abbrev pub IsAtEnd : View → Type 0
 IsAtEnd v = max_position < end_after v.capacity v.at (span 12)
 
--- at each of these messages, served one after another at a moment, a reply of 12 bytes had room
+-- the messages are served one after another at a moment, and there was room for a reply of 12 bytes at each of them
 abbrev pub HaveRoom : ℕ → Ledger → List Message → Type 0
 HaveRoom now l [] = Unit {0}
 HaveRoom now l (m ∷ ms) = (IsAtEnd l.board → ⊥) × HaveRoom now (served l now m) ms
@@ -28,13 +28,13 @@ ledger_of s = record {
       view_of s.transmitter.now;
 }
 
--- transmitter and counters belong to the broadcast buffer and the values
+-- the transmitter and the counters belong to the broadcast buffer and the values
 pub record IsReady (s : Serving) : Type 0 where
   pub board : IsTransmitterOf s.board.now s.transmitter.now
   pub values : IsManagerOf s.values.now s.counters.now
   pub moment : s.now ≤ 2 ^ 62
 
--- it is the same handler, with all shares as before
+-- the handler is the same, with all shares as before
 pub record IsSameHandler (s t : Serving) : Type 0 where
   pub moment : t.now ≡ s.now
   pub board : t.board ≡ s.board
@@ -43,7 +43,7 @@ pub record IsSameHandler (s t : Serving) : Type 0 where
   pub transmitter : t.transmitter.ghost_name ≡ s.transmitter.ghost_name
   pub value_shares : shares_of t.counters.now ≡ shares_of s.counters.now
 
--- a message is served, if a reply of 12 bytes has room on the broadcast buffer; otherwise nothing is done
+-- A message is served if a reply of 12 bytes has room on the broadcast buffer. Otherwise nothing is done.
 abbrev pub ActsOn : Serving → Message → Serving → Action → Type 0
 ActsOn s m t Abort = IsSameHandler s t × (ledger_of t ≡ ledger_of s) × IsAtEnd (ledger_of s).board
 ActsOn s m t Break = ⊥

@@ -1,4 +1,4 @@
--- The headline about what one run hands out.
+-- The headline of one whole run.
 use Rattle.std.specs.Prelude.{◌≡◌, ℕ, pos, [], ◌∷◌, ◌++◌, codes, length, map}
 use Rattle.ring_layout.specs.declared.message.ClaimState.TheVariants.{Committed}
 use Rattle.ring_layout.specs.declared.message.Message.{Message}
@@ -28,28 +28,28 @@ use Rattle.ring_service.specs.Conducting.{KeepsTheRest, Works, board_view, ledge
 use Rattle.ring_service.specs.Finishing.{claims_in, joined_in, received_in, replies_in, services_in}
 use Rattle.ring_service.specs.Fold.{Ledger, at_moment}
 
--- the claim's message, and how far it has come
+-- the message of the claim, and the state of the claim
 abbrev pub settled_message : StagedClaim → Message × Stage
 settled_message c = (c.message, c.stage)
 
--- the message that spells a command, committed
+-- the message that encodes a command, with the state of a committed claim
 abbrev pub committed : Instruction → Message × Stage
 committed c = (record { type_id = type_id_of c; body = spelling_of c }, Stored Committed)
 
 -- The two commands of the run, with their correlation ids. The first asks for a counter of type 1 with an empty key and
--- the label `requests`, and the second sets the counter 0 to 7
+-- the label `requests`. The second sets the counter 0 to 7.
 abbrev pub first_command : Instruction
 first_command = with_id 0 (Allocate (pos 1) [] (codes "requests"))
 
 abbrev pub second_command : Instruction
 second_command = with_id 1 (Set 0 (pos 7))
 
--- the ledger of the new conductor, with the client's receiver out
+-- the ledger of the new conductor, while the client's receiver has a share
 abbrev pub opening_ledger : Ledger
 opening_ledger = record { registry = fresh_registry 4 50; writes = []; board = fewer (opening_view 256 0) }
 
--- The parties once the client has sent its first command. The conductor is new, and has never worked. One receiver is
--- out: the client's, which subscribed at the start and has loaded nothing
+-- The parties after the client has sent its first command. The conductor is new, and has never worked. One receiver has
+-- a share. It is that of the client, which subscribed at the start and has loaded nothing.
 pub record HaveBegun (p : Parties) : Type 0 where
   pub sent : map settled_message (claims_of (producer_of p.client)) ≡ committed first_command ∷ []
   pub ring : ring_view p.conductor ≡ first_consumer 1024 0
@@ -62,19 +62,20 @@ pub record IsCycle (now : ℕ) (old new : Parties) (done : Work) : Type 0 where
       (ledger_of new.conductor) done
   pub client : new.client ≡ old.client
 
--- one receiver more went out; the conductor did not work, and the client's receiver loaded nothing
+-- One more receiver got a share. The conductor did not work, and the client's receiver loaded nothing.
 pub record GoesOn (old new : Parties) : Type 0 where
   pub conductor : KeepsTheRest old.conductor new.conductor
   pub board : board_view new.conductor ≡ fewer (board_view old.conductor)
   pub receiver : receiver_of new.client ≡ receiver_of old.client
 
--- The claims are the two commands and nothing else, one after another from the ring's start. The first was sent before
--- the first cycle, and the other between the two. What the cycles took, followed by what still is in the ring, is the
--- committed messages, each whole and once. It makes of four fresh counters these counters, all value writes, and the
--- replies, which the closed broadcast buffer has. Two receivers were joined: the client's, which subscribed at the start
--- and polled once, after both cycles, and a listener, which subscribed between them and received nothing. What they
--- copied are runs of all replies. The client drew two ids and loaded no heartbeat, and no other producer ever was. The
--- values are those of these counters, and the trailer of what is left of the ring has the ids and the heartbeat
+-- The claims are only the two commands. They come one after another from the ring's start. The first command was sent
+-- before the first cycle, and the second one between the two cycles. The messages that the cycles took, followed by the
+-- messages that are still in the ring, are the committed messages. Each is there whole and once. The taken messages
+-- make these counters, all value writes, and the replies from four fresh counters. The closed broadcast buffer has
+-- these replies. Two receivers were joined. The client's receiver subscribed at the start and polled once, after both
+-- cycles. The listener's receiver subscribed between the cycles and received nothing. Their copies are runs of all
+-- replies. The client drew two ids and loaded no heartbeat. There never was another producer. The values are those of
+-- these counters. The trailer of what is left of the ring has the ids and the heartbeat.
 pub record Concludes (early late : ℕ) (w : WholeRun) : Type 0 where
   pub begun : HaveBegun w.begun.value
   pub first : IsCycle early w.begun.value w.halfway.value w.first

@@ -1,4 +1,4 @@
-//! The client's side: commands go out, and replies come in.
+//! The client of a conductor. It sends commands and receives replies.
 ghost use Rattle.ring_board.specs.Seats.{IsReceiverOf};
 ghost use Rattle.ring_rings.specs.Claiming.{RefusesTry, Writes};
 ghost use Rattle.ring_rings.specs.Seats.{capacity_of, IsProducerOf, MayClaim, OpensNone};
@@ -10,8 +10,8 @@ use ring_protocol::{LONGEST_COMMAND, Reply, Request, decode_reply, encode_reques
 use ring_rings::{Bodies, Kind, Producer, Ring, TryFault};
 use thiserror::Error;
 
-/// Sends commands through a ring of either kind and receives the replies from a broadcast buffer. One thread has it at
-/// a time.
+/// Sends commands through a ring of either kind, and receives the replies from a broadcast buffer. One thread at a time
+/// uses a client.
 #[derive(Drop)]
 pub struct Client {
     pub(crate) producer: Producer,
@@ -20,30 +20,30 @@ pub struct Client {
     ghost wide: { length buffer ≡ 520 },
 }
 
-/// Why a command was not sent.
+/// The reason why a command was not sent.
 #[derive(Clone, Copy, Debug, PartialEq, Eq, Error)]
 pub enum SendFault {
     /// The command takes more than `LONGEST_COMMAND` bytes.
     #[error("the command takes more than 520 bytes")]
     TooLong,
-    /// The ring refused the command with this correlation id, which stays drawn.
+    /// The ring refused the command with this correlation id. The id is not drawn again.
     #[error("{reason}")]
     Refused { correlation: u64, reason: TryFault },
 }
 
-/// What a poll for a reply returns.
+/// The result of a poll for a reply.
 #[derive(Clone, Copy, Debug, PartialEq, Eq)]
 pub enum Polled {
-    /// The reply to the command that was asked about.
+    /// The reply to the command for which the caller polls.
     Answered(Reply),
-    /// The reply to another command, of this client or of another.
+    /// The reply to another command, of this client or of another client.
     Another(Reply),
-    /// A message that is no reply. A conductor transmits none.
+    /// A message that is not a reply. A conductor transmits no such message.
     NoReply,
-    /// Nothing has come yet.
+    /// No message has come yet.
     Nothing,
-    /// Replies were overwritten before they were copied. What became of the commands in flight is unknown: each of
-    /// them may have been applied, and its reply may have been among those.
+    /// Replies were overwritten before the client copied them. The results of the commands in flight are unknown. Each
+    /// of these commands may have been applied, and its reply may be among those that were overwritten.
     Lapped(Lapped),
 }
 
@@ -64,7 +64,7 @@ impl Client {
         }
     }
 
-    /// Returns producer and receiver, to be joined.
+    /// Returns the producer and the receiver, so that they can be joined.
     pub fn into_parts(self) -> (Producer, CopyReceiver)
         ensures producer { result.0 ≡ producer_of self }
         ensures receiver { result.1 ≡ receiver_of self }
@@ -89,8 +89,9 @@ impl Client {
         ring.next_correlation_id(&mut self.producer)
     }
 
-    /// Loads the heartbeat that the conductor stores, by one step: 0 if it stored none, and never one before the last
-    /// that this client loaded. Whether a conductor that no longer stores one is alive is for the caller to judge.
+    /// Loads the heartbeat that the conductor stored last, by one step. The result is 0 if the conductor stored none.
+    /// It is never older than a heartbeat that this client loaded before. The caller judges whether a conductor that no
+    /// longer stores a heartbeat is alive.
     pub fn heartbeat<K, B: Bodies>(&mut self, ring: &Ring<K, B>) -> u64
         requires { IsProducerOf ring.now (producer_of self.old) }
         ensures producer { IsProducerOf ring.now (producer_of self.new) }
@@ -102,11 +103,11 @@ impl Client {
         ring.heartbeat(&mut self.producer)
     }
 
-    /// Makes one try to send a command with a correlation id that was drawn for it. It never waits, and takes no
-    /// memory.
+    /// Makes one try to send a command with a correlation id that was drawn for the command. The call never waits, and
+    /// takes no memory.
     ///
     /// Returns `TooLong` if the command has more than `LONGEST_COMMAND` bytes, and `Refused` if `Ring::try_write`
-    /// refuses. Nothing was written then, and the call can be made again with the same id.
+    /// refuses it. After an error nothing was written, and the call can be made again with the same id.
     pub fn send_as<K: Kind, B: Bodies>(
         &mut self,
         ring: &Ring<K, B>,
@@ -137,12 +138,12 @@ impl Client {
         }
     }
 
-    /// Draws a correlation id, makes one try to send the command with it, and returns the id. It never waits, and takes
-    /// no memory.
+    /// Draws a correlation id, makes one try to send the command with this id, and returns the id. The call never
+    /// waits, and takes no memory.
     ///
-    /// Returns `TooLong` if the command has more than `LONGEST_COMMAND` bytes, for which no id was drawn, and `Refused`
-    /// if `Ring::try_write` refuses. Nothing was written then; the id in the refusal stays drawn, and `send_as` can
-    /// try again with it.
+    /// Returns `TooLong` if the command has more than `LONGEST_COMMAND` bytes, and `Refused` if `Ring::try_write`
+    /// refuses it. No id is drawn for a command that is too long. After an error nothing was written. The id in
+    /// `Refused` is not drawn again, and `send_as` can try again with it.
     pub fn send<K: Kind, B: Bodies>(
         &mut self,
         ring: &Ring<K, B>,
@@ -170,9 +171,10 @@ impl Client {
     }
 
     /// Takes the next message of the broadcast buffer, for a caller that waits for the reply to the command with this
-    /// correlation id. It never waits, and takes no memory.
+    /// correlation id. The call never waits, and takes no memory.
     ///
-    /// After `Lapped` the next call goes on with the most recent reply. The bytes passed over begin at its `place`.
+    /// After `Lapped` the next call goes on with the most recent reply. The bytes that the client missed begin at the
+    /// `place` in `Lapped`.
     pub fn poll(&mut self, board: &Board, correlation: u64) -> Polled
         requires { IsReceiverOf board.now (receiver_of self.old) }
         ensures receiver { IsReceiverOf board.now (receiver_of self.new) }

@@ -1,4 +1,4 @@
-//! How a conductor finishes.
+//! The call that finishes a conductor.
 pub(crate) mod fault;
 pub(crate) mod without;
 
@@ -19,22 +19,23 @@ use ring_rings::{CommandSource, Producer};
 use ring_words::SoloRing;
 use std::snapshot::Snapshot;
 
-/// What a conductor hands out.
+/// The parts that a conductor returns when it finishes.
 #[derive(Drop)]
 pub struct Finished {
-    /// What is still in the ring.
+    /// The messages that are still in the ring.
     pub rest: SoloRing,
     /// The broadcast buffer with all replies.
     pub board: ClosedBoard,
-    /// The counters' values, for readers that are still out.
+    /// The values of the counters, for readers that still exist.
     pub values: CounterValues,
     pub counters: CountersManager,
     /// The number of commands that were taken.
     pub received: u64,
-    /// The producer that was given, for contracts: it has no bytes. They read the claims of all producers in it.
+    /// The producer that was given to the call. This field is for contracts, and has no bytes. Contracts read the
+    /// claims of all producers in it.
     pub producer: Snapshot<Producer>,
-    /// The conductor that was given, for contracts: it has no bytes. They read the messages that it received, its
-    /// replies and the receivers that were joined in it.
+    /// The conductor that was given to the call. This field is for contracts, and has no bytes. Contracts read in it
+    /// the messages that the conductor received, its replies, and its joined receivers.
     pub conductor: Snapshot<Conductor>,
 }
 
@@ -63,12 +64,12 @@ fn test_finish(conductor: &Conductor, producer: &Producer) -> Result<(), FinishF
     Ok(())
 }
 
-/// Closes ring and broadcast buffer, once all producers and all receivers are back and no claim is open. Returns what
-/// is still in the ring, the broadcast buffer with all replies, and the counters. Readers of the values may still be
-/// out.
+/// Closes the ring and the broadcast buffer, after all producers and all receivers were joined and while no claim is
+/// open. Returns what is still in the ring, the broadcast buffer with all replies, and the counters. Readers of the
+/// values may still exist.
 ///
-/// Returns, in this order and before anything is closed: `ClaimsOpen`, `ProducersOut`, `ReceiversOut`. All five
-/// arguments are then returned unchanged, and the call can be made again.
+/// Returns `ClaimsOpen`, `ProducersOut` or `ReceiversOut`, in this order, before anything is closed. All five arguments
+/// are then returned unchanged, and the call can be made again.
 pub fn finish<R: CommandSource>(
     ring: R,
     board: Board,
@@ -79,18 +80,18 @@ pub fn finish<R: CommandSource>(
     requires conductor { IsConductorOf R.is_consumer ring board values conductor }
     requires producer { R.is_producer ring producer }
 
-    // Once the producers have returned. Otherwise all five arguments are returned unchanged.
+    // The call succeeds only after the producers have returned. Otherwise all five arguments are returned unchanged.
     ensures refused { IsRefusedAs (handed_back ring board values conductor producer)
         (refusal_to conductor producer) result }
     ensures back { IfErr result (ComesBack R.is_consumer R.is_producer ring board values conductor producer) }
 
-    // What was received, followed by what still lies in the ring, is the committed records in tail-exchange order, each
-    // whole and once; each receiver's copies are runs of the replies; and counters and replies are the fold of what was
-    // received.
+    // The received messages, followed by the messages that are still in the ring, are the committed records in the
+    // order of the tail exchanges. Each record is there whole and once. The copies of each receiver are runs of the
+    // replies. Counters and replies are the fold of the received messages.
     ensures headline { IfOk result (Headline (R.bytes ring) (R.start ring) producer conductor) }
 
-    // Counters, replies and values are handed on, and the words of ids and heartbeat are those that were drawn and
-    // stored.
+    // The counters, the replies and the values are handed on. The words of ids and of the heartbeat are those that were
+    // drawn and stored.
     ensures hands_on { IfOk result (HandsOn (R.bytes ring) board values producer conductor) }
 {
     if let Err(reason) = test_finish(&conductor, &producer) {

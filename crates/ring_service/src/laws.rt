@@ -1,4 +1,4 @@
-//! What holds of the fold of commands.
+//! Laws of the fold of commands.
 ghost use Rattle.std.specs.Prelude.{◌≡◌, ◌++◌, ℕ, List};
 ghost use Rattle.ring_layout.specs.declared.message.Message.{Message};
 ghost use Rattle.ring_board.specs.declared.shared.view.Joined.{Joined};
@@ -6,18 +6,20 @@ ghost use Rattle.ring_board.specs.declared.shared.view.Taken.{Taken};
 ghost use Rattle.ring_layout.specs.Lists.{Begins};
 ghost use Rattle.ring_service.specs.Fold.{Ledger, fold_of, with_receivers};
 
-/// The fold of two lists of messages, one after the other, is a fold of the second from the end of the first.
+/// States that a fold of two lists of messages, one after the other, is a fold of the second list from the end of the
+/// first.
 pub fn fold_of_fold()
     ensures { (l : Ledger) (first second : List (ℕ × Message))
         → fold_of l (first ++ second) ≡ fold_of (fold_of l first) second }
 {}
 
-/// A fold only lengthens the transmitted list.
+/// States that a fold only lengthens the transmitted list.
 pub fn fold_lengthens()
     ensures { (l : Ledger) (messages : List (ℕ × Message)) → Begins l.board.sent (fold_of l messages).board.sent }
 {}
 
-/// A fold does not depend on what the transmitter knows of its shares, and of the receivers that it took back.
+/// States that a fold does not depend on what the transmitter knows of its shares, nor on the receivers that it took
+/// back.
 pub fn fold_ignores_receivers()
     ensures { (l : Ledger) (shares from : ℕ) (copies : List Taken) (heard : List Joined) (messages : List (ℕ × Message))
         → fold_of (with_receivers shares from copies heard l) messages

@@ -1,12 +1,12 @@
-//! The conductor: it takes commands from a ring, applies them to counters, and transmits one reply to each.
+//! The conductor. It takes commands from a ring, applies them to counters, and transmits one reply to each command.
 //!
-//! - `Request`, `Command`, `Reply`, `RefusalCode`: the protocol, and its bytes.
-//! - `Client`: the client's side, which sends commands and receives replies.
-//! - `Conductor`: takes a ring's consumer, a broadcast buffer's transmitter and counters, and works.
-//! - `finish`: closes ring and broadcast buffer, and returns all that is left. Its contract is the headline.
-//! - `Conductor::finish_without`: the same without the producers, whatever became of them.
-//! - `whole_run`: one run of all of that, the part to read first.
-//! - the laws: what holds of the protocol and of the fold of commands.
+//! - `Request`, `Command`, `Reply`, `RefusalCode`: the protocol and its encoding.
+//! - `Client`: sends commands and receives replies.
+//! - `Conductor`: is made of a ring's consumer, a broadcast buffer's transmitter and counters, and does the work.
+//! - `finish`: closes the ring and the broadcast buffer, and returns all that is left. Its contract is the headline.
+//! - `Conductor::finish_without`: does the same without the producers, even if some of them were lost.
+//! - `whole_run`: one run of all these calls, which is the part to read first.
+//! - the laws: properties of the protocol and of the fold of commands.
 #![tactic(auto)]
 
 mod client;

@@ -1,4 +1,4 @@
-//! One run of the whole, from making to finish.
+//! One run of the whole service, from its making to its finish.
 
 ghost use Rattle.std.specs.Prelude.{◌^◌, ◌≤◌, IfOk};
 ghost use Rattle.ring_service.specs.Whole.{Concludes};
@@ -14,30 +14,30 @@ use std::alloc::Global;
 use std::snapshot::Snapshot;
 use thiserror::Error;
 
-/// The two parties of a run, at one moment.
+/// The client and the conductor of a run, at one moment.
 #[derive(Drop)]
 pub struct Parties {
     pub conductor: Conductor,
     pub client: Client,
 }
 
-/// What `whole_run` returns.
+/// The result of `whole_run`.
 ///
-/// Its snapshots are for contracts, and have no bytes.
+/// The snapshots in it are for contracts, and have no bytes.
 #[derive(Drop)]
 pub struct WholeRun {
     pub finished: Finished,
-    /// What the conductor's work at the moment `early` returned.
+    /// The result of the conductor's work at the moment `early`.
     pub first: Work,
-    /// What its work at the moment `late` returned.
+    /// The result of the conductor's work at the moment `late`.
     pub second: Work,
-    /// What the client's poll for the reply to its first command returned.
+    /// The result of the client's poll for the reply to its first command.
     pub polled: Polled,
-    /// The parties once the first command was sent.
+    /// The parties after the first command was sent.
     pub begun: Snapshot<Parties>,
     /// The parties after the work at the moment `early`.
     pub halfway: Snapshot<Parties>,
-    /// The parties once the listener had subscribed, and the second command was sent.
+    /// The parties after the listener had subscribed, and the second command was sent.
     pub resumed: Snapshot<Parties>,
     /// The parties after the work at the moment `late`.
     pub worked: Snapshot<Parties>,
@@ -45,7 +45,7 @@ pub struct WholeRun {
     pub receiver: Snapshot<CopyReceiver>,
 }
 
-/// Why `whole_run` did not come to its end.
+/// The reason why `whole_run` did not reach its end.
 #[derive(Clone, Copy, Debug, PartialEq, Eq, Error)]
 pub enum WholeFault {
     /// Out of memory.
@@ -56,14 +56,18 @@ pub enum WholeFault {
     NotSent(#[from] SendFault),
 }
 
-/// Runs the whole once. A client asks for a counter, and the conductor works at the moment `early`; a listener
-/// subscribes; the client sets the counter to 7, and the conductor works at the moment `late`; the client polls for the
-/// first reply; client and listener are joined, and the conductor finishes. Moments are in milliseconds and at most
-/// 2^62.
+/// Runs the whole service once. These are the steps:
+/// - A client asks for a counter, and the conductor works at the moment `early`.
+/// - A listener subscribes.
+/// - The client sets the counter to 7, and the conductor works at the moment `late`.
+/// - The client polls for the first reply.
+/// - The client and the listener are joined, and the conductor finishes.
 ///
-/// It is there to be read. Its contract states for this one run what `finish` states to each caller, and names what
-/// happened: what the client sent and the conductor did, in which order, when the receivers subscribed, and what each
-/// received.
+/// Moments are in milliseconds, and at most 2^62.
+///
+/// This function exists to be read. For this one run its contract states what `finish` states to each caller. It also
+/// names, in order, what the client sent and what the conductor did. And it names when the receivers subscribed, and
+/// what each of them received.
 ///
 /// Returns `OutOfMemory` if memory runs out, and `NotSent` if the ring refuses a command.
 pub fn whole_run(alloc: Global, early: u64, late: u64) -> Result<WholeRun, WholeFault>
@@ -73,7 +77,7 @@ pub fn whole_run(alloc: Global, early: u64, late: u64) -> Result<WholeRun, Whole
     whole_run_over::<InWords>(alloc, early, late)
 }
 
-/// `whole_run` over a ring of either form: with `InSlots` bodies lie in plain memory.
+/// Does what `whole_run` does, over a ring of either form. With `InSlots` the bodies are in plain memory.
 pub fn whole_run_over<B: Bodies>(
     alloc: Global,
     early: u64,

@@ -2,22 +2,22 @@
 use clap::{Arg, ArgAction, value_parser};
 use std::alloc::Global;
 
-/// What an argument takes.
+/// The kind of value that an argument takes.
 #[derive(Clone, Copy)]
 enum Kind {
-    /// The name of a file, which has to be there.
+    /// The name of a file, which must be given.
     Name,
-    /// An option with a number of bytes, which is called this.
+    /// An option with a number of bytes. The help calls the value by this name.
     Bytes(&'static str),
-    /// An option with a decimal number, which is called this.
+    /// An option with a decimal number. The help calls the value by this name.
     Number(&'static str),
     /// The name of a file, which may be left out.
     Optional,
-    /// An option with a text, which is called this.
+    /// An option with a text. The help calls the value by this name.
     Text(&'static str),
-    /// An option with one of these words, the last one if it is left out.
+    /// An option with one of these words. The last word is the default.
     Choice(&'static [&'static str], &'static str),
-    /// An option with no value.
+    /// An option without a value.
     Flag,
 }
 
@@ -174,12 +174,12 @@ pub static ARGUMENTS: [Argument; 23] = [
 ];
 
 impl Argument {
-    /// Tests whether a subcommand has it.
+    /// Tests whether a subcommand has this argument.
     pub fn is_of(&self, subcommand: &str) -> bool {
         self.of.contains(subcommand)
     }
 
-    /// It as `clap` has it.
+    /// Returns the argument in the form of `clap`.
     pub fn arg<'a>(&self, alloc: Global) -> Arg<'a> {
         let name = self.name;
         let action = if matches!(self.kind, Kind::Flag) {

@@ -1,4 +1,4 @@
-//! Aeron's command-and-control file: a ring of commands, a broadcast buffer of replies, and counters.
+//! Shows Aeron's command-and-control file, which has a ring of commands, a broadcast buffer of replies, and counters.
 use crate::fault::ShowFault;
 use crate::options::Format;
 use crate::show::{print_findings, print_report, print_text, report_of_counters, status_of};
@@ -9,10 +9,10 @@ use std::io::Input;
 use std::process::ExitCode;
 use std::rt::Files;
 
-/// The bytes of the file's header, of which the first 24 are six numbers of 32 bits.
+/// The number of bytes of the file's header. The first 24 bytes are six numbers of 32 bits.
 const HEADER: u64 = 128;
 
-/// The versions that are understood: 0.1.0 and 0.2.0, as major, minor and patch in a byte each.
+/// The versions that are understood, which are 0.1.0 and 0.2.0. Major, minor and patch have a byte each.
 const VERSIONS: [u64; 2] = [0x0100, 0x0200];
 
 /// The lengths of the parts, in their order in the file.
@@ -25,7 +25,7 @@ struct Lengths {
 }
 
 impl Lengths {
-    /// The bytes of the header and of all parts.
+    /// Returns the number of bytes of the header and of all parts.
     fn end(self) -> u64 {
         HEADER
             .saturating_add(self.ring)
@@ -35,7 +35,7 @@ impl Lengths {
     }
 }
 
-/// The lengths that a header has. `NotCnc` if the version is not understood.
+/// Returns the lengths that a header has. Returns `NotCnc` if the version is not understood.
 fn lengths_of(header: &[u64]) -> Result<Lengths, ShowFault<'static>> {
     let [first, second, third, ..] = header else {
         return Err(ShowFault::NotCnc);
@@ -51,7 +51,7 @@ fn lengths_of(header: &[u64]) -> Result<Lengths, ShowFault<'static>> {
     })
 }
 
-/// The lengths of a file's parts. `NotCnc` if the file is shorter than they say.
+/// Returns the lengths of a file's parts. Returns `NotCnc` if the file is shorter than its lengths say.
 fn parts_of<'a, R: AllocGlobal + Files + Input>(
     rt: &R,
     file: &'a str,
@@ -71,7 +71,7 @@ fn parts_of<'a, R: AllocGlobal + Files + Input>(
     }
 }
 
-/// A part of a file.
+/// Returns a part of a file.
 fn part(file: &str, at: u64, length: u64) -> Section<'_> {
     Section {
         file,
@@ -80,14 +80,14 @@ fn part(file: &str, at: u64, length: u64) -> Section<'_> {
     }
 }
 
-/// A report, and where it begins in the file.
+/// A report, and the place in the file at which its memory begins.
 #[derive(Drop)]
 struct Shown {
     report: Report,
     at: u64,
 }
 
-/// The report of the ring, or of the broadcast buffer.
+/// Returns the report of the ring, or of the broadcast buffer.
 fn buffer_of<'a, R: AllocGlobal + Files + Input>(
     rt: &R,
     section: Section<'a>,
@@ -125,7 +125,7 @@ fn add_reports<'a, R: AllocGlobal + Files + Input>(
     Ok(())
 }
 
-/// The metrics of all reports.
+/// Returns the metrics of all reports.
 fn metrics(alloc: Global, file: &str, shown: &[Shown]) -> Result<String, AllocError> {
     let mut labelled = Vec::new(alloc);
     for it in shown {
@@ -134,7 +134,7 @@ fn metrics(alloc: Global, file: &str, shown: &[Shown]) -> Result<String, AllocEr
     to_prometheus(alloc, labelled.as_slice())
 }
 
-/// A report from its place in the file.
+/// Returns a report from its place in the file.
 fn labelled_of<'a>(file: &'a str, shown: &'a Shown) -> Labelled<'a> {
     Labelled {
         report: &shown.report,
@@ -146,7 +146,7 @@ fn labelled_of<'a>(file: &'a str, shown: &'a Shown) -> Labelled<'a> {
     }
 }
 
-/// Prints all reports, and their findings on standard error. Returns whether there are none.
+/// Prints all reports. Prints their findings on standard error. Returns whether there are no findings.
 fn print_all<R: AllocGlobal + Print + Eprint>(
     rt: &R,
     file: &str,
@@ -168,8 +168,8 @@ fn print_all<R: AllocGlobal + Print + Eprint>(
     Ok(is_sound)
 }
 
-/// Shows the ring, the broadcast buffer and the counters, one after another; JSON is one document a line. The status is
-/// 1 if one has a finding.
+/// Shows the ring, the broadcast buffer and the counters, one after another. JSON has one document on each line. The
+/// status is 1 if a report has a finding.
 pub fn show_cnc<'a, R: AllocGlobal + Files + Input + Print + Eprint>(
     rt: &R,
     file: &'a str,

@@ -1,9 +1,9 @@
-//! Why nothing was shown.
+//! The reasons why nothing was shown.
 use ring_report::{InputFault, Printable};
 use std::alloc::{AllocError, AllocFailed};
 use thiserror::Error;
 
-/// Why nothing was shown.
+/// The reason why nothing was shown.
 #[derive(Clone, Copy, Debug, Error)]
 pub enum ShowFault<'a> {
     /// No words were read.
@@ -12,7 +12,7 @@ pub enum ShowFault<'a> {
     /// The value of an option is not a number of bytes.
     #[error("--{option} {}: a number of bytes is decimal, or hexadecimal after 0x", Printable(value))]
     NotBytes { option: &'a str, value: &'a str },
-    /// Bodies that lie apart are in another section of the file.
+    /// Bodies that are stored separately are to be read from standard input.
     #[error("--bodies-at: standard input has one section, so give a file")]
     BodiesOfInput,
     /// There is no such process.
@@ -24,7 +24,7 @@ pub enum ShowFault<'a> {
     /// The memory of the process cannot be read.
     #[error("{pid}: its memory cannot be read: {reason}")]
     NoMemory { pid: &'a str, reason: &'static str },
-    /// No look was asked for.
+    /// The options ask for no look.
     #[error("--times 0: there is at least one look")]
     NoLook,
     /// The file has another version, or is shorter than its header says.

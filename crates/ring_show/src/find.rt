@@ -1,4 +1,4 @@
-//! Rings, broadcast buffers and counters in the memory of a process, in a core file or in a copy.
+//! Finds rings, broadcast buffers and counters in the memory of a process, in a core file, or in a copy.
 use crate::fault::ShowFault;
 use crate::found::Found;
 use crate::known::Pieces;
@@ -13,10 +13,10 @@ use std::io::Input;
 use std::process::ExitCode;
 use std::rt::{Clock, Files};
 
-/// How many lines of the same kind standard error gets at most.
+/// The largest number of lines of the same kind on standard error.
 const LINES: usize = 8;
 
-/// Says on standard error which memory was not read, and why.
+/// Prints on standard error which memory was not read, and why.
 fn say_unread(rt: &impl Eprint, file: &str, unread: &[Unread]) {
     for it in unread.iter().take(LINES) {
         let (address, length) = (it.address, it.length);
@@ -32,7 +32,7 @@ fn say_unread(rt: &impl Eprint, file: &str, unread: &[Unread]) {
     }
 }
 
-/// Says on standard error which buffers change all the time, so that they were not found.
+/// Prints on standard error which buffers change all the time, so that they were not found.
 fn say_busy(rt: &impl Eprint, busy: &[Trailer]) {
     for it in busy.iter().take(LINES) {
         let (kind, address) = (it.kind.name(), it.address);
@@ -44,7 +44,7 @@ again, or stop the process meanwhile (kill -STOP)"
     }
 }
 
-/// Says on standard error that nothing was found, and what to do.
+/// Prints on standard error that nothing was found, and what to do.
 fn say_nothing(rt: &impl Eprint, name: &str, regions: &[Region]) {
     let bytes = regions
         .iter()
@@ -62,7 +62,7 @@ that were used{advice}"
     );
 }
 
-/// All that was found, not yet looked at.
+/// Returns all that was found, before a look is taken at it.
 fn watched(alloc: Global, found: &[Found]) -> Result<Vec<Watched>, AllocError> {
     let mut watched = Vec::new(alloc);
     for it in found {
@@ -71,7 +71,7 @@ fn watched(alloc: Global, found: &[Found]) -> Result<Vec<Watched>, AllocError> {
     Ok(watched)
 }
 
-/// Adds all that is in these pieces of memory, and says on standard error what could not be read.
+/// Adds all that is found in these pieces of memory. Prints on standard error what could not be read.
 fn add_found<R: AllocGlobal + Clock + Files + Input + Eprint>(
     rt: &R,
     found: &mut Vec<Found>,
@@ -86,8 +86,8 @@ fn add_found<R: AllocGlobal + Clock + Files + Input + Eprint>(
     Ok(())
 }
 
-/// Looks for rings, broadcast buffers and counters in these pieces of memory, and looks at all of them as often as the
-/// options say.
+/// Searches these pieces of memory for rings, broadcast buffers and counters. Takes looks at all of them, as often as
+/// the options say.
 fn find_in<R: AllocGlobal + Clock + Files + Input + Print + Eprint>(
     rt: &R,
     name: &str,
@@ -110,9 +110,9 @@ fn find_in<R: AllocGlobal + Clock + Files + Input + Print + Eprint>(
     round.run(rt, is_live, is_terminal)
 }
 
-/// Looks for rings, broadcast buffers and counters in the memory of a process, if the name means one, otherwise in a
-/// file, and looks at all as often as it is wanted. The status is 1 if there is none, and otherwise that of the last
-/// look.
+/// Searches the memory of a process, if the name is that of a process, and otherwise a file. Takes looks at all rings,
+/// broadcast buffers and counters that it found, as often as the options say. The status is 1 if nothing was found.
+/// Otherwise it is the status of the last look.
 pub fn find_all<'a, R: AllocGlobal + Clock + Files + Input + Print + Eprint>(
     rt: &R,
     name: &'a str,

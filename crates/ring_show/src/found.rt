@@ -1,11 +1,11 @@
-//! What was found in memory, and the lines and the command that say so.
+//! A ring, a broadcast buffer or counters that were found in memory, with the lines and the command that show them.
 use crate::shell::Quoted;
 use crate::tables::METADATA;
 use ring_report::{Cell, Report};
 use std::alloc::AllocError;
 use std::fmt::Write;
 
-/// What is found.
+/// The kind of what was found.
 #[derive(Clone, Copy, PartialEq, Eq)]
 pub enum Kind {
     Ring,
@@ -14,7 +14,7 @@ pub enum Kind {
 }
 
 impl Kind {
-    /// Its name, which is that of the command that shows it.
+    /// Returns the name of the kind, which is also the name of the command that shows it.
     pub fn name(self) -> &'static str {
         match self {
             Kind::Ring => "ring",
@@ -23,7 +23,7 @@ impl Kind {
         }
     }
 
-    /// The bytes after the buffer.
+    /// Returns the number of bytes after the buffer.
     pub fn trailer(self) -> u64 {
         match self {
             Kind::Ring => 768,
@@ -36,9 +36,9 @@ impl Kind {
 /// Bytes of a file.
 #[derive(Clone, Copy)]
 pub struct Part {
-    /// Where they begin.
+    /// The place at which the bytes begin.
     pub at: u64,
-    /// How many they are.
+    /// The number of bytes.
     pub length: u64,
 }
 
@@ -46,35 +46,35 @@ pub struct Part {
 #[derive(Clone, Copy)]
 pub struct Found {
     pub kind: Kind,
-    /// Its address in the program.
+    /// The address in the program.
     pub address: u64,
-    /// The start of it in the file.
+    /// The place in the file.
     pub at: u64,
-    /// The bytes of its buffer, the most that fit, or of the metadata of its counters.
+    /// The number of bytes of the buffer, which is the largest one that fits, or of the metadata of the counters.
     pub capacity: u64,
-    /// The other capacities that fit, which are powers of two: their sum.
+    /// The sum of the other capacities that fit. They are powers of two.
     pub others: u32,
-    /// Where the bodies of a ring begin in the file, if they lie apart.
+    /// The place in the file of the bodies of a ring, if they are stored separately.
     pub bodies_at: Option<u64>,
-    /// Where the values of counters are in the file.
+    /// The place in the file of the values of counters.
     pub values: Option<Part>,
-    /// Whether the program itself keeps its addresses.
+    /// Whether the program itself keeps the addresses.
     pub is_known: bool,
 }
 
 impl Found {
-    /// The address after its buffer.
+    /// Returns the address after the buffer.
     pub fn end(self) -> u64 {
         self.address.saturating_add(self.capacity)
     }
 
-    /// Its bytes, the trailer included.
+    /// Returns the number of bytes, the trailer included.
     pub fn length(self) -> u64 {
         self.capacity.saturating_add(self.kind.trailer())
     }
 
-    /// Tests whether a counter belongs to these counters: its record is a whole number of records after them, at most
-    /// eight.
+    /// Tests whether a counter belongs to these counters. The counter's record must come a whole number of records
+    /// after these counters, and at most eight.
     pub fn goes_on_at(self, address: u64) -> bool {
         match address.checked_sub(self.end()) {
             Some(gap) => gap % METADATA == 0 && gap <= 8 * METADATA,
@@ -82,7 +82,7 @@ impl Found {
         }
     }
 
-    /// How sure it is that this is what it is taken for, by its report.
+    /// Returns a text that says how certain the kind of this object is. The text follows from the report.
     pub fn sureness(self, report: &Report) -> &'static str {
         if self.is_known {
             return "sure";
@@ -100,7 +100,7 @@ impl Found {
         }
     }
 
-    /// Adds the command that shows it.
+    /// Adds the command that shows this object.
     pub fn push_command(self, text: &mut String, file: &str) -> Result<(), AllocError> {
         let (kind, at, length) = (self.kind.name(), self.at, self.length());
         write!(text, "ring-show {kind} {}", Quoted(file))?;
@@ -111,7 +111,7 @@ impl Found {
         self.push_others(text)
     }
 
-    /// Adds where its bodies or its values are.
+    /// Adds the place of the bodies or of the values.
     fn push_others(self, text: &mut String) -> Result<(), AllocError> {
         if let Some(bodies_at) = self.bodies_at {
             write!(text, " --bodies-at 0x{bodies_at:x}")?;
@@ -122,7 +122,7 @@ impl Found {
         Ok(())
     }
 
-    /// Adds its address, its capacity and the others that fit, and how sure that is.
+    /// Adds the address, the capacity and the other capacities that fit, and how sure this is.
     pub fn push_title(self, text: &mut String, report: &Report) -> Result<(), AllocError> {
         let (kind, address, capacity) = (self.kind.name(), self.address, self.capacity);
         write!(text, "{kind} at 0x{address:x}  capacity {capacity}")?;
@@ -134,7 +134,8 @@ impl Found {
         writeln!(text, "  ({})", self.sureness(report))
     }
 
-    /// Adds its lines: its address and its capacity, its summary, and the command that shows it.
+    /// Adds the lines of this object, which have its address and its capacity, its summary, and the command that shows
+    /// it.
     pub fn push_lines(
         self,
         text: &mut String,
@@ -161,7 +162,7 @@ fn has_label(row: &[Cell]) -> bool {
     }
 }
 
-/// Adds the id, the label and the value of a counter, as far as they are known.
+/// Adds the id, the label and the value of a counter, if they are known.
 fn push_counter(text: &mut String, row: &[Cell]) -> Result<(), AllocError> {
     match row {
         [

@@ -1,4 +1,4 @@
-//! What a search makes of the tables that a program itself keeps, and of buffers that changed while they were read.
+//! The part of a search that uses the tables of the program itself, and that reads changing buffers again.
 use crate::fault::ShowFault;
 use crate::found::{Found, Kind, Part};
 use crate::memory::Region;
@@ -12,16 +12,16 @@ use std::rt::{Clock, Files};
 use std::thread::sleep;
 use std::time::Duration;
 
-/// The most bytes between two positions.
+/// The largest number of bytes between two positions.
 const MOST: u64 = 1 << 24;
 
-/// How often a buffer that changes is read again.
+/// The number of times that a changing buffer is read again.
 const ROUNDS: u32 = 5;
 
-/// How many buffers that change are read again at most.
+/// The largest number of changing buffers that are read again.
 const BUSY: usize = 16;
 
-/// The file of a memory, and its pieces in the order of their addresses.
+/// The file of some memory, and the pieces of the memory in the order of their addresses.
 #[derive(Clone, Copy)]
 pub struct Pieces<'a> {
     pub file: &'a str,
@@ -29,7 +29,7 @@ pub struct Pieces<'a> {
 }
 
 impl<'a> Pieces<'a> {
-    /// The words at an address, if they can be read.
+    /// Returns the words at an address, if they can be read.
     fn words<R: AllocGlobal + Files + Input>(
         self,
         rt: &R,
@@ -46,8 +46,8 @@ impl<'a> Pieces<'a> {
     }
 }
 
-/// Tests whether these words are the trailer of a ring or a broadcast buffer of this capacity. Its positions may have
-/// changed between them.
+/// Tests whether these words are the trailer of a ring or a broadcast buffer of this capacity. The positions may have
+/// changed between the reads of these words.
 fn is_trailer(kind: Kind, capacity: u64, words: &[u64]) -> bool {
     let (first, second) = positions(kind, words);
     let is_clear = if kind == Kind::Ring {
@@ -58,7 +58,7 @@ fn is_trailer(kind: Kind, capacity: u64, words: &[u64]) -> bool {
     is_clear && first % 8 == 0 && second % 8 == 0 && first.abs_diff(second) <= capacity.min(MOST)
 }
 
-/// The ring or the broadcast buffer that a table names, if it is there.
+/// Returns the ring or the broadcast buffer that a table names, if it is in memory.
 fn known_at<R: AllocGlobal + Files + Input>(
     rt: &R,
     pieces: Pieces<'_>,
@@ -92,8 +92,8 @@ fn known_at<R: AllocGlobal + Files + Input>(
     })
 }
 
-/// Adds the rings or the broadcast buffers that tables name, in the order of their addresses. Of tables that name the
-/// same memory the first counts.
+/// Adds the rings or the broadcast buffers that tables name, in the order of their addresses. If several tables name
+/// the same memory, only the first one is used.
 fn add_known<R: AllocGlobal + Files + Input>(
     rt: &R,
     pieces: Pieces<'_>,
@@ -114,7 +114,7 @@ fn add_known<R: AllocGlobal + Files + Input>(
     Ok(())
 }
 
-/// The addresses after the buffers, in order.
+/// Returns the addresses after the buffers, in order.
 fn ends(alloc: Global, found: &[Found]) -> Result<Vec<u64>, AllocError> {
     let mut ends = Vec::new(alloc);
     for it in found {
@@ -124,13 +124,13 @@ fn ends(alloc: Global, found: &[Found]) -> Result<Vec<u64>, AllocError> {
     Ok(ends)
 }
 
-/// Tests whether an address is among some that are in order.
+/// Tests whether an address is in a sorted list.
 fn has(ends: &[u64], address: u64) -> bool {
     let after = ends.partition_point(|end| *end < address);
     ends.get(after).copied() == Some(address)
 }
 
-/// The counters that a program keeps, if these are of them.
+/// Returns the counters that a program keeps, if these counters are among them.
 fn counters_of(pieces: Pieces<'_>, registries: &[Registry], address: u64) -> Option<Found> {
     let after = registries.partition_point(|it| it.metadata <= address);
     let registry = registries.get(after.checked_sub(1)?)?;
@@ -155,7 +155,8 @@ fn counters_of(pieces: Pieces<'_>, registries: &[Registry], address: u64) -> Opt
     })
 }
 
-/// Adds counters: all that the program keeps if a registry has them, otherwise those that were found.
+/// Adds counters. If a registry has them, adds all counters that the program keeps. Otherwise adds the counters that
+/// were found.
 fn add_counters(
     known: &mut Vec<Found>,
     pieces: Pieces<'_>,
@@ -174,7 +175,7 @@ fn add_counters(
     Ok(())
 }
 
-/// The buffers that end with the trailer after this many bytes of these words.
+/// Returns the buffers that may end with the trailer after this many bytes of these words.
 fn fits_in(alloc: Global, kind: Kind, words: &[u64], before: u64) -> Option<Fits> {
     let index = (before / 8) as usize;
     if kind != Kind::Ring {
@@ -184,7 +185,7 @@ fn fits_in(alloc: Global, kind: Kind, words: &[u64], before: u64) -> Option<Fits
     Some(fits_at(kind, formatted.as_slice(), index))
 }
 
-/// The buffers that end with a trailer, by the memory as it is now.
+/// Returns the buffers that may end with a trailer, from the memory as it is now.
 fn fits_now<R: AllocGlobal + Files + Input>(
     rt: &R,
     pieces: Pieces<'_>,
@@ -192,7 +193,7 @@ fn fits_now<R: AllocGlobal + Files + Input>(
 ) -> Option<Fits> {
     let length = trailer.kind.trailer();
     for exponent in 0..18u32 {
-        // (from the largest capacity on: the first one that memory has room for)
+        // (this begins with the largest capacity, and takes the first one for which memory has room)
         let before = MOST >> exponent;
         let Some(address) = trailer.address.checked_sub(before) else {
             continue;
@@ -204,7 +205,7 @@ fn fits_now<R: AllocGlobal + Files + Input>(
     None
 }
 
-/// Tests whether the positions of a trailer are others now.
+/// Tests whether the positions of a trailer have changed.
 fn has_changed<R: AllocGlobal + Files + Input>(
     rt: &R,
     pieces: Pieces<'_>,
@@ -216,7 +217,7 @@ fn has_changed<R: AllocGlobal + Files + Input>(
     }
 }
 
-/// The buffer that ends with a trailer, looked for again and again.
+/// Searches again and again for the buffer that ends with a trailer, and returns it.
 fn look_again<R: AllocGlobal + Clock + Files + Input>(
     rt: &R,
     pieces: Pieces<'_>,
@@ -233,7 +234,7 @@ fn look_again<R: AllocGlobal + Clock + Files + Input>(
 }
 
 impl Search {
-    /// Adds what the tables of the program name, and then what was found and is not among that.
+    /// Adds what the tables of the program name. Then adds what was found and is not named by a table.
     fn add_whole<R: AllocGlobal + Files + Input>(
         &mut self,
         rt: &R,
@@ -255,8 +256,8 @@ impl Search {
         add_counters(known, pieces, registries, counters)
     }
 
-    /// Adds the buffers of a running program that changed while they were read. Returns the trailers of those that
-    /// change all the time, so that their capacity is not known.
+    /// Adds the buffers of a running program that changed while they were read. Returns the trailers of the buffers
+    /// that change all the time. The capacity of these buffers is not known.
     fn add_changed<R: AllocGlobal + Clock + Files + Input>(
         &self,
         rt: &R,
@@ -279,8 +280,8 @@ impl Search {
         Ok(busy)
     }
 
-    /// Adds all that was found, in the order of addresses, and returns the trailers of buffers that change all the
-    /// time. If the memory is that of a running program, what changed while it was read is looked at again.
+    /// Adds all that was found, in the order of addresses. Returns the trailers of buffers that change all the time. If
+    /// the memory is that of a running program, buffers that changed while they were read are read again.
     pub fn settle<R: AllocGlobal + Clock + Files + Input>(
         &mut self,
         rt: &R,

@@ -1,14 +1,14 @@
-//! Single looks, and what several of them say together.
+//! Single looks, and the conclusions from several looks.
 use crate::fault::ShowFault;
 use ring_report::{Report, Sight};
 use std::rt::Clock;
 use std::time::{Duration, Instant};
 
-/// How many milliseconds are between a look that shows an open claim and the next one, and how long at least a consumer
-/// is blocked that is said to be: a producer whose thread does not run for a moment is not reported.
+/// The number of milliseconds between a look that shows an open claim and the next look. A consumer is reported as
+/// blocked only after this time. So a producer whose thread does not run for a moment is not reported.
 pub const PAUSE: u64 = 250;
 
-/// One look, and when it was taken.
+/// One look, and the time at which it was taken.
 #[derive(Drop)]
 pub struct Look {
     pub report: Report,
@@ -16,36 +16,37 @@ pub struct Look {
     pub end: Instant,
 }
 
-/// The time, by the clock that never goes back. `NoClock` if it cannot be read.
+/// Returns the time of a clock that never goes back. Returns `NoClock` if the clock cannot be read.
 pub fn now(rt: &impl Clock) -> Result<Instant, ShowFault<'static>> {
     Instant::now(rt).or(Err(ShowFault::NoClock))
 }
 
-/// A time in milliseconds.
+/// Returns a time in milliseconds.
 pub fn millis(time: Duration) -> u64 {
     u64::try_from(time.as_millis()).unwrap_or(u64::MAX)
 }
 
-/// What a look saw of a consumer that stops, and when that look ended.
+/// The state of a consumer that a look showed as stopped, and the time at which that look ended.
 #[derive(Clone, Copy)]
 struct Seen {
     sight: Sight,
     at: Instant,
 }
 
-/// What the looks so far say of the consumer of a ring: since when it stops at the same record with the same head.
+/// The conclusion from the looks so far about the consumer of a ring. It has the time from which on the consumer
+/// stopped at the same record with the same head.
 #[derive(Clone, Copy)]
 pub struct Watch {
     seen: Option<Seen>,
 }
 
 impl Watch {
-    /// Nothing was seen yet.
+    /// Returns a conclusion from no looks.
     pub fn new() -> Watch {
         Watch { seen: None }
     }
 
-    /// Tests whether a look shows a consumer that stops, and no look before it showed the same.
+    /// Tests whether a look shows a consumer that stops, and no earlier look showed the same.
     pub fn is_news(&self, look: &Look) -> bool {
         match (look.report.sight(), self.seen) {
             (Some(sight), Some(seen)) => sight != seen.sight,
@@ -54,9 +55,9 @@ impl Watch {
         }
     }
 
-    /// Notes a look, and returns for how many milliseconds the consumer was blocked, if an earlier look had the same
-    /// sight: from the end of the first such look to the begin of this one. A look at positions that changed all the
-    /// time says nothing.
+    /// Notes a look. If an earlier look showed the same state, returns for how many milliseconds the consumer was
+    /// blocked. The time is from the end of the first such look to the begin of this one. A look is ignored if the
+    /// positions changed all the time.
     fn blocked_ms(&mut self, report: &Report, begin: Instant, end: Instant) -> Option<u64> {
         let Some(sight) = report.sight() else {
             if report.is_settled {
@@ -73,7 +74,7 @@ impl Watch {
         None
     }
 
-    /// Notes a look, and in its report for how long the consumer was blocked, if it was.
+    /// Notes a look. If the consumer was blocked, notes in the look's report for how long.
     pub fn note(&mut self, look: &mut Look) {
         if let Some(blocked) = self.blocked_ms(&look.report, look.begin, look.end) {
             if blocked >= PAUSE {

@@ -1,5 +1,5 @@
-//! Shows what is in a ring, a broadcast buffer or counters: reads a copy of their memory, or that of a running program,
-//! and prints a table that a person reads, JSON, or the text format of Prometheus.
+//! Shows what is in a ring, a broadcast buffer or counters. The program reads a copy of their memory, or the memory of
+//! a running program. It prints a table for people to read, JSON, or the text format of Prometheus.
 #![tactic(auto)]
 
 mod arguments;
@@ -48,13 +48,13 @@ fn main(rt: HostRuntime) -> ExitCode {
     }
 }
 
-/// Prints why nothing was shown.
+/// Prints the reason why nothing was shown.
 fn failed(rt: &impl Eprint, fault: ShowFault<'_>) -> ExitCode {
     let _ = eprintln!(rt; "ring-show: {fault}");
     ExitCode::from(FAULT)
 }
 
-/// The words of the command line.
+/// Returns the words of the command line.
 fn words_of<R: AllocGlobal + Env>(rt: &R) -> Result<Vec<String>, ShowFault<'static>> {
     match env::args(rt) {
         Ok(arguments) => Ok(arguments.collect(rt.alloc())?),
@@ -63,7 +63,7 @@ fn words_of<R: AllocGlobal + Env>(rt: &R) -> Result<Vec<String>, ShowFault<'stat
     }
 }
 
-/// Parses the arguments, and does what they ask for.
+/// Parses the arguments, and does the task.
 fn run<'a, R: AllocGlobal + Clock + Files + Input + Print + Eprint>(
     rt: &R,
     words: &'a [String],

@@ -1,4 +1,4 @@
-//! What memory a process, a core file or a copy has.
+//! The memory of a process, of a core file, or of a copy.
 use crate::fault::ShowFault;
 use ring_report::{InputFault, Section, process_of, reason, section_words};
 use std::alloc::{AllocError, Global};
@@ -9,15 +9,15 @@ use std::rt::Files;
 /// A piece of memory that a program can write.
 #[derive(Clone, Copy)]
 pub struct Region {
-    /// Its address in the program.
+    /// The address in the program.
     pub address: u64,
-    /// Where it begins in the file.
+    /// The place in the file.
     pub at: u64,
-    /// Its bytes.
+    /// The number of bytes.
     pub length: u64,
 }
 
-/// The piece that a line of `/proc/PID/maps` names, if the program can write it.
+/// Returns the piece of memory of a line of `/proc/PID/maps`, if the program can write it.
 fn mapped(line: &str) -> Option<Region> {
     let (range, rest) = line.split_once(' ')?;
     let (start, end) = range.split_once('-')?;
@@ -33,7 +33,7 @@ fn mapped(line: &str) -> Option<Region> {
     })
 }
 
-/// Adds the pieces of memory that the lines of `/proc/PID/maps` name and the program can write.
+/// Adds the pieces of memory of the lines of `/proc/PID/maps` that the program can write.
 fn add_mapped(regions: &mut Vec<Region>, maps: &str) -> Result<(), AllocError> {
     for line in maps.lines() {
         if let Some(region) = mapped(line) {
@@ -43,7 +43,7 @@ fn add_mapped(regions: &mut Vec<Region>, maps: &str) -> Result<(), AllocError> {
     Ok(())
 }
 
-/// Why the memory of a process is not read.
+/// Returns the reason why the memory of a process is not read.
 fn refused(pid: &str, kind: ErrorKind) -> ShowFault<'_> {
     match kind {
         ErrorKind::NotFound => ShowFault::NoProcess { pid },
@@ -55,7 +55,7 @@ fn refused(pid: &str, kind: ErrorKind) -> ShowFault<'_> {
     }
 }
 
-/// Adds the pieces of memory of a process that it can write.
+/// Adds the pieces of memory that a process can write.
 fn add_process<'a, R: AllocGlobal + Files>(
     rt: &R,
     regions: &mut Vec<Region>,
@@ -68,8 +68,8 @@ fn add_process<'a, R: AllocGlobal + Files>(
     }
 }
 
-/// Tests whether the memory of a process can be opened. A system may allow to see which pieces it has, and not what is
-/// in them.
+/// Tests whether the memory of a process can be opened. A system may show the pieces of memory of a process, but refuse
+/// to show what is in them.
 fn check_process<'a, R: AllocGlobal + Files>(rt: &R, pid: &'a str) -> Result<(), ShowFault<'a>> {
     let path = format!(in rt.alloc(); "/proc/{pid}/mem")?;
     match fs::open(rt, path.as_str()) {
@@ -78,16 +78,16 @@ fn check_process<'a, R: AllocGlobal + Files>(rt: &R, pid: &'a str) -> Result<(),
     }
 }
 
-/// The first word of a core file: `ELF` in its 64-bit form, little-endian.
+/// The first word of a core file, which is `ELF` in its 64-bit form, little-endian.
 const CORE_MAGIC: u64 = 0x0001_0102_464c_457f;
 
-/// The bytes of a core file's header.
+/// The number of bytes of a core file's header.
 const HEADER: u64 = 64;
 
-/// The bytes of a program header.
+/// The number of bytes of a program header.
 const PROGRAM_HEADER: u64 = 56;
 
-/// The piece of memory that a program header of a core file names, if it is one that the program could write.
+/// Returns the piece of memory of a program header of a core file, if the program could write it.
 fn loaded(header: &[u64]) -> Option<Region> {
     let [flags, at, address, _, length, ..] = header else {
         return None;
@@ -103,7 +103,7 @@ fn loaded(header: &[u64]) -> Option<Region> {
     })
 }
 
-/// Where the program headers of a core file are: `None` if it is no core file.
+/// Returns the place of the program headers of a core file, or `None` if the file is not a core file.
 fn program_headers<'a>(file: &'a str, head: &[u64]) -> Option<Section<'a>> {
     let [magic, _, _, _, table, _, sizes, count] = head else {
         return None;
@@ -118,7 +118,7 @@ fn program_headers<'a>(file: &'a str, head: &[u64]) -> Option<Section<'a>> {
     })
 }
 
-/// The first words of a file.
+/// Returns the first words of a file.
 fn head_of<'a, R: AllocGlobal + Files + Input>(
     rt: &R,
     file: &'a str,
@@ -131,8 +131,8 @@ fn head_of<'a, R: AllocGlobal + Files + Input>(
     section_words(rt, section)
 }
 
-/// A piece of memory as far as the file goes. In a core file no byte of the file is in two pieces, so that all pieces
-/// together have at most as many bytes as the file: `left` of them are not in an earlier one.
+/// Returns a piece of memory, cut off at the end of the file. No byte of a core file is in two pieces. So all pieces
+/// together have at most as many bytes as the file, and `left` of these bytes are not in an earlier piece.
 fn bounded(region: Region, file: u64, left: u64) -> Region {
     Region {
         address: region.address,
@@ -141,7 +141,7 @@ fn bounded(region: Region, file: u64, left: u64) -> Region {
     }
 }
 
-/// Adds the pieces of memory that the program headers of a core file of this many bytes name.
+/// Adds the pieces of memory of the program headers of a core file, which has this many bytes.
 fn add_loaded(regions: &mut Vec<Region>, headers: &[u64], file: u64) -> Result<(), AllocError> {
     let mut left = file;
     for header in headers.chunks(7) {
@@ -157,7 +157,7 @@ fn add_loaded(regions: &mut Vec<Region>, headers: &[u64], file: u64) -> Result<(
     Ok(())
 }
 
-/// The bytes of a file, 0 if it does not say.
+/// Returns the number of bytes of a file, or 0 if the system does not say it.
 fn length_of<R: AllocGlobal + Files>(rt: &R, file: &str) -> u64 {
     match fs::metadata(rt, file) {
         Ok(metadata) => metadata.len(),
@@ -165,7 +165,7 @@ fn length_of<R: AllocGlobal + Files>(rt: &R, file: &str) -> u64 {
     }
 }
 
-/// Adds the pieces of memory in a core file; of any other file all of it.
+/// Adds the pieces of memory of a core file, or all of any other file.
 fn add_file<'a, R: AllocGlobal + Files + Input>(
     rt: &R,
     regions: &mut Vec<Region>,
@@ -184,7 +184,8 @@ fn add_file<'a, R: AllocGlobal + Files + Input>(
     Ok(add_loaded(regions, headers.as_slice(), length)?)
 }
 
-/// The number of the process that a name means: the number itself, or the name of the file with its memory.
+/// Returns the number of the process that a name means. The name is the number itself, or the name of the file with the
+/// memory of the process.
 pub fn pid_of(name: &str) -> Option<&str> {
     if !name.is_empty() && name.bytes().all(|byte| byte.is_ascii_digit()) {
         Some(name)
@@ -193,7 +194,8 @@ pub fn pid_of(name: &str) -> Option<&str> {
     }
 }
 
-/// The file that has the memory of a process, if the name means one, otherwise the one with this name.
+/// Returns the file with the memory of a process, if the name means a process. Otherwise returns the file with this
+/// name.
 pub fn file_of(alloc: Global, name: &str) -> Result<String, AllocError> {
     match pid_of(name) {
         Some(pid) => format!(in alloc; "/proc/{pid}/mem"),
@@ -201,11 +203,11 @@ pub fn file_of(alloc: Global, name: &str) -> Result<String, AllocError> {
     }
 }
 
-/// Adds the pieces of memory of a process, if the name means one, otherwise those in a file, in the order of their
-/// addresses.
+/// Adds the pieces of memory of a process, if the name means a process, and otherwise those of a file. The pieces are
+/// in the order of their addresses.
 ///
-/// `NoProcess` if there is no such process, `NotAllowed` if its memory may not be read, `NoMemory` if it cannot be read
-/// for another reason, and `Input` for a file that cannot be read.
+/// Returns `NoProcess` if there is no such process, `NotAllowed` if its memory may not be read, and `NoMemory` if the
+/// memory cannot be read for another reason. Returns `Input` if a file cannot be read.
 pub fn add_regions<'a, R: AllocGlobal + Files + Input>(
     rt: &R,
     regions: &mut Vec<Region>,

@@ -1,4 +1,4 @@
-//! Looking at what has a known place, again and again.
+//! Takes looks at memory whose place is known, again and again.
 use crate::fault::ShowFault;
 use crate::look::{Look, PAUSE, Watch, millis, now};
 use crate::options::{Format, Options};
@@ -10,10 +10,10 @@ use std::rt::{Clock, Files};
 use std::thread::sleep;
 use std::time::Duration;
 
-/// What clears a terminal.
+/// The text that clears a terminal.
 pub const CLEAR: &str = "\x1b[H\x1b[2J";
 
-/// Prints after a table how fast it changed since the look before.
+/// Prints the rates since the look before, after a table.
 fn print_rates<R: AllocGlobal + Print>(
     rt: &R,
     format: Format,
@@ -39,8 +39,8 @@ fn look_at<'a, R: AllocGlobal + Clock + Files + Input>(
     Ok(Look { report, begin, end })
 }
 
-/// Takes a look, and a second one after a pause if the first one shows in a running program a consumer that stops, and
-/// no look before showed the same.
+/// Takes a look. If the look shows a consumer that stops in a running program, and no earlier look showed the same,
+/// takes a second look after a pause.
 fn look_closely<'a, R: AllocGlobal + Clock + Files + Input>(
     rt: &R,
     options: Options<'a>,
@@ -56,12 +56,14 @@ fn look_closely<'a, R: AllocGlobal + Clock + Files + Input>(
     Ok(look)
 }
 
-/// Tests whether a report fails: for its findings, or for a consumer that is blocked if that is to fail.
+/// Tests whether a report is sound. It is not sound if it has findings, or if a consumer is blocked and the options say
+/// that this is a failure.
 fn is_sound(options: Options<'_>, report: &Report, has_none: bool) -> bool {
     has_none && !(options.fails_if_blocked && report.is_blocked())
 }
 
-/// Prints a look, and how fast it changed since the look before, if there was one. Returns whether it has no findings.
+/// Prints a look. If there was a look before, also prints the rates since then. Returns whether the look has no
+/// findings.
 fn print_look<R: AllocGlobal + Print + Eprint>(
     rt: &R,
     options: Options<'_>,
@@ -83,8 +85,9 @@ fn print_look<R: AllocGlobal + Print + Eprint>(
     Ok(is_sound(options, &look.report, has_none))
 }
 
-/// Shows what a command line names: once, or again and again until it was shown often enough or the program is
-/// interrupted. A terminal is cleared before each look of several. The status is that of the last look.
+/// Shows what a command line names, once or again and again. Stops after the last look that was asked for, or when the
+/// program is interrupted. If there are several looks, a terminal is cleared before each of them. The status is that of
+/// the last look.
 pub fn show_often<'a, R: AllocGlobal + Clock + Files + Input + Print + Eprint>(
     rt: &R,
     options: Options<'a>,

@@ -1,4 +1,4 @@
-//! The command line.
+//! The options of the command line.
 use crate::arguments::ARGUMENTS;
 use crate::fault::ShowFault;
 use crate::help;
@@ -8,24 +8,24 @@ use clap::{ArgMatches, Command, Error};
 use ring_report::{Bodies, Origin, Section, View, process_of};
 use std::alloc::{AllocError, Global};
 
-/// What is shown, and the source of its memory.
+/// The subject that is shown, and the source of its memory.
 #[derive(Clone, Copy)]
 pub enum Subject<'a> {
     Ring {
         words: Section<'a>,
-        /// Where its bodies begin in the file, if they lie apart.
+        /// The place in the file at which the bodies begin, if they are stored separately.
         bodies_at: Option<u64>,
     },
     Board(Section<'a>),
     Counters {
         metadata: Section<'a>,
-        /// `None` if it is not known where they are.
+        /// The section of the values, or `None` if their place is not known.
         values: Option<Section<'a>>,
     },
 }
 
 impl<'a> Subject<'a> {
-    /// The section with its words, or with the metadata of counters.
+    /// Returns the section of the subject's words, or of the metadata of counters.
     fn section(self) -> Section<'a> {
         match self {
             Subject::Ring { words, .. } => words,
@@ -35,17 +35,17 @@ impl<'a> Subject<'a> {
     }
 }
 
-/// What a command line asks for.
+/// The task that a command line asks for.
 #[derive(Clone, Copy)]
 pub enum Task<'a> {
-    /// To show what has a known place.
+    /// Shows a subject whose place is known.
     Show(Options<'a>),
-    /// To look for rings, broadcast buffers and counters in the memory of a process or in a file, and to look at them.
+    /// Finds rings, broadcast buffers and counters in the memory of a process or in a file, and takes looks at them.
     Find {
         memory: &'a str,
         wanted: Wanted,
     },
-    /// To show a command-and-control file.
+    /// Shows a command-and-control file.
     Cnc {
         file: &'a str,
         view: View,
@@ -53,7 +53,7 @@ pub enum Task<'a> {
     },
 }
 
-/// What is printed.
+/// The format of the output.
 #[derive(Clone, Copy)]
 pub enum Format {
     Table,
@@ -69,18 +69,18 @@ pub struct Options<'a> {
     pub subject: Subject<'a>,
     pub view: View,
     pub format: Format,
-    /// How many milliseconds pass between two looks, if there is to be more than one.
+    /// The number of milliseconds between two looks, if there is more than one look.
     pub every: Option<u64>,
-    /// How many looks there are at most.
+    /// The largest number of looks.
     pub times: u64,
-    /// What its user calls it.
+    /// The name that the user gave to the subject.
     pub name: Option<&'a str>,
-    /// Whether a consumer that is blocked gives status 1.
+    /// Whether a blocked consumer gives the status 1.
     pub fails_if_blocked: bool,
 }
 
 impl<'a> Options<'a> {
-    /// The file and the place of it.
+    /// Returns the file of the subject, and its place in the file.
     pub fn origin(self) -> Origin<'a> {
         let Section { file, at, .. } = self.subject.section();
         Origin {
@@ -90,18 +90,18 @@ impl<'a> Options<'a> {
         }
     }
 
-    /// Tests whether it is in the memory of a running program.
+    /// Tests whether the subject is in the memory of a running program.
     pub fn is_live(self) -> bool {
         process_of(self.subject.section().file).is_some()
     }
 
-    /// Tests whether a look is one of several.
+    /// Tests whether a look is one of several looks.
     pub fn is_one_of_several(self) -> bool {
         self.every.is_some() || self.times > 1
     }
 }
 
-/// The subcommands, and what is said of them.
+/// The subcommands, with their descriptions.
 static SUBCOMMANDS: [(&str, &str); 6] = [
     (
         "ring",
@@ -129,7 +129,7 @@ static SUBCOMMANDS: [(&str, &str); 6] = [
     ),
 ];
 
-/// A subcommand with its arguments.
+/// Returns a subcommand with its arguments.
 fn subcommand<'a>(alloc: Global, name: &'a str, about: &'a str) -> Result<Command<'a>, AllocError> {
     let mut command = Command::new(alloc, name).about(about);
     for argument in ARGUMENTS.iter() {
@@ -140,7 +140,7 @@ fn subcommand<'a>(alloc: Global, name: &'a str, about: &'a str) -> Result<Comman
     Ok(command)
 }
 
-/// The command without its subcommands.
+/// Returns the command without its subcommands.
 fn bare<'a>(alloc: Global) -> Result<Command<'a>, AllocError> {
     let command = Command::new(alloc, "ring-show").bin_name("ring-show")?;
     let command = command.version(help::VERSION).about(help::ABOUT);
@@ -156,7 +156,8 @@ fn command<'a>(alloc: Global) -> Result<Command<'a>, AllocError> {
     Ok(command)
 }
 
-/// The name of the subcommand, and its arguments, from the words of a command line, the program's name first.
+/// Returns the name and the arguments of the subcommand, from the words of a command line. The first word is the
+/// program's name.
 pub fn parse<'a>(alloc: Global, words: &'a [String]) -> Result<(&'a str, ArgMatches<'a>), Error> {
     let mut matches = command(alloc)?.try_get_matches_from(words)?;
     match matches.remove_subcommand() {
@@ -165,7 +166,7 @@ pub fn parse<'a>(alloc: Global, words: &'a [String]) -> Result<(&'a str, ArgMatc
     }
 }
 
-/// The number that a text spells, decimal or hexadecimal after `0x`.
+/// Returns the number of a text. It is decimal, or hexadecimal after `0x`.
 fn bytes_of(text: &str) -> Option<u64> {
     let parsed = match text.strip_prefix("0x") {
         Some(digits) => u64::from_str_radix(digits, 16),
@@ -174,7 +175,7 @@ fn bytes_of(text: &str) -> Option<u64> {
     parsed.ok()
 }
 
-/// The number of bytes that an option has, if it is there.
+/// Returns the number of bytes of an option, if the option is there.
 fn bytes<'a>(matches: &ArgMatches<'a>, name: &'static str) -> Result<Option<u64>, ShowFault<'a>> {
     let Some(text) = matches.get_str(name) else {
         return Ok(None);
@@ -188,7 +189,7 @@ fn bytes<'a>(matches: &ArgMatches<'a>, name: &'static str) -> Result<Option<u64>
     }
 }
 
-/// The section that these three arguments name.
+/// Returns the section of these three arguments.
 fn section<'a>(
     matches: &ArgMatches<'a>,
     file: &str,
@@ -202,7 +203,7 @@ fn section<'a>(
     })
 }
 
-/// The section of the values of counters, if their file is named.
+/// Returns the section of the values of counters, if their file is named.
 fn values_of<'a>(matches: &ArgMatches<'a>) -> Result<Option<Section<'a>>, ShowFault<'a>> {
     if matches.get_str("VALUES").is_none() {
         return Ok(None);
@@ -211,7 +212,8 @@ fn values_of<'a>(matches: &ArgMatches<'a>) -> Result<Option<Section<'a>>, ShowFa
     Ok(Some(values))
 }
 
-/// A ring as a subject. `BodiesOfInput` if its bodies lie apart and it is on standard input.
+/// Returns a ring as a subject. Returns `BodiesOfInput` if its bodies are stored separately and the ring is on standard
+/// input.
 fn ring_of<'a>(words: Section<'a>, bodies_at: Option<u64>) -> Result<Subject<'a>, ShowFault<'a>> {
     if bodies_at.is_some() && words.file == "-" {
         return Err(ShowFault::BodiesOfInput);
@@ -219,7 +221,7 @@ fn ring_of<'a>(words: Section<'a>, bodies_at: Option<u64>) -> Result<Subject<'a>
     Ok(Subject::Ring { words, bodies_at })
 }
 
-/// The source of what a subcommand shows. `NotBytes` and `BodiesOfInput` as for `task_of`.
+/// Returns the source of what a subcommand shows. The faults `NotBytes` and `BodiesOfInput` are as for `task_of`.
 fn subject_of<'a>(name: &str, matches: &ArgMatches<'a>) -> Result<Subject<'a>, ShowFault<'a>> {
     Ok(match name {
         "board" => Subject::Board(section(matches, "FILE", "at", "length")?),
@@ -234,7 +236,7 @@ fn subject_of<'a>(name: &str, matches: &ArgMatches<'a>) -> Result<Subject<'a>, S
     })
 }
 
-/// The most pieces in which a buffer is drawn.
+/// Returns the largest number of pieces in which a buffer is drawn.
 fn width_of(matches: &ArgMatches<'_>, screen: Screen) -> u32 {
     let width: Option<u64> = matches.get_one("width");
     match width {
@@ -243,7 +245,7 @@ fn width_of(matches: &ArgMatches<'_>, screen: Screen) -> u32 {
     }
 }
 
-/// How it is to be shown.
+/// Returns the options of the report.
 fn view_of(matches: &ArgMatches<'_>, screen: Screen) -> View {
     View {
         from: matches.get_one("from"),
@@ -266,8 +268,8 @@ fn format_of(matches: &ArgMatches<'_>, screen: Screen) -> Format {
     }
 }
 
-/// How many looks there are at most, if the option does not say: one, or with more than one to be taken no bound.
-/// `NoLook` if it says none.
+/// Returns the largest number of looks. If no option says it, this is one look, or no bound if the looks are to be
+/// repeated. Returns `NoLook` if the option says 0.
 fn times_of<'a>(matches: &ArgMatches<'a>, is_again: bool) -> Result<u64, ShowFault<'a>> {
     let times: Option<u64> = matches.get_one("times");
     match times {
@@ -278,7 +280,7 @@ fn times_of<'a>(matches: &ArgMatches<'a>, is_again: bool) -> Result<u64, ShowFau
     }
 }
 
-/// What the arguments of a subcommand that shows a known place ask for. The faults are as for `task_of`.
+/// Returns the options of a subcommand that shows a subject whose place is known. The faults are as for `task_of`.
 fn options_of<'a>(
     name: &str,
     matches: &ArgMatches<'a>,
@@ -296,7 +298,7 @@ fn options_of<'a>(
     })
 }
 
-/// What `find` asks for: one round of looks, which are listed by their summaries.
+/// Returns the options of `find`. It has one round of looks, and lists each of them by its summary.
 fn find_wanted(matches: &ArgMatches<'_>, screen: Screen) -> Wanted {
     Wanted {
         format: format_of(matches, screen),
@@ -308,7 +310,7 @@ fn find_wanted(matches: &ArgMatches<'_>, screen: Screen) -> Wanted {
     }
 }
 
-/// What `watch` asks for. `NoLook` if it asks for none.
+/// Returns the options of `watch`. Returns `NoLook` if the options ask for no look.
 fn watch_wanted<'a>(matches: &ArgMatches<'a>, screen: Screen) -> Result<Wanted, ShowFault<'a>> {
     let (every, limit): (Option<u64>, Option<u64>) = (
         matches.get_one("every"),
@@ -324,8 +326,9 @@ fn watch_wanted<'a>(matches: &ArgMatches<'a>, screen: Screen) -> Result<Wanted, 
     })
 }
 
-/// What a subcommand's arguments ask for. `NotBytes` if an offset or a length is no number, `BodiesOfInput` if bodies
-/// that lie apart are to be read from standard input, `NoLook` if there is to be no look.
+/// Returns the task of a subcommand with its arguments. Returns `NotBytes` if an offset or a length is not a number,
+/// and `NoLook` if the options ask for no look. Returns `BodiesOfInput` if separate bodies are to be read from standard
+/// input.
 pub fn task_of<'a>(
     name: &str,
     matches: &ArgMatches<'a>,

@@ -1,4 +1,4 @@
-//! Rings, broadcast buffers and counters in pieces of memory.
+//! The search for rings, broadcast buffers and counters in pieces of memory.
 use crate::fault::ShowFault;
 use crate::found::{Found, Kind};
 use crate::memory::Region;
@@ -10,29 +10,29 @@ use std::alloc::{AllocError, Global};
 use std::io::Input;
 use std::rt::Files;
 
-/// The bytes whose words are looked at in one window: those of the largest buffer.
+/// The number of bytes that are searched in one window, which is that of the largest buffer.
 const STEP: u64 = 1 << 24;
 
-/// The bytes of a window after these: those of the largest trailer.
+/// The number of bytes of a window after these, which is that of the largest trailer.
 const AFTER: u64 = 768;
 
-/// The most bytes of a window.
+/// The largest number of bytes of a window.
 pub const WINDOW: u64 = 2 * STEP + AFTER;
 
 /// Words of memory, and the place of the first of them.
 #[derive(Clone, Copy)]
 struct Window<'a> {
     words: &'a [u64],
-    /// The words in the format, as those of a ring whose bodies are not apart.
+    /// The words in the format, as those of a ring whose bodies are not stored separately.
     formatted: &'a [u64],
-    /// Its address in the program.
+    /// The address in the program.
     address: u64,
-    /// The start of it in the file.
+    /// The place in the file.
     at: u64,
 }
 
 impl<'a> Window<'a> {
-    /// The bytes before a word.
+    /// Returns the number of bytes before a word.
     fn offset(self, index: usize) -> u64 {
         (index as u64).saturating_mul(8)
     }
@@ -46,14 +46,14 @@ pub struct Unread {
     pub cause: Cause,
 }
 
-/// What a search has found.
+/// The results of a search.
 #[derive(Drop)]
 pub struct Search {
     /// Rings and broadcast buffers.
     pub found: Vec<Found>,
     /// Counters, by the metadata of those in use.
     pub counters: Vec<Found>,
-    /// Places like a trailer, before which no buffer was found.
+    /// Places with words like those of a trailer, before which no buffer was found.
     pub trailers: Vec<Trailer>,
     pub rings: Vec<Table>,
     pub boards: Vec<Table>,
@@ -62,7 +62,7 @@ pub struct Search {
 }
 
 impl Search {
-    /// A search that has not begun.
+    /// Returns a search that has not begun.
     pub fn new(alloc: Global) -> Search {
         Search {
             found: Vec::new(alloc),
@@ -75,7 +75,7 @@ impl Search {
         }
     }
 
-    /// Adds the buffer that ends with a trailer, or the trailer if there is none.
+    /// Adds the buffer that ends with a trailer. If there is no such buffer, adds the trailer.
     fn add_trailer(
         &mut self,
         window: Window<'_>,
@@ -100,7 +100,7 @@ impl Search {
         }
     }
 
-    /// Adds the table that begins with these words, if one does.
+    /// Adds the table that begins with these words, if there is one.
     fn add_table(&mut self, words: &[u64]) -> Result<(), AllocError> {
         if let Some(table) = ring_table(words) {
             self.rings.push(table)?;
@@ -112,7 +112,7 @@ impl Search {
         Ok(())
     }
 
-    /// Adds what begins, or has its trailer, at a word.
+    /// Adds the objects that begin at a word, or whose trailer begins there.
     fn add_at(&mut self, window: Window<'_>, index: usize) -> Result<(), AllocError> {
         let Some(words) = window.words.get(index..) else {
             return Ok(());
@@ -123,7 +123,7 @@ impl Search {
         self.add_table(words)
     }
 
-    /// Adds the metadata of a counter: to the counters before it, if it goes on there.
+    /// Adds the metadata of a counter. If the counters before it go on there, adds it to them.
     fn add_counter(&mut self, new: Found) -> Result<(), AllocError> {
         if let Some(last) = self.counters.as_mut_slice().last_mut() {
             if last.goes_on_at(new.address) {
@@ -164,7 +164,7 @@ impl Search {
         Ok(())
     }
 
-    /// Adds all that begins, or has its trailer, at these words.
+    /// Adds all objects that begin at these words, or whose trailer begins there.
     fn add_all(&mut self, window: Window<'_>, from: usize, to: usize) -> Result<(), AllocError> {
         for index in from..to {
             self.add_at(window, index)?;
@@ -172,8 +172,8 @@ impl Search {
         self.add_counters(window, from, to)
     }
 
-    /// Looks at the words of a piece of memory from an offset on, a step of them: the window has those before them, in
-    /// which a buffer may begin that ends there, and those of a trailer after them.
+    /// Searches one step of the words of a piece of memory, from an offset on. The window also has the words before the
+    /// step, since a buffer that ends in the step may begin there. And it has the words of a trailer after the step.
     fn look_into<R: AllocGlobal + Files + Input>(
         &mut self,
         rt: &R,
@@ -224,7 +224,7 @@ impl Search {
         Ok(())
     }
 
-    /// Looks at all words of a piece of memory.
+    /// Searches all words of a piece of memory.
     fn look_through<R: AllocGlobal + Files + Input>(
         &mut self,
         rt: &R,
@@ -239,8 +239,8 @@ impl Search {
         Ok(())
     }
 
-    /// Looks at all words of these pieces of memory, which are in the order of their addresses. What cannot be read is
-    /// noted.
+    /// Searches all words of these pieces of memory, which are in the order of their addresses. Notes the memory that
+    /// cannot be read.
     pub fn look<R: AllocGlobal + Files + Input>(
         &mut self,
         rt: &R,

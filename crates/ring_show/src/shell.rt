@@ -2,8 +2,8 @@
 use ring_report::is_control;
 use std::fmt;
 
-/// The name of a file as a word of a command line: between quotes if a shell would read it otherwise, with `./` before
-/// it if it would be an option, and with its control characters as numbers, so that it changes no terminal.
+/// The name of a file as a word of a command line, for a shell. It is between quotes if a shell would change it. It has
+/// `./` before it if it would be an option. Control characters are numbers, so that they cannot change a terminal.
 #[derive(Clone, Copy)]
 pub struct Quoted<'a>(pub &'a str);
 
@@ -25,7 +25,7 @@ fn write_quoted<W: fmt::Write>(f: &mut fmt::Formatter<W>, letter: char) -> fmt::
     }
 }
 
-/// Writes the bytes of a control character: it has one byte in UTF-8, or two.
+/// Writes the bytes of a control character, which has one byte or two bytes in UTF-8.
 fn write_control<W: fmt::Write>(f: &mut fmt::Formatter<W>, letter: char) -> fmt::Result {
     let number = u32::from(letter);
     if number < 0x80 {

@@ -1,4 +1,4 @@
-//! Reading what a command line names, and printing it once.
+//! Reads what a command line names, and prints it once.
 use crate::fault::ShowFault;
 use crate::options::{Format, Subject};
 use ring_report::{
@@ -13,7 +13,7 @@ use std::rt::Files;
 /// The status if the memory has a finding.
 const FINDING: u8 = 1;
 
-/// Reads a ring, and says what is in it.
+/// Reads a ring, and returns its report.
 fn report_of_ring<'a, R: AllocGlobal + Files + Input>(
     rt: &R,
     section: Section<'a>,
@@ -25,7 +25,7 @@ fn report_of_ring<'a, R: AllocGlobal + Files + Input>(
     Ok(note_settled(report, is_settled)?)
 }
 
-/// Reads a broadcast buffer, and says what is in it.
+/// Reads a broadcast buffer, and returns its report.
 fn report_of_board<'a, R: AllocGlobal + Files + Input>(
     rt: &R,
     section: Section<'a>,
@@ -36,7 +36,7 @@ fn report_of_board<'a, R: AllocGlobal + Files + Input>(
     Ok(note_settled(report, is_settled)?)
 }
 
-/// Reads counters, and says what is in them.
+/// Reads counters, and returns their report.
 pub fn report_of_counters<'a, R: AllocGlobal + Files + Input>(
     rt: &R,
     metadata: Section<'a>,
@@ -54,7 +54,7 @@ pub fn report_of_counters<'a, R: AllocGlobal + Files + Input>(
     }
 }
 
-/// Reads the files, and says what is in them.
+/// Reads the files, and returns the report.
 pub fn report_of<'a, R: AllocGlobal + Files + Input>(
     rt: &R,
     subject: Subject<'a>,
@@ -75,7 +75,7 @@ pub fn print_text(rt: &impl Print, text: &str) -> Result<(), ShowFault<'static>>
     }
 }
 
-/// The text of a report. JSON is on one line if it is one document of several.
+/// Returns the text of a report. If it is one of several documents, JSON is on one line.
 fn text_of(
     alloc: Global,
     labelled: Labelled<'_>,
@@ -92,7 +92,7 @@ fn text_of(
     }
 }
 
-/// Prints the findings of a report on standard error. Returns whether there are none.
+/// Prints the findings of a report on standard error. Returns whether there are no findings.
 pub fn print_findings(rt: &impl Eprint, report: &Report) -> bool {
     for finding in report.findings.iter() {
         let _ = eprintln!(rt; "{finding}");
@@ -100,7 +100,7 @@ pub fn print_findings(rt: &impl Eprint, report: &Report) -> bool {
     report.findings.is_empty()
 }
 
-/// Prints a report, and then its findings on standard error. Returns whether there are none.
+/// Prints a report, and then its findings on standard error. Returns whether there are no findings.
 pub fn print_report<R: AllocGlobal + Print + Eprint>(
     rt: &R,
     labelled: Labelled<'_>,
@@ -112,7 +112,7 @@ pub fn print_report<R: AllocGlobal + Print + Eprint>(
     Ok(print_findings(rt, labelled.report))
 }
 
-/// The status of memory in which nothing, or something, is wrong.
+/// Returns the exit status. It is 0 if nothing is wrong with the memory, and 1 otherwise.
 pub fn status_of(is_sound: bool) -> ExitCode {
     if is_sound {
         ExitCode::SUCCESS

@@ -1,37 +1,37 @@
-//! What a program itself keeps of where its rings, broadcast buffers and counters are.
+//! The tables in which a program itself keeps the places of its rings, broadcast buffers and counters.
 use crate::memory::Region;
 
-/// The words of a ring's trailer.
+/// The number of words of a ring's trailer.
 const RING_TRAILER: u64 = 96;
 
-/// The words of a broadcast buffer's trailer.
+/// The number of words of a broadcast buffer's trailer.
 const BOARD_TRAILER: u64 = 16;
 
-/// The words of a buffer of 2^24 bytes, the most.
+/// The number of words of the largest buffer, which has 2^24 bytes.
 const MOST: u64 = 1 << 21;
 
-/// The bytes of a counter's metadata.
+/// The number of bytes of a counter's metadata.
 pub const METADATA: u64 = 512;
 
-/// The bytes of a counter's value record, as a program keeps it.
+/// The number of bytes of a counter's value record in a running program.
 const VALUES: u64 = 24;
 
-/// The most counters.
+/// The largest number of counters.
 const MOST_COUNTERS: u64 = 4096;
 
-/// What a program keeps of a ring whose bodies lie apart, or of a broadcast buffer.
+/// The table of a ring whose bodies are stored separately, or of a broadcast buffer.
 #[derive(Clone, Copy)]
 pub struct Table {
-    /// The address of its words.
+    /// The address of the words.
     pub words: u64,
-    /// The address of its bodies, of a ring.
+    /// The address of the bodies, if it is a ring.
     pub bodies: u64,
-    /// The bytes of its buffer.
+    /// The number of bytes of the buffer.
     pub capacity: u64,
 }
 
-/// What a program keeps of counters: two lists, each with its address, its length and the room that it has, and then a
-/// third one of the same length.
+/// The registry of counters of a program. It has two lists, each with its address, its length and its capacity, and
+/// then a third list of the same length.
 #[derive(Clone, Copy)]
 pub struct Registry {
     /// The address of the metadata.
@@ -52,8 +52,8 @@ fn is_size(words: u64) -> bool {
     words.is_power_of_two() && words <= MOST
 }
 
-/// The table of a ring that begins with these words, if they are one: the addresses of its words and of its bodies, the
-/// number of all its words, and that of its bodies.
+/// Returns the table of a ring that begins with these words, if there is one. The table has the addresses of the ring's
+/// words and of its bodies, and the numbers of words of both.
 pub fn ring_table(words: &[u64]) -> Option<Table> {
     let [words, bodies, all, count, ..] = words else {
         return None;
@@ -71,8 +71,8 @@ pub fn ring_table(words: &[u64]) -> Option<Table> {
     })
 }
 
-/// The table of a broadcast buffer that begins with these words, if they are one: as that of a ring, but with no words
-/// for bodies.
+/// Returns the table of a broadcast buffer that begins with these words, if there is one. It is like that of a ring,
+/// but without words for bodies.
 pub fn board_table(words: &[u64]) -> Option<Table> {
     let [words, _, all, 0, ..] = words else {
         return None;
@@ -88,7 +88,7 @@ pub fn board_table(words: &[u64]) -> Option<Table> {
     })
 }
 
-/// The registry of counters that begins with these words, if they are one.
+/// Returns the registry of counters that begins with these words, if there is one.
 pub fn registry_in(words: &[u64]) -> Option<Registry> {
     let [metadata, ids, room, values, second, other, flags, third, ..] = words else {
         return None;
@@ -108,17 +108,17 @@ pub fn registry_in(words: &[u64]) -> Option<Registry> {
 }
 
 impl Registry {
-    /// The bytes of the metadata.
+    /// Returns the number of bytes of the metadata.
     pub fn metadata_length(self) -> u64 {
         self.ids.saturating_mul(METADATA)
     }
 
-    /// The bytes of the value records.
+    /// Returns the number of bytes of the value records.
     pub fn values_length(self) -> u64 {
         self.ids.saturating_mul(VALUES)
     }
 
-    /// Tests whether the metadata of one of its counters are at an address.
+    /// Tests whether the metadata of one of these counters are at an address.
     pub fn has(self, address: u64) -> bool {
         match address.checked_sub(self.metadata) {
             Some(offset) => offset < self.metadata_length() && offset % METADATA == 0,
@@ -127,8 +127,8 @@ impl Registry {
     }
 }
 
-/// Where these bytes of a program begin in the file, if a piece of memory has all of them. The pieces are in the order
-/// of their addresses.
+/// Returns the place in the file of these bytes of a program, if one piece of memory has all of them. The pieces are in
+/// the order of their addresses.
 pub fn place_of(regions: &[Region], address: u64, length: u64) -> Option<u64> {
     let after = regions.partition_point(|region| region.address <= address);
     let region = regions.get(after.checked_sub(1)?)?;

@@ -1,14 +1,14 @@
-//! Trailers of rings and of broadcast buffers among words of memory, and the buffers that end with them.
+//! The search for trailers of rings and of broadcast buffers among words of memory, and the buffers that end with them.
 use crate::found::{Found, Kind};
 use ring_snapshot::{next_board, next_ring};
 
-/// The words of a ring's trailer.
+/// The number of words of a ring's trailer.
 const RING_WORDS: usize = 96;
 
-/// The words of a broadcast buffer's trailer.
+/// The number of words of a broadcast buffer's trailer.
 const BOARD_WORDS: usize = 16;
 
-/// The most bytes between head and tail.
+/// The largest number of bytes between the head and the tail.
 const MOST: u64 = 1 << 24;
 
 /// The greatest position of a ring.
@@ -18,15 +18,16 @@ const LAST: u64 = 1 << 62;
 #[derive(Clone, Copy)]
 pub struct Trailer {
     pub kind: Kind,
-    /// Its address in the program.
+    /// The address in the program.
     pub address: u64,
-    /// Where it begins in the file.
+    /// The place in the file.
     pub at: u64,
-    /// Two of its positions, as they were seen.
+    /// Two of the positions in it, as they were read.
     pub positions: (u64, u64),
 }
 
-/// The capacities of the buffers that may end with a trailer: each is a power of two, so that their sum names them.
+/// The sum of the capacities of the buffers that may end with a trailer. Each capacity is a power of two, so the sum
+/// determines them.
 #[derive(Clone, Copy)]
 pub struct Fits {
     pub largest: u32,
@@ -82,7 +83,7 @@ fn is_board(words: &[u64]) -> bool {
         && has_clear_board(words)
 }
 
-/// What ends with the trailer with which the words begin, if they begin with one.
+/// Returns the kind of the trailer with which the words begin, if they begin with a trailer.
 pub fn kind_of(words: &[u64]) -> Option<Kind> {
     if is_ring(words) {
         Some(Kind::Ring)
@@ -93,7 +94,7 @@ pub fn kind_of(words: &[u64]) -> Option<Kind> {
     }
 }
 
-/// Two positions of the trailer with which the words begin.
+/// Returns two positions of the trailer with which the words begin.
 pub fn positions(kind: Kind, words: &[u64]) -> (u64, u64) {
     let (first, second) = if kind == Kind::Ring { (16, 48) } else { (0, 1) };
     (
@@ -119,7 +120,8 @@ fn is_one(kind: Kind, words: &[u64], index: usize, capacity: u32) -> bool {
     }
 }
 
-/// The capacities of the buffers that end with the trailer at an index. The words of rings are in the format.
+/// Returns the capacities of the buffers that may end with the trailer at an index. The words of rings are in the
+/// format.
 pub fn fits_at(kind: Kind, words: &[u64], index: usize) -> Fits {
     let mut fits = Fits { largest: 0, all: 0 };
     // (capacities are powers of two, up to 2^24)
@@ -136,7 +138,7 @@ pub fn fits_at(kind: Kind, words: &[u64], index: usize) -> Fits {
 }
 
 impl Trailer {
-    /// The buffer that ends here, if one of these capacities does.
+    /// Returns the buffer that ends here, if one of these capacities fits.
     pub fn found(self, fits: Fits) -> Option<Found> {
         let capacity = u64::from(fits.largest);
         if capacity == 0 {

@@ -1,4 +1,4 @@
-//! Looking at all that was found, once for `find`, and again and again for `watch`.
+//! Takes looks at all that was found, once for `find`, and again and again for `watch`.
 use crate::fault::ShowFault;
 use crate::found::{Found, Kind};
 use crate::look::{Look, PAUSE, Watch, millis, now};
@@ -16,21 +16,22 @@ use std::rt::{Clock, Files};
 use std::thread::sleep;
 use std::time::Duration;
 
-/// What a command line asks for of all that is found.
+/// The options for all that is found.
 #[derive(Clone, Copy)]
 pub struct Wanted {
     pub format: Format,
-    /// How many milliseconds pass between two rounds of looks; `None` for one round.
+    /// The number of milliseconds between two rounds of looks, or `None` for one round.
     pub every: Option<u64>,
-    /// How many rounds there are at most.
+    /// The largest number of rounds.
     pub times: u64,
-    /// How many records or counters are listed at most. `None` lists each by its summary and its command.
+    /// The largest number of records or counters that are listed. If it is `None`, each object is listed by its summary
+    /// and its command.
     pub limit: Option<u64>,
     pub width: u32,
     pub fails_if_blocked: bool,
 }
 
-/// What was found, and what the looks so far say of it.
+/// An object that was found, and the conclusion from the looks so far.
 #[derive(Drop)]
 pub struct Watched {
     found: Found,
@@ -40,7 +41,7 @@ pub struct Watched {
     before: Option<Look>,
 }
 
-/// The bytes of a file that something has.
+/// Returns the section of a file with this place and this length.
 fn section(file: &str, at: u64, length: u64) -> Section<'_> {
     Section {
         file,
@@ -49,7 +50,7 @@ fn section(file: &str, at: u64, length: u64) -> Section<'_> {
     }
 }
 
-/// Reads a ring or a broadcast buffer, and says what is in it, without bodies.
+/// Reads a ring or a broadcast buffer, and returns its report without bodies.
 fn buffer_report<'a, R: AllocGlobal + Files + Input>(
     rt: &R,
     section: Section<'a>,
@@ -66,7 +67,7 @@ fn buffer_report<'a, R: AllocGlobal + Files + Input>(
     Ok(note_settled(report, is_settled)?)
 }
 
-/// Reads what was found, and says what is in it.
+/// Reads an object that was found, and returns its report.
 fn report_of<'a, R: AllocGlobal + Files + Input>(
     rt: &R,
     file: &'a str,
@@ -83,7 +84,8 @@ fn report_of<'a, R: AllocGlobal + Files + Input>(
     }
 }
 
-/// A report as an object of JSON on one line, with the command that shows it and how sure it is.
+/// Returns a report as an object of JSON on one line. It also has the command that shows the report, and how sure it
+/// is.
 fn json_line<'a>(
     alloc: Global,
     report: &Report,
@@ -95,7 +97,8 @@ fn json_line<'a>(
     report.to_json_line(alloc, origin, &members)
 }
 
-/// How something is listed: counters with the first ones, a buffer by its summary, if no limit is given.
+/// Returns how an object is listed if no limit is given. Counters are listed with the first of them, and a buffer by
+/// its summary.
 fn view_of(wanted: Wanted, kind: Kind) -> View {
     let few = if kind == Kind::Counters { 8 } else { 0 };
     View {
@@ -107,7 +110,7 @@ fn view_of(wanted: Wanted, kind: Kind) -> View {
 }
 
 impl Watched {
-    /// What was found, not yet looked at.
+    /// Returns an object that was found, before a look is taken at it.
     pub fn new(found: Found) -> Watched {
         Watched {
             found,
@@ -117,7 +120,7 @@ impl Watched {
         }
     }
 
-    /// Takes a look. What cannot be read any more has none, and standard error says so.
+    /// Takes a look. If the memory cannot be read any longer, there is no look, and standard error says so.
     fn take_look<R: AllocGlobal + Clock + Files + Input + Eprint>(
         &mut self,
         rt: &R,
@@ -145,7 +148,7 @@ impl Watched {
         }
     }
 
-    /// The last look, from its memory.
+    /// Returns the last look with its origin.
     fn labelled<'a>(&'a self, file: &'a str) -> Option<Labelled<'a>> {
         let look = self.look.as_ref()?;
         Some(Labelled {
@@ -166,7 +169,7 @@ impl Watched {
         }
     }
 
-    /// Adds the lines of the last look as a table, and how fast it changed since the one before.
+    /// Adds the lines of the last look as a table, and the rates since the look before.
     fn push_table(
         &self,
         alloc: Global,
@@ -190,8 +193,8 @@ impl Watched {
         text.push_str(rates.as_str())
     }
 
-    /// Adds the object of JSON of the last look, on one line: its report, how sure it is, and the command that shows
-    /// it.
+    /// Adds the object of JSON of the last look on one line. It has the report, how sure it is, and the command that
+    /// shows it.
     fn push_json(
         &self,
         alloc: Global,
@@ -211,7 +214,7 @@ impl Watched {
         text.push_str(line.as_str())
     }
 
-    /// Adds the last look as it is to be printed.
+    /// Adds the last look in the format of the output.
     fn push_look(
         &self,
         alloc: Global,
@@ -234,8 +237,8 @@ impl Watched {
         }
     }
 
-    /// Tests whether the last look has no finding, and no consumer that is blocked if that is to fail. Findings do not
-    /// count if only the summary is listed.
+    /// Tests whether the last look has no finding. If a blocked consumer is a failure, also tests that no consumer is
+    /// blocked. Findings are ignored if only the summary is listed.
     fn is_sound(&self, wanted: Wanted) -> bool {
         match &self.look {
             Some(look) => {
@@ -248,7 +251,7 @@ impl Watched {
     }
 }
 
-/// All that was found, in the order of addresses.
+/// All objects that were found, in the order of addresses.
 #[derive(Drop)]
 pub struct Round<'a> {
     pub file: &'a str,
@@ -257,7 +260,7 @@ pub struct Round<'a> {
 }
 
 impl<'a> Round<'a> {
-    /// Takes a look at each.
+    /// Takes a look at each object.
     fn take_looks<R: AllocGlobal + Clock + Files + Input + Eprint>(
         &mut self,
         rt: &R,
@@ -269,7 +272,7 @@ impl<'a> Round<'a> {
         Ok(())
     }
 
-    /// Takes a first look at each, and second ones after a pause if a consumer stops in a running program.
+    /// Takes a first look at each object. If a consumer stops in a running program, takes second looks after a pause.
     fn begin<R: AllocGlobal + Clock + Files + Input + Eprint>(
         &mut self,
         rt: &R,
@@ -286,7 +289,7 @@ impl<'a> Round<'a> {
         Ok(())
     }
 
-    /// The text of Prometheus of all.
+    /// Returns the text of Prometheus for all objects.
     fn metrics(&self, alloc: Global) -> Result<String, AllocError> {
         let mut reports = Vec::new(alloc);
         for it in self.watched.iter() {
@@ -297,7 +300,7 @@ impl<'a> Round<'a> {
         to_prometheus(alloc, reports.as_slice())
     }
 
-    /// The text of all.
+    /// Returns the text for all objects.
     fn text(&self, alloc: Global) -> Result<String, AllocError> {
         if matches!(self.wanted.format, Format::Prometheus) {
             return self.metrics(alloc);
@@ -309,7 +312,7 @@ impl<'a> Round<'a> {
         Ok(text)
     }
 
-    /// Prints all, and then the findings on standard error. Returns whether all is sound.
+    /// Prints all objects. Then prints the findings on standard error. Returns whether all objects are sound.
     fn print<R: AllocGlobal + Print + Eprint>(
         &self,
         rt: &R,
@@ -330,13 +333,13 @@ impl<'a> Round<'a> {
         Ok(is_sound)
     }
 
-    /// Tests whether nothing can be read any more.
+    /// Tests whether no object can be read any longer.
     fn is_over(&self) -> bool {
         self.watched.iter().all(|it| it.look.is_none())
     }
 
-    /// Looks at all as often as the options say, or until nothing can be read any more. The status is that of the last
-    /// round.
+    /// Takes looks at all objects as often as the options say, or until no object can be read any longer. The status is
+    /// that of the last round.
     pub fn run<R: AllocGlobal + Clock + Files + Input + Print + Eprint>(
         &mut self,
         rt: &R,

@@ -1,4 +1,4 @@
--- The counters in the words of metadata records and value records, whatever these are, and those of a registry.
+-- The counters in any words of metadata records and value records, and those of a registry.
 use Rattle.std.specs.Prelude.{◌≡◌, ℕ, zero, suc, ◌+◌, ◌-◌, ◌*◌, ◌<◌, ◌||◌, not, int_lt, if◌then◌else◌, ℤ, pos, negsuc, nat_abs, FitsSigned, List, [], ◌∷◌, map, filter, drop, slice_index, Result, Ok, Err, Option, Some, None}
 use Rattle.std.specs.List.{range_with_len}
 use Rattle.std.specs.Int.{cast_signed, w64}
@@ -26,7 +26,7 @@ abbrev pub state_from : ℤ → Option CounterState
 state_from state =
     if int_eq state (pos 1) then Some Allocated else (if int_eq state (negsuc 0) then Some Reclaimed else None)
 
--- what a metadata record and a value record say, if the state and the length of the label are valid
+-- the counter of a metadata record and a value record, if the state and the length of the label are valid
 abbrev pub counter_of_records : ℕ → List ℕ → List ℕ → CounterState → ℕ → Counter
 counter_of_records id metadata values state len = record {
   id = id;
@@ -50,7 +50,7 @@ with_state id metadata values state None = Err (BadState id state)
 with_state id metadata values state (Some told) =
     with_label id metadata values (length_in (slice_index metadata 16)) told
 
--- what is in the two records of an id, which begin with these words: nothing if it was never used
+-- the entry of an id whose two records begin with these words, or nothing if the id was never used
 abbrev pub entry_of : ℕ → List ℕ → List ℕ → Option CounterEntry
 entry_of id metadata values =
     let state = length_in (slice_index metadata 0) in
@@ -60,17 +60,17 @@ abbrev pub or_none : Option CounterEntry → List CounterEntry → List CounterE
 or_none None rest = rest
 or_none (Some entry) rest = entry ∷ rest
 
--- what is in the records of n ids from this one on
+-- the entries of n ids from this id on
 abbrev pub entries : List ℕ → List ℕ → ℕ → ℕ → List CounterEntry
 entries metadata values zero id = []
 entries metadata values (suc n) id =
     or_none (entry_of id (drop (64 * id) metadata) (drop (16 * id) values)) (entries metadata values n (id + 1))
 
--- what is in a snapshot from an id on
+-- the entries of a snapshot from an id on
 abbrev pub counters_in : CountersSnapshot → ℕ → List CounterEntry
 counters_in c first = entries c.metadata.now c.values.now (c.ids - first) first
 
--- what is still to come
+-- the entries that are still to come
 abbrev pub counters_left : Counters → List CounterEntry
 counters_left it = counters_in it.counters it.next
 
@@ -104,11 +104,11 @@ counter_as id state c = record {
 abbrev pub counter_of : ℕ → ring_counters.Counter → Counter
 counter_of id c = counter_as id (if is_allocated c.metadata.status then Allocated else Reclaimed) c
 
--- the counters of the n ids from this one on that were ever given, in use or freed, by rising id
+-- the counters of the n ids from this id on that were ever allocated, in use or freed, by rising id
 abbrev pub entries_of : Registry → ℕ → ℕ → List CounterEntry
 entries_of r n first = map (λ id. Ok (counter_of id (counter_at r id)))
     (filter (λ id. not (is_unused (status_at r id))) (range_with_len first n))
 
--- the counters from an id on that were ever given
+-- the counters from an id on that were ever allocated
 abbrev pub entries_from : Registry → ℕ → List CounterEntry
 entries_from r first = entries_of r (count_of r - first) first

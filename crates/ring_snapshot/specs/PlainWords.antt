@@ -1,5 +1,5 @@
--- The words of a ring whose bodies lie apart: words that have headers alone, and slots that have the words of the bodies
--- at the same indexes. Positions are running byte counts, and C is the capacity of the buffer.
+-- The words of a ring whose bodies are stored separately. The words have only headers. Slots have the words of the
+-- bodies at the same indexes. Positions are running byte counts, and C is the capacity of the buffer.
 use Rattle.std.specs.Prelude.{ℕ, zero, suc, ◌+◌, ◌-◌, ◌/◌, ◌^◌, ◌&&◌, ◌||◌, ◌==◌, is_none, int_lt, if◌then◌else◌, pos, nat_abs, List, take, drop, set, slice_index}
 use Rattle.ring_layout.specs.History.{overwritten}
 use Rattle.ring_layout.specs.Places.{index}
@@ -7,7 +7,7 @@ use Rattle.ring_layout.specs.Layout.{head_index, tail_index}
 use Rattle.ring_snapshot.specs.Listing.{up_to_eight}
 use Rattle.ring_snapshot.specs.RingRecords.{is_length, is_padding_type, length_in, positions_finding, type_in}
 
--- a header in the format: the type id -2 is here that of padding alone, which has -1 there
+-- A header in the format. Here only padding has the type id -2, and in the format it has -1.
 abbrev pub formatted : ℕ → ℕ
 formatted w = if w / 2 ^ 32 == 2 ^ 32 - 2 then w + 2 ^ 32 else w
 
@@ -15,15 +15,16 @@ formatted w = if w / 2 ^ 32 == 2 ^ 32 - 2 then w + 2 ^ 32 else w
 abbrev pub header_at : ℕ → List ℕ → ℕ → ℕ
 header_at C words at = formatted (slice_index words (index C at))
 
--- the bytes from the begin of a record with this header to the next one's: 0 if no record at the position has it
+-- The number of bytes from the begin of a record with this header to the begin of the next one. It is 0 if no record at
+-- the position has this header.
 abbrev pub span_at : ℕ → ℕ → ℕ → ℕ → ℕ
 span_at C tail at w =
     if is_length C tail at (nat_abs (length_in w))
     && (int_lt (pos 0) (type_in w) || int_lt (pos 0) (length_in w) && is_padding_type (type_in w))
     then up_to_eight (nat_abs (length_in w)) else 0
 
--- the words with the record of n bytes at a position in the format: padding with its header there, and any other record
--- with its body
+-- The words with the record of n bytes at a position in the format. Padding has its header there, and any other record
+-- has its body.
 abbrev pub with_record : ℕ → List ℕ → ℕ → ℕ → List ℕ → List ℕ
 with_record C slots at n words =
     let i = index C at in
@@ -31,8 +32,8 @@ with_record C slots at n words =
     if shown == slice_index words i then overwritten (i + 1) (take (n / 8 - 1) (drop (i + 1) slots)) words
     else set words i shown
 
--- the words with the records from a position on in the format, one after the other and at most m. A header that no
--- record has stays as it is, and so does what is after it
+-- the words with the records from a position on in the format, one after another and at most m. A header that no record
+-- has stays as it is, and so do the words after it.
 abbrev pub joined_from : ℕ → List ℕ → ℕ → ℕ → ℕ → List ℕ → List ℕ
 joined_from C slots tail zero at words = words
 joined_from C slots tail (suc m) at words =

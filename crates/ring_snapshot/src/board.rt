@@ -16,7 +16,7 @@ use ring_layout::broadcast_buffer_descriptor::{
 use ring_layout::record_descriptor::{HEADER_LENGTH, PADDING_MSG_TYPE_ID};
 use ring_layout::{align8, byte_index, is_board_capacity, unpack_header, word_index};
 
-/// A broadcast buffer's words: those of its buffer, and those of its trailer.
+/// The words of a broadcast buffer, which are those of its buffer and those of its trailer.
 #[derive(Clone, Copy, Debug)]
 pub struct BoardSnapshot<'a> {
     capacity: u32,
@@ -25,7 +25,8 @@ pub struct BoardSnapshot<'a> {
     ghost whole: { length words.now ≡ board_words capacity },
 }
 
-/// The records of a broadcast buffer from a position on, in order. It ends at the tail, and after a finding.
+/// An iterator over the records of a broadcast buffer from a position on, in order. The iterator ends at the tail, and
+/// after a finding.
 pub type BoardRecords<'a> = Listing<BoardSnapshot<'a>>;
 
 impl<'a> BoardSnapshot<'a> {
@@ -38,7 +39,7 @@ impl<'a> BoardSnapshot<'a> {
     ghost use Rattle.ring_snapshot.specs.Listing.{up_to_eight};
     ghost use Rattle.ring_snapshot.specs.BoardRecords.{is_length, entry_at, intent_in, tail_in, latest_in, records_left, listed_from, first_whole, is_lap_whole, positions_finding, from_finding, HaveTransmitted, BeginsAt, lap_of, transmitted_from};
 
-    /// Takes the words of a broadcast buffer. Returns `BadSize` if no broadcast buffer has this many.
+    /// Takes the words of a broadcast buffer. Returns `BadSize` if no broadcast buffer has this many words.
     pub fn new(words: &'a [u64]) -> Result<Self, BoardFinding>
         ensures board { IfOk result (λ b. (b.words.now ≡ words.now) × IsBoardCapacity b.capacity
             × (length words.now ≡ board_words b.capacity)) }
@@ -56,7 +57,7 @@ impl<'a> BoardSnapshot<'a> {
         Ok(BoardSnapshot { capacity, words })
     }
 
-    /// The bytes of its buffer.
+    /// Returns the number of bytes of the buffer.
     pub fn capacity(&self) -> u32
         ensures capacity { result ≡ self.now.capacity }
         ensures lawful { IsBoardCapacity result }
@@ -85,7 +86,7 @@ impl<'a> BoardSnapshot<'a> {
         self.words[self.capacity as usize / 8 + LATEST_COUNTER_WORD]
     }
 
-    /// Tests whether the current lap is whole: the intent has overwritten none of it.
+    /// Tests whether the current lap is whole, so that the intent has overwritten none of it.
     pub fn is_lap_whole(&self) -> bool
         ensures { result ≡ is_lap_whole self.now.capacity (intent_in self.now) (latest_in self.now) }
     {
@@ -94,12 +95,12 @@ impl<'a> BoardSnapshot<'a> {
         self.intent().saturating_sub(lap) <= u64::from(self.capacity)
     }
 
-    /// Iterates over the records of the current lap; over the last one alone if the intent has begun to overwrite the
-    /// first of them. Returns, in this order, for positions that make no sense: `UnalignedPosition`,
-    /// `TailBeforeLatest`, `IntentBeforeTail`, `TailTooFar`, `IntentTooFar`.
+    /// Iterates over the records of the current lap. If the intent has begun to overwrite the first of them, iterates
+    /// over the last one alone. Returns one of these findings, in this order, for positions that make no sense:
+    /// `UnalignedPosition`, `TailBeforeLatest`, `IntentBeforeTail`, `TailTooFar`, `IntentTooFar`.
     ///
-    /// It does not go back into the lap before: memory does not say where the first of its whole records begins, and a
-    /// message may look like a header. `records_from` lists them from a known start.
+    /// The iterator does not go back into the lap before. Memory does not say at which place the first whole record of
+    /// that lap begins, and a message may look like a header. `records_from` lists these records from a known start.
     pub fn records(&self) -> Result<BoardRecords<'a>, BoardFinding>
         ensures refused { IsRefusedBy (positions_finding self.now.capacity (intent_in self.now) (tail_in self.now)
             (latest_in self.now)) result }
@@ -117,9 +118,9 @@ impl<'a> BoardSnapshot<'a> {
         Ok(Listing::new(*self, first, tail))
     }
 
-    /// Iterates over the records from a position on, which must be the start of one, for example the place of a
-    /// receiver. Errors as for `records`, then `OutsideOfRecords` if no record begins there or what was there is
-    /// overwritten.
+    /// Iterates over the records from a position on. This must be the start of a record, for example the place of a
+    /// receiver. The findings are those of `records`, and then `OutsideOfRecords` if no record begins there or if what
+    /// was there is overwritten.
     pub fn records_from(&self, position: u64) -> Result<BoardRecords<'a>, BoardFinding>
         ensures refused { IsRefusedBy (from_finding self.now.capacity (intent_in self.now) (tail_in self.now)
             (latest_in self.now) position) result }
@@ -178,7 +179,7 @@ impl<'a> BoardSnapshot<'a> {
             at == latest && span == tail - at
         }
     }
-    /// What is at a position before the tail, with this intent and this place of the last record.
+    /// Returns what is at a position before the tail, for this intent and this place of the last record.
     fn entry_with(
         &self,
         intent: u64,

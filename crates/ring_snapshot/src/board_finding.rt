@@ -1,14 +1,14 @@
-//! What is wrong with the words of a broadcast buffer.
+//! The findings about the words of a broadcast buffer.
 use thiserror::Error;
 
-/// Why words are not those of a broadcast buffer, or why its records end before the tail.
+/// The reason why words are not those of a broadcast buffer, or why its records end before the tail.
 #[derive(Clone, Copy, Debug, PartialEq, Eq, Error)]
 pub enum BoardFinding {
-    /// No broadcast buffer has this many words: `capacity / 8 + 16` for a capacity that is a power of two from 256 to
-    /// 2^24.
+    /// No broadcast buffer has this many words. One has `capacity / 8 + 16` words, for a capacity that is a power of
+    /// two from 256 to 2^24.
     #[error("BadSize: no board has {words} words")]
     BadSize { words: usize },
-    /// The intent, the tail or the place of the last record is no multiple of 8.
+    /// The intent, the tail or the place of the last record is not a multiple of 8.
     #[error("UnalignedPosition: intent {intent}, tail {tail}, latest {latest}")]
     UnalignedPosition { intent: u64, tail: u64, latest: u64 },
     /// The tail is before the place of the last record.
@@ -20,10 +20,10 @@ pub enum BoardFinding {
     /// The tail is beyond the end of the buffer after the last record.
     #[error("TailTooFar: tail {tail}, latest {latest}")]
     TailTooFar { tail: u64, latest: u64 },
-    /// The intent is more than the buffer beyond the last record, so that no record is whole.
+    /// The intent is more than the buffer's length beyond the last record, so that no record is whole.
     #[error("IntentTooFar: intent {intent}, latest {latest}")]
     IntentTooFar { intent: u64, latest: u64 },
-    /// What was at the position that was asked for is overwritten, or no record begins there.
+    /// The words at the position that was asked for are overwritten, or no record begins there.
     #[error("OutsideOfRecords: position {position}")]
     OutsideOfRecords { position: u64 },
     /// The header at this byte index has a length that no record has there.

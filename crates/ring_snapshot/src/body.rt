@@ -2,7 +2,7 @@
 use ring_layout::get_byte_word;
 use std::marker::Model;
 
-/// The bytes of a message, read in place out of words. As an iterator it gives them in order.
+/// The bytes of a message, which are read in place from words. As an iterator it returns the bytes in order.
 #[derive(Debug, Drop)]
 pub struct Body<'a> {
     words: &'a [u64],
@@ -25,7 +25,7 @@ impl<'a> Body<'a> {
     ghost use Rattle.std.specs.Prelude.{◌≡◌, ◌+◌, ◌*◌, ◌≤◌, ◌↔◌, [], IsTrue, length};
     ghost use Rattle.ring_counters.specs.Records.{bytes_at};
 
-    /// The `len` bytes of these words from the byte `from` on.
+    /// Returns the `len` bytes of these words from the byte `from` on.
     pub(crate) fn new(words: &'a [u64], from: usize, len: usize) -> Self
         requires { from + len ≤ 8 * length words.now }
         ensures { result ≡ bytes_at words.now from len }
@@ -37,7 +37,7 @@ impl<'a> Body<'a> {
         }
     }
 
-    /// The number of bytes that are left.
+    /// Returns the number of bytes that are left.
     pub fn len(&self) -> usize
         ensures { result ≡ length self.now }
     {

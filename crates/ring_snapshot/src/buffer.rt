@@ -1,4 +1,4 @@
-//! What the listings of rings and broadcast buffers have in common.
+//! The trait that the listings of rings and of broadcast buffers share.
 ghost use Rattle.std.specs.Prelude.{◌≡◌, ℕ, ◌+◌, ◌%◌, ◌^◌, ◌<◌, ◌≤◌, IsTrue, IfOk, Result};
 ghost use Rattle.std.specs.Int.{is_power_of_two};
 ghost use Rattle.ring_snapshot.specs.Listing.{lies_inside, up_to_eight};
@@ -6,21 +6,21 @@ ghost use Rattle.ring_snapshot.specs.Listing.{lies_inside, up_to_eight};
 use ring_layout::record_descriptor::HEADER_LENGTH;
 use ring_layout::{align8, byte_index, max_message};
 
-/// The words of a ring or a broadcast buffer: what is at a position.
+/// The words of a ring or a broadcast buffer, which say what is at a position.
 pub trait Buffer: Drop {
     /// A record as it is in memory.
     type Record: Drop;
 
-    /// What is wrong with the words.
+    /// A finding about the words.
     type Finding: Drop;
 
-    /// The bytes of a record, header included.
+    /// The number of bytes of a record, header included.
     ghost size: { Self.Record → ℕ };
 
-    /// What is at a position, if the records end at a tail.
+    /// The entry at a position, if the records end at a tail.
     ghost entry: { Self → ℕ → ℕ → Result Self.Record Self.Finding };
 
-    /// What is at a position before the tail.
+    /// Returns what is at a position before the tail.
     fn entry_at(&self, tail: u64, at: u64) -> Result<Self::Record, Self::Finding>
         requires aligned { (at % 8 ≡ 0) × (tail % 8 ≡ 0) }
         requires before { at < tail }
@@ -28,13 +28,13 @@ pub trait Buffer: Drop {
         ensures entry { result ≡ entry self.now tail at }
         ensures inside { IfOk result (λ r. at + up_to_eight (size r) < 2 ^ 64) };
 
-    /// The bytes of a record, header included.
+    /// Returns the number of bytes of a record, header included.
     fn length_of(own: &Self::Record) -> u32
         ensures { result ≡ size own.now };
 }
 
-/// Tests whether a record of this length, header included, may be at a position: no message is longer, and it does not
-/// cross the end of the buffer.
+/// Tests whether a record of this length, header included, may be at a position. No message is longer, and the record
+/// does not cross the end of the buffer.
 pub(crate) fn lies_inside(capacity: u32, at: u64, length: u32) -> bool
     requires { IsTrue (is_power_of_two capacity) }
     ensures { result ≡ lies_inside capacity at length }

@@ -10,25 +10,27 @@ pub enum CounterState {
     Reclaimed,
 }
 
-/// A counter as it is in memory. After a counter is freed everything but its state and its deadline stays as it was.
+/// A counter as it is in memory. After a counter was freed, all words except its state and its deadline stay as they
+/// were.
 #[derive(Debug, Drop)]
 pub struct Counter<'a> {
-    /// Its id.
+    /// The id of the counter.
     pub id: u32,
-    /// Its state.
+    /// The state of the counter.
     pub state: CounterState,
-    /// The type that it was allocated with.
+    /// The type that the counter was allocated with.
     pub type_id: i32,
-    /// The moment from which its id may be allocated again, in milliseconds: 2^63 - 1 while it is in use.
+    /// The moment from which the id may be allocated again, in milliseconds. This is 2^63 - 1 while the counter is in
+    /// use.
     pub deadline: u64,
-    /// Its key of 112 bytes.
+    /// The key of the counter, which has 112 bytes.
     pub key: Body<'a>,
-    /// Its label.
+    /// The label of the counter.
     pub label: Body<'a>,
-    /// Its value.
+    /// The value of the counter.
     pub value: i64,
-    /// The registration id that it was allocated with.
+    /// The registration id that the counter was allocated with.
     pub registration: u64,
-    /// Its owner, 0 if it has none.
+    /// The owner of the counter, or 0 if the counter has no owner.
     pub owner: u64,
 }

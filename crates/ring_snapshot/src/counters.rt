@@ -14,10 +14,10 @@ use ring_layout::counter_descriptor::{
 };
 use ring_layout::unpack_header;
 
-/// The most ids: their value records have 2^31 bytes.
+/// The largest number of ids, whose value records have 2^31 bytes.
 const MAX_IDS: usize = 1 << 24;
 
-/// The words of counters: those of their metadata records, and those of their value records.
+/// The words of counters, which are those of their metadata records and those of their value records.
 #[derive(Clone, Copy, Debug)]
 pub struct CountersSnapshot<'a> {
     ids: u32,
@@ -26,7 +26,8 @@ pub struct CountersSnapshot<'a> {
     ghost whole: { HaveIds metadata.now values.now ids },
 }
 
-/// The counters from an id on, by rising id. It passes over ids that were never used, and goes on after a finding.
+/// An iterator over the counters from an id on, by rising id. The iterator passes over ids that were never used, and
+/// goes on after a finding.
 #[derive(Debug, Drop)]
 pub struct Counters<'a> {
     counters: CountersSnapshot<'a>,
@@ -41,7 +42,7 @@ impl<'a> CountersSnapshot<'a> {
     ghost use Rattle.ring_snapshot.specs.RingRecords.{length_in};
     ghost use Rattle.ring_snapshot.specs.CounterRecords.{Show, state_from, with_label, entry_of, counters_left, counters_in, entries_from};
 
-    /// Takes the words of counters. Returns `BadSize` if no counters have this many.
+    /// Takes the words of counters. Returns `BadSize` if no counters have this many words.
     pub fn new(metadata: &'a [u64], values: &'a [u64]) -> Result<Self, CountersFinding>
         ensures counters { IfOk result (λ c. (c.metadata.now ≡ metadata.now) × (c.values.now ≡ values.now)
             × HaveIds metadata.now values.now c.ids) }
@@ -66,17 +67,17 @@ impl<'a> CountersSnapshot<'a> {
         })
     }
 
-    /// The number of ids.
+    /// Returns the number of ids.
     pub fn count(&self) -> u32
         ensures { HaveIds self.now.metadata.now self.now.values.now result }
     {
         self.ids
     }
 
-    /// Iterates over the counters in use and the freed ones, by rising id.
+    /// Iterates over the counters in use and the counters that were freed, by rising id.
     ///
-    /// For the words of a counters manager it yields exactly its counters. For any words it yields one entry for each
-    /// id that is not unused: the counter, or what is wrong with it.
+    /// For the words of a counters manager it returns exactly the manager's counters. For any words it returns one
+    /// entry for each id that is not unused. The entry is the counter, or the finding about it.
     pub fn counters(&self) -> Counters<'a>
         ensures listed { counters_left result ≡ counters_in self.now 0 }
         ensures exact { (r : Registry) → Show self.now.metadata.now self.now.values.now r
@@ -97,7 +98,7 @@ impl<'a> CountersSnapshot<'a> {
         }
     }
 
-    /// The state of a record of an id that was used. `None` if no record has it.
+    /// Returns the state of a record of an id that was used. Returns `None` if no record has this state.
     fn state_of(state: i32) -> Option<CounterState>
         ensures { result ≡ state_from state }
     {
@@ -110,7 +111,7 @@ impl<'a> CountersSnapshot<'a> {
         }
     }
 
-    /// What is in the two records of an id. `None` if the id was never used.
+    /// Returns what is in the two records of an id. Returns `None` if the id was never used.
     fn entry(&self, id: u32) -> Option<Result<Counter<'a>, CountersFinding>>
         requires { id < self.now.ids }
         ensures { result ≡ entry_of id (drop (64 * id) self.now.metadata.now) (drop (16 * id) self.now.values.now) }
@@ -120,7 +121,7 @@ impl<'a> CountersSnapshot<'a> {
         Self::entry_in(id, metadata, values)
     }
 
-    /// What the two records of an id say, which begin with these words.
+    /// Returns what the two records of an id say, if they begin with these words.
     fn entry_in(
         id: u32,
         metadata: &'a [u64],
@@ -140,7 +141,7 @@ impl<'a> CountersSnapshot<'a> {
         })
     }
 
-    /// The counter of an id whose records begin with these words, and are in this state.
+    /// Returns the counter of an id, if its records begin with these words and have this state.
     fn counter_in(
         id: u32,
         metadata: &'a [u64],

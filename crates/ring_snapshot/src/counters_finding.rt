@@ -1,10 +1,11 @@
-//! What is wrong with the words of counters.
+//! The findings about the words of counters.
 use thiserror::Error;
 
-/// Why words are not those of counters, or why an id is not listed as a counter.
+/// The reason why words are not those of counters, or why an id is not listed as a counter.
 #[derive(Clone, Copy, Debug, PartialEq, Eq, Error)]
 pub enum CountersFinding {
-    /// No counters have this many words: each of 1 to 2^24 ids has 64 words of metadata and 16 of values.
+    /// No counters have this many words. There are 1 to 2^24 ids, and each has 64 words of metadata and 16 words of
+    /// values.
     #[error("BadSize: no counters have {metadata} words of metadata and {values} of values")]
     BadSize { metadata: usize, values: usize },
     /// The metadata of this id have a state that no record has.

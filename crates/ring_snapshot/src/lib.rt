@@ -1,11 +1,11 @@
-//! What is in the words of a ring, a broadcast buffer and counters: read from a copy of their memory, whatever it
-//! holds; and writing such a copy.
+//! Reads what is in the words of a ring, a broadcast buffer or counters, from any copy of their memory. Also writes
+//! such copies.
 //!
-//! - `ring`, `board`, `counters`: one pass over a copy of each, and the search for them in memory; of a ring also its
-//!   words if its bodies lie apart. `buffer`, `listing`, `search`: what they have in common.
-//! - `record`, `board_record`, `counter`, `body`: what a pass yields.
-//! - `ring_finding`, `board_finding`, `counters_finding`: what is wrong with the words.
-//! - `write`: writing such a copy.
+//! - `ring`, `board`, `counters`: one pass over a copy, and the search for such words in memory. `ring` also joins the
+//!   words of a ring whose bodies are stored separately. `buffer`, `listing`, `search`: what these three share.
+//! - `record`, `board_record`, `counter`, `body`: the results of a pass.
+//! - `ring_finding`, `board_finding`, `counters_finding`: the findings about words.
+//! - `write`: writes copies.
 #![tactic(auto)]
 
 mod board;

@@ -1,10 +1,11 @@
-//! The records of a ring or a broadcast buffer, one after the other.
+//! An iterator over the records of a ring or a broadcast buffer.
 ghost use Rattle.std.specs.Prelude.{◌≡◌, ◌+◌, ◌%◌, ◌^◌, ◌≤◌};
 
 use crate::buffer::Buffer;
 use ring_layout::align8;
 
-/// The records of a buffer from a position on, in order. It ends at the tail, and after a finding.
+/// An iterator over the records of a buffer from a position on, in order. The iterator ends at the tail, and after a
+/// finding.
 #[derive(Debug, Drop)]
 pub struct Listing<B> {
     buffer: B,
@@ -20,7 +21,7 @@ impl<B: Buffer> Listing<B> {
     ghost use Rattle.ring_snapshot.specs.Listing.{left_of, listed_by};
     ghost use Rattle.ring_snapshot.specs.Search.{all_ok};
 
-    /// The records from a position on.
+    /// Returns the records from a position on.
     pub(crate) fn new(buffer: B, at: u64, tail: u64) -> Self
         requires aligned { (at % 8 ≡ 0) × (tail % 8 ≡ 0) }
         requires order { at ≤ tail }
@@ -36,7 +37,7 @@ impl<B: Buffer> Listing<B> {
         }
     }
 
-    /// Tests whether all that are left are records.
+    /// Tests whether all entries that are left are records.
     #[tactic(auto, using(crate::proofs::SearchLemmas::yielded_ok, crate::proofs::SearchLemmas::yielded_err, crate::proofs::SearchLemmas::yielded_none))]
     pub(crate) fn are_records(self) -> bool
         ensures { result ≡ all_ok (left_of B.size B.entry self) }

@@ -4,32 +4,33 @@ use crate::body::Body;
 /// The state of a record.
 #[derive(Clone, Copy, Debug, PartialEq, Eq)]
 pub enum RecordState {
-    /// Claimed, and neither committed nor aborted: it blocks the reader.
+    /// The record is claimed, and neither committed nor aborted. It blocks the reader.
     Open,
-    /// Committed: the reader is shown its message.
+    /// The record is committed. The reader is shown its message.
     Committed,
-    /// Aborted: the reader passes it.
+    /// The record is aborted. The reader passes it.
     Aborted,
-    /// An aborted record or padding up to the end of the buffer: memory does not say which.
+    /// The record is aborted, or is padding up to the end of the buffer. Memory does not say which.
     AbortedOrPadding,
-    /// Claimed, with a header that is not yet stored. How many records there are from here to the tail is unknown.
+    /// The record is claimed, and its header is not yet stored. The number of records from here to the tail is unknown.
     Unstored,
 }
 
 /// A record as it is in memory.
 #[derive(Debug, Drop)]
 pub struct Record<'a> {
-    /// Its position, in bytes.
+    /// The position of the record, in bytes.
     pub place: u64,
-    /// Its byte index in the buffer.
+    /// The byte index of the record in the buffer.
     pub index: u32,
-    /// Its state.
+    /// The state of the record.
     pub state: RecordState,
-    /// Its type id: -1 for padding and an aborted record, 0 if the header is not yet stored.
+    /// The type id of the record. It is -1 for padding and for an aborted record, and 0 if the header is not yet
+    /// stored.
     pub type_id: i32,
-    /// The bytes of its header and its message. For padding they go up to the end of the buffer, and for a header that
-    /// is not yet stored up to the tail.
+    /// The number of bytes of the header and the message. For padding, the number of bytes up to the end of the buffer.
+    /// For a header that is not yet stored, the number of bytes up to the tail.
     pub length: u32,
-    /// Its message if it is open or committed, otherwise no bytes.
+    /// The message of the record if it is open or committed, and otherwise no bytes.
     pub body: Body<'a>,
 }

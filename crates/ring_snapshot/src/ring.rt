@@ -18,7 +18,7 @@ use ring_layout::ring_buffer_descriptor::{
 };
 use ring_layout::{align8, byte_index, is_capacity, unpack_header, word_index};
 
-/// A ring's words: those of its buffer, and those of its trailer.
+/// The words of a ring, which are those of its buffer and those of its trailer.
 #[derive(Clone, Copy, Debug)]
 pub struct RingSnapshot<'a> {
     capacity: u32,
@@ -27,7 +27,8 @@ pub struct RingSnapshot<'a> {
     ghost whole: { length words.now ≡ ring_words capacity },
 }
 
-/// The records of a ring from a position on, in order. It ends at the tail, and after a finding.
+/// An iterator over the records of a ring from a position on, in order. The iterator ends at the tail, and after a
+/// finding.
 pub type Records<'a> = Listing<RingSnapshot<'a>>;
 
 impl<'a> RingSnapshot<'a> {
@@ -41,7 +42,7 @@ impl<'a> RingSnapshot<'a> {
     ghost use Rattle.ring_snapshot.specs.Listing.{up_to_eight, ok_records};
     ghost use Rattle.ring_snapshot.specs.RingRecords.{is_length, entry_at, records_left, listed_from, records_of, Lie, head_in, tail_in, positions_finding, from_finding};
 
-    /// Takes the words of a ring. Returns `BadSize` if no ring has this many.
+    /// Takes the words of a ring. Returns `BadSize` if no ring has this many words.
     pub fn new(words: &'a [u64]) -> Result<Self, RingFinding>
         ensures ring { IfOk result (λ r. (r.words.now ≡ words.now) × IsCapacity r.capacity
             × (length words.now ≡ ring_words r.capacity)) }
@@ -59,7 +60,7 @@ impl<'a> RingSnapshot<'a> {
         Ok(RingSnapshot { capacity, words })
     }
 
-    /// The bytes of its buffer.
+    /// Returns the number of bytes of the buffer.
     pub fn capacity(&self) -> u32
         ensures capacity { result ≡ self.now.capacity }
         ensures lawful { IsCapacity result }
@@ -102,12 +103,12 @@ impl<'a> RingSnapshot<'a> {
         self.words[self.capacity as usize / 8 + CONSUMER_HEARTBEAT_WORD]
     }
 
-    /// Iterates over the records from the head on. Returns, in this order, for positions that make no sense:
-    /// `UnalignedPosition`, `TailBeforeHead`, `TailTooFar`.
+    /// Iterates over the records from the head on. Returns one of these findings, in this order, for positions that
+    /// make no sense: `UnalignedPosition`, `TailBeforeHead`, `TailTooFar`.
     ///
-    /// For the words of a ring that has a history it yields exactly the claims of the history, in order, each with its
-    /// place, and the padding before it. For any words it yields one record after the other, up to the tail or a
-    /// finding.
+    /// For the words of a ring that has a history, the iterator returns exactly the claims of the history, in order.
+    /// Each claim comes with its place and the padding before it. For any words it returns one record after another, up
+    /// to the tail or a finding.
     pub fn records(&self) -> Result<Records<'a>, RingFinding>
         ensures refused { IsRefusedBy (positions_finding self.now.capacity (head_in self.now) (tail_in self.now))
             result }
@@ -119,8 +120,9 @@ impl<'a> RingSnapshot<'a> {
         self.records_from(self.head())
     }
 
-    /// Iterates over the records from a position on, which must be the start of one. Errors as for `records`, then
-    /// `OutsideOfRecords` if the position is not between head and tail or is not a multiple of 8.
+    /// Iterates over the records from a position on. This must be the start of a record. The findings are those of
+    /// `records`, and then `OutsideOfRecords` if the position is not between the head and the tail or is not a multiple
+    /// of 8.
     pub fn records_from(&self, position: u64) -> Result<Records<'a>, RingFinding>
         ensures refused { IsRefusedBy (from_finding self.now.capacity (head_in self.now) (tail_in self.now) position)
             result }
@@ -136,7 +138,7 @@ impl<'a> RingSnapshot<'a> {
         Ok(Listing::new(*self, position, tail))
     }
 
-    /// Tests the positions of head and tail.
+    /// Tests the positions of the head and the tail.
     fn check_positions(&self, head: u64, tail: u64) -> Result<(), RingFinding>
         ensures { IsRefusedBy (positions_finding self.now.capacity head tail) result }
     {
@@ -160,7 +162,7 @@ impl<'a> RingSnapshot<'a> {
         lies_inside(self.capacity, at, length) && align8(u64::from(length)) <= tail - at
     }
 
-    /// The state of a passed record: it may be padding if it ends with the buffer.
+    /// Returns the state of a passed record, which may be padding if it ends with the buffer.
     fn passed_state(&self, at: u64, length: u32) -> RecordState
         requires { length ≤ 2 ^ 25 }
         ensures { result
@@ -173,7 +175,7 @@ impl<'a> RingSnapshot<'a> {
         }
     }
 
-    /// A record whose message is not shown.
+    /// Returns a record whose message is not shown.
     fn without_body(&self, at: u64, state: RecordState, type_id: i32, length: u32) -> Record<'a>
         ensures { result ≡ record {
           place = at;

@@ -1,4 +1,4 @@
-//! What the searches for rings, broadcast buffers and counters among the words of memory have in common.
+//! The functions that the searches for rings, broadcast buffers and counters share.
 ghost use Rattle.std.specs.Prelude.{◌≡◌, ℕ, ◌+◌, ◌-◌, ◌<◌, ◌≤◌, false, true, length, IfNone, IfSome};
 ghost use Rattle.ring_snapshot.specs.Search.{are_zero};
 
@@ -16,7 +16,8 @@ pub(crate) fn are_zero(words: &[u64], from: usize, count: usize) -> bool
     true
 }
 
-/// The first index from `from` on at which a test holds, of those at which a run of `size` words begins.
+/// Returns the first index from `from` on at which a test holds. Only the indexes at which a run of `size` words begins
+/// are tested.
 pub(crate) fn first_index<F: Fn(usize) -> bool>(
     words: &[u64],
     size: usize,

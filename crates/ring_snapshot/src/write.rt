@@ -1,4 +1,4 @@
-//! Writing the words of a ring, a closed broadcast buffer or counters.
+//! Writes the words of a ring, a closed broadcast buffer or counters.
 ghost use Rattle.std.specs.Prelude.{◌≡◌, ℕ, List, OnOk, slice_get};
 ghost use Rattle.std.specs.Io.KnownBytes.{Appends};
 ghost use Rattle.ring_board.specs.Closing.{closed_words};
@@ -12,11 +12,11 @@ use ring_layout::counter_descriptor::{COUNTER_WORDS, METADATA_WORDS};
 use ring_words::SoloRing;
 use std::io::{self, ErrorKind, Write};
 
-/// Memory that is a list of words.
+/// Memory that can be read as a list of words.
 pub trait Words {
     ghost words: { Self → List ℕ };
 
-    /// The word at an index, `None` after the last one.
+    /// Returns the word at an index, or `None` after the last word.
     fn word_at(&self, index: usize) -> Option<u64>
         ensures { result ≡ slice_get (words self.now) index };
 }
@@ -39,7 +39,7 @@ impl Words for ClosedBoard {
     }
 }
 
-/// The metadata of counters, as words: 64 for each id.
+/// The metadata of counters, as 64 words for each id.
 #[derive(Drop)]
 pub struct CounterMetadata<'a>(pub &'a CountersManager);
 
@@ -56,7 +56,7 @@ impl<'a> Words for CounterMetadata<'a> {
     }
 }
 
-/// The values of counters, as words: 16 for each id.
+/// The values of counters, as 16 words for each id.
 #[derive(Drop)]
 pub struct CounterValueWords<'a>(pub &'a CountersManager);
 
@@ -73,8 +73,8 @@ impl<'a> Words for CounterValueWords<'a> {
     }
 }
 
-/// Writes words, each as 8 bytes, little-endian. After a short write it goes on with the rest. It stops at the first
-/// error of the writer; some of the words are written then.
+/// Writes words. Each word is 8 bytes, little-endian. After a short write the call goes on with the rest. It stops at
+/// the first error of the writer. Some of the words are then written.
 pub fn write_words<S: Words, W: Write>(source: &S, out: &mut W) -> io::Result<()>
     ensures { OnOk result (Appends (W.contents out.old) (W.contents out.new) (bytes_of (S.words source.now))) }
 {

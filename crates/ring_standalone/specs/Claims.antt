@@ -19,7 +19,7 @@ use Rattle.ring_standalone.specs.Held.{Comes, Goes, IsHeld, held_count, held_in}
 use Rattle.ring_standalone.specs.declared.ring.Claimed.{Claimed}
 use Rattle.ring_standalone.specs.declared.numbered.Numbered.{Numbered}
 
--- what a producer knows, and the claim of each number, less 1, until it is settled
+-- the view of a producer, and the claim of each number, less 1, until the claim is settled
 pub record NumberedClaims : Type 0 where
   pub view : View
   pub claims : List (Option ClaimAt)
@@ -30,12 +30,12 @@ numbered_claims v claims = record { view = v; claims = claims }
 abbrev pub numbered_claims_of : Producer → Numbered ClaimAt → NumberedClaims
 numbered_claims_of p claims = numbered_claims (view_of p) (held_in claims)
 
--- the claims are the producer's open ones, and it has no other
+-- the claims are the producer's open ones, and the producer has no other open claim
 pub record AreAllOpen {K B : Type 0} {G : Ghosts B} (ring : Ring K B G) (p : Producer) (claims : List (Option ClaimAt)) : Type 0 where
   pub are : AreOpen ring p (in_slots claims)
   pub all : open_claims_of p ≡ held_count claims
 
--- the producer is this ring's, and the claims are its open ones
+-- the producer is one of this ring, and the claims are its open ones
 pub record AreClaimsOf {K B : Type 0} {G : Ghosts B} (ring : Ring K B G) (p : Producer)
     (claims : List (Option ClaimAt)) : Type 0 where
   pub producer : IsProducerOf ring p
@@ -55,7 +55,7 @@ pub record Declines (C : ℕ) (old : NumberedClaims) (type_id : ℤ) (len : ℕ)
   pub refused : AfterTries C type_id len old.view (λ v. Refuses true C type_id len v fault new.view)
   pub same : new.claims ≡ old.claims
 
--- what a try to claim this many bytes came to
+-- the result of a try to claim this many bytes
 abbrev pub Tries : ℕ → ℤ → ℕ → NumberedClaims → Result Claimed ClaimFault → NumberedClaims → Type 0
 Tries C type_id len old tried new = MatchResult tried
     (λ claimed. MakesNumbered C old type_id len claimed.number claimed.index new)
@@ -74,13 +74,13 @@ pub record IsPast (claims : List (Option ClaimAt)) (number offset : ℕ) (bytes 
   pub here : IsHeld claims number claim
   pub past : claim.len < offset + length bytes
 
--- what a try to put bytes into the claim of this number came to
+-- the result of a try to put bytes into the claim of this number
 abbrev pub Puts : ℕ → ℕ → List ℕ → NumberedClaims → Result (Unit {0}) PutRange → NumberedClaims → Type 0
 Puts number offset bytes old put new = MatchResult put
     (λ _. PutsAt old number offset bytes new)
     (λ _. IsPast old.claims number offset bytes × (new ≡ old))
 
--- the claim of this number was settled, and its number given up
+-- the claim of this number was settled, and the number was given up
 pub record SettlesAt (state : ClaimState) (old : NumberedClaims) (number : ℕ) (new : NumberedClaims) : Type 0 where
   pub claim : ClaimAt
   pub goes : Goes claim old.claims number new.claims

@@ -20,11 +20,11 @@ pub record NumberedReceivers : Type 0 where
 abbrev pub by_number : Transmitter → Numbered CopyReceiver → NumberedReceivers
 by_number t receivers = record { transmitter = t; receivers = held_in receivers }
 
--- the receivers are this broadcast buffer's
+-- the receivers are of this broadcast buffer
 abbrev pub AreReceivers : Board → List (Option CopyReceiver) → Type 0
 AreReceivers board receivers = (i : ℕ) (r : CopyReceiver) → HasAt receivers i r → IsReceiverOf board r
 
--- the transmitter is this broadcast buffer's, and so are the receivers
+-- the transmitter and the receivers are of this broadcast buffer
 pub record AreReceiversOf (board : Board) (c : NumberedReceivers) : Type 0 where
   pub transmitter : IsTransmitterOf board c.transmitter
   pub receivers : AreReceivers board c.receivers
@@ -40,13 +40,13 @@ pub record Subscribes (old : NumberedReceivers) (next : ℕ) (new : NumberedRece
   pub share : view_of new.transmitter ≡ fewer (view_of old.transmitter)
   pub comes : Comes receiver old.receivers next new.receivers
 
--- what a receiver that received this knows
+-- the view of a receiver that received this
 abbrev pub IsTold : Received → Sat → Sat → Type 0
 IsTold (Copy place type_id body) old new = GotCopy place type_id body.items old new
 IsTold Nothing old new = GotNothing old new
 IsTold (Lapped lapped) old new = GotLapped lapped old new
 
--- the receiver of this number received this, and no other one changed
+-- the receiver of this number received this, and no other receiver changed
 pub record ReceivesAt (told : Received) (old : Numbered CopyReceiver) (number : ℕ)
     (new : Numbered CopyReceiver) : Type 0 where
   pub before : CopyReceiver
@@ -54,12 +54,12 @@ pub record ReceivesAt (told : Received) (old : Numbered CopyReceiver) (number : 
   pub told_it : IsTold told (receiver_seat before) (receiver_seat after)
   pub stays : Stays before after (held_in old) number (held_in new)
 
--- the receiver of this number left, and its number is given up
+-- the receiver of this number left, and the number was given up
 pub record LeavesAt (old : NumberedReceivers) (number : ℕ) (new : NumberedReceivers) : Type 0 where
   pub receiver : CopyReceiver
   pub goes : Goes receiver old.receivers number new.receivers
   pub share : view_of new.transmitter ≡ joined (view_of old.transmitter) (receiver_view receiver)
 
--- what a transmitter knows once all receivers that are here have left, in rising order of their numbers
+-- the view of a transmitter after all receivers have left, in rising order of their numbers
 abbrev pub all_left : List (Option CopyReceiver) → View → View
 all_left = in_turn (λ r v. joined v (receiver_view r))

@@ -21,7 +21,7 @@ use ring_board::{
 };
 use std::alloc::{AllocError, Global};
 
-/// A broadcast buffer with its receivers, which are numbered from 1. No number is given twice.
+/// A broadcast buffer with its receivers, which are numbered from 1. No number is given to two receivers.
 #[derive(Drop)]
 pub struct StandaloneBoard {
     board: Board,
@@ -32,7 +32,7 @@ pub struct StandaloneBoard {
     ghost shares: { shares_in (by_number transmitter receivers) ≡ all_shares },
 }
 
-/// Makes a receiver, keeps it under the next number, and returns the number. The room to keep it is made first.
+/// Makes a receiver, keeps it under the next number, and returns the number. The room for the receiver is made first.
 fn make_receiver(
     alloc: Global,
     board: &Board,
@@ -57,7 +57,7 @@ fn make_receiver(
     Ok(Ok(receivers.hold(receiver)))
 }
 
-/// Joins the receiver of this number, if it is here.
+/// Joins the receiver of this number, if it has not left.
 fn join_receiver(
     board: &Board,
     transmitter: &mut Transmitter,
@@ -108,7 +108,7 @@ impl StandaloneBoard {
         self.board.transmit(&mut self.transmitter, type_id, body)
     }
 
-    /// Makes a receiver and returns its number.
+    /// Makes a receiver, and returns its number.
     pub fn subscribe(&mut self, alloc: Global) -> Result<Result<usize, SubscribeFault>, AllocError>
         ensures refused { IfOk result (λ made.
             IsSubscribedUnless (subscribe_refusal_of (shares_of self.old.transmitter)) made) }
@@ -127,8 +127,8 @@ impl StandaloneBoard {
         )
     }
 
-    /// Asks the receiver of this number for the next message. Returns `None` if there is no such receiver; nothing has
-    /// changed then.
+    /// Asks the receiver of this number for the next message. Returns `None` if there is no such receiver. Nothing has
+    /// then changed.
     pub fn receive(&mut self, alloc: Global, number: usize) -> Option<Result<Received, AllocError>>
         ensures told { IfSome result (λ answer. IfOk answer (λ told.
             ReceivesAt told self.old.receivers number self.new.receivers)) }
@@ -157,7 +157,7 @@ impl StandaloneBoard {
         )
     }
 
-    /// Joins all receivers, in rising order of their numbers. The transmitter has all shares then.
+    /// Joins all receivers, in rising order of their numbers. The transmitter has all shares afterwards.
     fn join_all(&mut self)
         ensures shares { shares_of self.new.transmitter ≡ all_shares }
         ensures left { view_of self.new.transmitter
@@ -169,8 +169,8 @@ impl StandaloneBoard {
         }
     }
 
-    /// Joins all receivers, in rising order of their numbers, and closes the broadcast buffer. Returns the words of all
-    /// that was transmitted.
+    /// Joins all receivers, in rising order of their numbers, and closes the broadcast buffer. Returns the words of the
+    /// closed broadcast buffer, which have all that was transmitted.
     pub fn close(mut self) -> ClosedBoard
         ensures capacity { closed_capacity result ≡ capacity_of self.board }
         ensures closed { IsClosed (capacity_of self.board) (start_of self.board) (transmitted self.transmitter)

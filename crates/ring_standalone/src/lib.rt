@@ -1,8 +1,8 @@
-//! A ring with numbered claims and a broadcast buffer with numbered receivers: what a run holds beside its conductor.
+//! A ring with numbered claims, and a broadcast buffer with numbered receivers. A run has these beside its conductor.
 //!
-//! - `numbered`: what is held by number.
+//! - `numbered`: things that are kept by number.
 //! - `ring`: a ring with its open claims. `board`: a broadcast buffer with its receivers.
-//! - `receiving`, `received`: a numbered receiver that asks for a message, and what it receives.
+//! - `receiving`, `received`: a numbered receiver that asks for a message, and the result.
 #![tactic(auto)]
 
 mod board;

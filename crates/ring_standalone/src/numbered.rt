@@ -1,19 +1,19 @@
-//! What is held by number.
+//! Things that are kept by number.
 ghost use Rattle.std.specs.Prelude.{◌≡◌, ◌-◌, [], IfNone, IfSome, OnOk, Some, length, slice_set};
 
 use std::alloc::{AllocError, Global};
 
-/// Things that are held by number. Numbers count from 1 and are drawn in turn; none is given twice.
+/// Things that are kept by number. Numbers count from 1 and are drawn in turn. No number is given twice.
 #[derive(Drop)]
 pub struct Numbered<T> {
-    /// What is held under each number, less 1.
+    /// The thing that is kept under each number, less 1.
     held: Vec<Option<T>>,
 }
 
 impl<T> Numbered<T> {
     ghost use Rattle.ring_standalone.specs.Held.{Comes, Goes, HasRoomToHold, IsFree, held_in};
 
-    /// Nothing is held, and no number was drawn.
+    /// Makes an empty collection, of which no number was drawn.
     pub fn new(alloc: Global) -> Self
         ensures { held_in result ≡ [] }
     {
@@ -22,14 +22,14 @@ impl<T> Numbered<T> {
         }
     }
 
-    /// The number of numbers that were drawn, which is the last one.
+    /// Returns how many numbers were drawn. This is also the last number that was drawn.
     pub fn drawn(&self) -> usize
         ensures { result ≡ length (held_in self.now) }
     {
         self.held.len()
     }
 
-    /// Makes room for one more. Everything that is held stays, also if memory runs out.
+    /// Makes room for one more thing. All things that are kept stay, also if there is no memory.
     pub fn reserve(&mut self) -> Result<(), AllocError>
         ensures room { OnOk result (HasRoomToHold self.new) }
         ensures same { held_in self.new ≡ held_in self.old }
@@ -37,7 +37,7 @@ impl<T> Numbered<T> {
         self.held.reserve(1)
     }
 
-    /// Holds one more, for which room was made, under the next number, and returns the number.
+    /// Keeps a thing, for which room was made, under the next number. Returns the number.
     pub fn hold(&mut self, x: T) -> usize
         requires { HasRoomToHold self.old }
         ensures { Comes x (held_in self.old) result (held_in self.new) }
@@ -46,7 +46,8 @@ impl<T> Numbered<T> {
         self.drawn()
     }
 
-    /// Takes what is held under this number. Returns `None` if nothing is; nothing has changed then.
+    /// Takes the thing that is kept under this number. Returns `None` if there is no such thing. Nothing has then
+    /// changed.
     pub fn take(&mut self, number: usize) -> Option<T>
         ensures taken { IfSome result (λ x. Goes x (held_in self.old) number (held_in self.new)) }
         ensures same { IfNone result (held_in self.new ≡ held_in self.old) }
@@ -60,7 +61,7 @@ impl<T> Numbered<T> {
 impl<T> Numbered<T> {
     ghost use Rattle.ring_standalone.specs.Held.{IsVacant, held_count, held_in};
 
-    /// Holds this under a number again, from which it was taken.
+    /// Keeps a thing again, under the number from which it was taken.
     pub fn put_back(&mut self, number: usize, x: T)
         requires { IsVacant (held_in self.old) number }
         ensures { held_in self.new ≡ slice_set (held_in self.old) (number - 1) (Some x) }
@@ -69,7 +70,7 @@ impl<T> Numbered<T> {
         let None = old else { unreachable!() };
     }
 
-    /// Lets it go, as nothing is held.
+    /// Drops the collection, in which no thing is kept.
     pub fn discard(self)
         requires { held_count (held_in self) ≡ 0 }
     {

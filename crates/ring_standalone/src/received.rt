@@ -1,19 +1,19 @@
-//! What a receiver receives.
+//! The results of a receiver that asks for a message.
 ghost use Rattle.std.specs.Prelude.{IfOk};
 
 use ring_board::{Board, CopyReceiver, Lapped};
 use std::alloc::{AllocError, Global};
 
-/// What a receiver receives when it asks for the next message.
+/// The result of a receiver that asks for the next message.
 #[derive(Drop)]
 pub enum Received {
-    /// A copy of a message, whose record is at this place.
+    /// A copy of a message. Its record is at this place.
     Copy {
         place: u64,
         type_id: i32,
         body: Vec<u8>,
     },
-    /// There is no message yet.
+    /// No message is there yet.
     Nothing,
     /// The transmitter overtook the receiver.
     Lapped(Lapped),

@@ -8,7 +8,7 @@ use crate::received::Received;
 use ring_board::{Board, CopyReceiver};
 use std::alloc::{AllocError, Global};
 
-/// Asks the receiver of this number for the next message, if it is here.
+/// Asks the receiver of this number for the next message, if it has not left.
 pub fn receive_at(
     alloc: Global,
     board: &Board,

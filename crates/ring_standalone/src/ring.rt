@@ -22,15 +22,15 @@ use std::alloc::{AllocError, Global};
 use std::marker::Model;
 use std::sync::Wait;
 
-/// A claim that was made: its number, and the byte index of its body in the buffer.
+/// A claim that was made, with its number and the byte index of its body in the buffer.
 #[derive(Clone, Copy, Debug, PartialEq, Eq)]
 pub struct Claimed {
     pub number: usize,
     pub index: u32,
 }
 
-/// A ring with its only producer, its consumer, and the producer's open claims, which are numbered from 1. No number is
-/// given twice.
+/// A ring with its only producer, its consumer, and the producer's open claims. The claims are numbered from 1. No
+/// number is given to two claims.
 pub struct StandaloneRing {
     ring: ManyToOneRing,
     producer: Producer,
@@ -79,7 +79,7 @@ fn put_into(
     Some(put)
 }
 
-/// Claims room, and keeps the claim under the next number. The room to keep it is made first.
+/// Claims room, and keeps the claim under the next number. The room for the claim is made first.
 fn make_claim<R: Wait>(
     rt: &R,
     ring: &ManyToOneRing,
@@ -120,7 +120,7 @@ impl StandaloneRing {
         })
     }
 
-    /// Writes a message. It may wait.
+    /// Writes a message. The call may wait.
     pub fn write<R: Wait>(&mut self, rt: &R, type_id: i32, body: &[u8]) -> Result<(), ClaimFault>
         ensures written { OnOk result
             (WritesAfter self.old.capacity type_id body.now self.old.producer.view self.new.producer.view) }
@@ -131,7 +131,7 @@ impl StandaloneRing {
         self.ring.write(rt, &mut self.producer, type_id, body)
     }
 
-    /// Claims room, and returns the claim's number. It may wait.
+    /// Claims room, and returns the claim's number. The call may wait.
     pub fn claim<R: Wait>(
         &mut self,
         rt: &R,
@@ -153,7 +153,7 @@ impl StandaloneRing {
         )
     }
 
-    /// Puts bytes into the claim of this number. Returns `None` if it is not open.
+    /// Puts bytes into the claim of this number. Returns `None` if the claim is not open.
     pub fn put(
         &mut self,
         number: usize,
@@ -175,7 +175,7 @@ impl StandaloneRing {
         )
     }
 
-    /// Settles the claim of this number. Returns `None` if it is not open.
+    /// Settles the claim of this number. Returns `None` if the claim is not open.
     fn settle(&mut self, number: usize, state: ClaimState) -> Option<()>
         requires { state ≢ Open }
         ensures settled { MatchOption result (self.new ≡ self.old)
@@ -192,7 +192,7 @@ impl StandaloneRing {
         Some(())
     }
 
-    /// Commits the claim of this number. Returns `None` if it is not open.
+    /// Commits the claim of this number. Returns `None` if the claim is not open.
     pub fn commit(&mut self, number: usize) -> Option<()>
         ensures settled { MatchOption result (self.new ≡ self.old)
             (λ _. SettlesAt Committed self.old.producer number self.new.producer) }
@@ -202,7 +202,7 @@ impl StandaloneRing {
         self.settle(number, ClaimState::Committed)
     }
 
-    /// Aborts the claim of this number. Returns `None` if it is not open.
+    /// Aborts the claim of this number. Returns `None` if the claim is not open.
     pub fn abort(&mut self, number: usize) -> Option<()>
         ensures settled { MatchOption result (self.new ≡ self.old)
             (λ _. SettlesAt Aborted self.old.producer number self.new.producer) }
@@ -225,7 +225,7 @@ impl StandaloneRing {
         self.ring.read(&mut self.consumer, limit, handler)
     }
 
-    /// Reads at most `limit` messages, and heeds the handler's actions.
+    /// Reads at most `limit` messages, and follows the handler's actions.
     pub fn controlled_read<H: Handler>(&mut self, limit: u32, handler: &mut H) -> ReadEnd
         requires { H.ready handler.old }
         ensures ready { H.ready handler.new }
@@ -303,7 +303,7 @@ impl StandaloneRing {
 }
 
 impl Drop for StandaloneRing {
-    /// What was claimed and not settled is aborted.
+    /// Claims that were not settled are aborted.
     fn drop(mut self) {
         self.abort_all();
         let Self {

@@ -1,4 +1,4 @@
--- What clauses say of a storm.
+-- The words of clauses for a storm.
 use Rattle.std.specs.Prelude.{◌≡◌, ◌⊎◌, ℕ, ◌+◌, ◌*◌, ◌/◌, ◌<◌, ◌≤◌, ◌^◌, ℤ, pos, ◌+ℤ◌, IsTrue, List, [], ◌∷◌, ◌++◌, fold, length, nat_lt, if◌then◌else◌, Option, None, Some, unwrap_or}
 use Rattle.std.specs.Int.{is_power_of_two, IsPowerOfTwo, saturate_signed, w64}
 use Rattle.ring_layout.specs.declared.message.Message.{Message}
@@ -51,25 +51,25 @@ use Rattle.ring_storm.specs.Turns.{AreAllTurns, AreAnswered, ClientHistory, clai
 
 -- The plan ---------------------------------------------------------------------
 
--- each number is allowed
+-- each number of the plan is allowed
 pub record IsPlan (p : StormPlan) : Type 0 where
   pub clients : (1 ≤ p.clients) × (p.clients ≤ 64)
   pub commands : (1 ≤ p.commands) × (p.commands ≤ 10000)
   pub ring : (256 ≤ p.ring) × (p.ring ≤ 2 ^ 24) × IsTrue (is_power_of_two p.ring)
   pub turns : 1 ≤ p.turns
 
--- the number of why a storm gives no report
+-- the number of the reason why a storm gives no report
 abbrev pub storm_code : StormFault → ℤ
 storm_code BadPlan = pos 26
 storm_code OutOfMemory = pos 3
 storm_code TurnsSpent = pos 27
 
--- why a storm gives no report that did not go on
+-- the reason why a storm that did not go on gives no report
 abbrev pub fault_of : Failure → StormFault
 fault_of fails.OutOfMemory = OutOfMemory
 fault_of fails.TurnsSpent = TurnsSpent
 
--- a client that has not all its replies has spent its turns, unless something failed before
+-- a client that does not have all its replies has spent its turns, unless something failed before
 abbrev pub failure_after : ℕ → ℕ → Option Failure → Option Failure
 failure_after replies commands failure =
     if nat_lt replies commands then Some (unwrap_or failure fails.TurnsSpent) else failure
@@ -78,7 +78,8 @@ failure_after replies commands failure =
 abbrev pub all_commands : StormPlan → ℕ
 all_commands p = p.clients * p.commands
 
--- the least power of two from 256 on that is greater than 24 bytes for each command: half of it would not do
+-- C is the least power of two from 256 on that is greater than 24 bytes for each command, so half of it would not be
+-- enough
 pub record IsBoardFor (p : StormPlan) (C : ℕ) : Type 0 where
   pub power : IsPowerOfTwo C
   pub least : 256 ≤ C
@@ -92,11 +93,11 @@ abbrev pub counters_after : Registry → List Message → Registry
 counters_after r [] = r
 counters_after r (m ∷ ms) = counters_after (applied 0 r m).registry ms
 
--- what these messages make of fresh counters, one for each client
+-- the counters that these messages make from fresh counters, one for each client
 abbrev pub storm_counters : StormPlan → List Message → Registry
 storm_counters p ms = counters_after (fresh_registry p.clients 0) ms
 
--- a sum with the value of one more counter, held within 64 bits
+-- a sum to which the value of one more counter is added, within 64 bits
 abbrev pub with_value_of : ℤ → ℕ × Counter → ℤ
 with_value_of sum c = saturate_signed w64 (sum +ℤ c.1.values.value)
 
@@ -116,7 +117,7 @@ pub record HasOwnCounter (client last : ℕ) (r : Registry) : Type 0 where
 abbrev pub board_shares_of : Conductor → ℕ
 board_shares_of c = board_shares (transmitter_of c)
 
--- the receivers that are out, and those that were joined, are as before
+-- the receivers that have shares, and those that were joined, are as before
 abbrev pub KeepsReceivers : Conductor → Conductor → Type 0
 KeepsReceivers old new = (board_shares_of new ≡ board_shares_of old) × (joined_by new ≡ joined_by old)
 
@@ -124,7 +125,8 @@ KeepsReceivers old new = (board_shares_of new ≡ board_shares_of old) × (joine
 abbrev pub HasRisen : Producer → Type 0
 HasRisen p = AreRising (claims_of p) × EndBelow (seen_tail_of p) (claims_of p)
 
--- a client's producer: one share of this ring, no open claim, claims whose places rise, and no other joined into it
+-- The producer of a client. It has one share of this ring, no open claim, and claims whose places rise. No other
+-- producer was joined to it.
 abbrev pub IsClientSeat : {K B : Type 0} {G : Ghosts B} → Ring K B G → Producer → Type 0
 IsClientSeat ring p =
     IsProducerOf ring p × (shares_of p ≡ 1) × (open_claims_of p ≡ 0) × HasRisen p × (services_of p ≡ [])
@@ -133,12 +135,12 @@ IsClientSeat ring p =
 abbrev pub sent_by : Producer → ℕ
 sent_by p = length (claims_of p)
 
--- a client at its seats
+-- the client has its seats at this ring and this broadcast buffer
 abbrev pub IsClientOf : {K B : Type 0} {G : Ghosts B} → Ring K B G → Board → StormClient → Type 0
 IsClientOf ring board c =
     IsClientSeat ring (producer_of c.client) × IsReceiverOf board (receiver_of c.client) × (c.index < 64)
 
--- what it did
+-- the history of a client
 abbrev pub history_of : StormClient → ClientHistory
 history_of c = record {
   claims = claims_by c.client;
@@ -147,15 +149,15 @@ history_of c = record {
   counter = c.counter;
 }
 
--- it has sent no command, was answered none, drew no number and knows no counter
+-- the client has sent no command, has no reply, drew no number and knows no counter
 abbrev pub IsNew : StormClient → Type 0
 IsNew c = (sent_by (producer_of c.client) ≡ 0) × (c.seen ≡ 0) × (draws_by c.client ≡ []) × (c.counter ≡ 0)
 
--- it has sent at most n commands, and drew at most n numbers
+-- the client has sent at most n commands, and drew at most n numbers
 abbrev pub SentAtMost : ℕ → StormClient → Type 0
 SentAtMost n c = (sent_by (producer_of c.client) ≤ n) × (length (draws_by c.client) ≤ n)
 
--- the client with this number has sent at most this many commands, and each one that it counts was answered
+-- the client with this number has sent at most this many commands, and each command that it counts had its reply
 pub record HasWorked (commands client : ℕ) (c : StormClient) : Type 0 where
   pub sent : SentAtMost commands c
   pub seen : c.seen ≤ commands
@@ -166,20 +168,21 @@ pub record HasWorked (commands client : ℕ) (c : StormClient) : Type 0 where
 abbrev pub taken_by : Conductor → ℕ
 taken_by c = length (received_of c)
 
--- the counters are what the messages that the conductor took make of fresh ones, and no other thread reads their values
+-- The counters are those that the messages taken by the conductor make from fresh ones. No other thread reads their
+-- values.
 abbrev pub HasCounters : StormPlan → Conductor → Type 0
 HasCounters p c = (registry_of (manager_in c) ≡ storm_counters p (messages_of (received_of c)))
     × (value_shares_of c ≡ all_shares)
 
--- producer and conductor belong to this ring, this board and these values, the counters are those of the messages
--- taken, no other thread reads their values, and the producer drew no number
+-- The producer and the conductor belong to this ring, this board and these values. The counters are those of the
+-- messages taken. No other thread reads their values, and the producer drew no number.
 abbrev pub AreEndpointsOf : {K B : Type 0} {G : Ghosts B} → StormPlan → Ring K B G → Board → CounterValues → Endpoints
     → Type 0
 AreEndpointsOf p ring board values endpoints = IsProducerOf ring endpoints.producer
     × IsConductorOf IsConsumerOf ring board values endpoints.conductor × HasCounters p endpoints.conductor
     × (draws_of endpoints.producer ≡ [])
 
--- the same at what all threads share
+-- the client has its seats at what all threads share
 abbrev pub IsClientAt : {G B : Type 0} {H : Ghosts B} → Shared G B H → StormClient → Type 0
 IsClientAt s c = IsClientOf s.ring.now s.board.now c
 
@@ -189,14 +192,15 @@ IsConductorAt s c = IsConductorOf IsConsumerOf s.ring.now s.board.now s.values.n
 abbrev pub AreEndpointsAt : {G B : Type 0} {H : Ghosts B} → Shared G B H → Endpoints → Type 0
 AreEndpointsAt s endpoints = AreEndpointsOf s.plan s.ring.now s.board.now s.values.now endpoints
 
--- all commands were taken, and this many clients had all their replies: each was seen, in its turn
+-- All commands were taken, and this many clients had all their replies. The claims, the receivers and the services are
+-- those of all turns of these clients.
 abbrev pub IsDone : StormPlan → ℕ → LevelEnd → Type 0
 IsDone p clients end = (all_commands p ≤ taken_by end.endpoints.conductor) × (end.seen ≡ clients * p.commands)
     × AreAllTurns p.commands clients (claims_of end.endpoints.producer) (joined_by end.endpoints.conductor)
     (services_of end.endpoints.producer)
 
--- what the conductor's thread gives back: the conductor with the counters of the messages taken; it has joined no
--- receiver, and if it is done it took all commands
+-- The result of the conductor's thread. It is the conductor with the counters of the messages taken. It has joined no
+-- receiver. If it is done, it took all commands.
 pub record HasConducted {K B : Type 0} {G : Ghosts B} (p : StormPlan) (ring : Ring K B G) (board : Board) (values : CounterValues)
     (end : ConductorEnd) : Type 0 where
   pub conductor : IsConductorOf IsConsumerOf ring board values end.conductor
@@ -209,7 +213,7 @@ abbrev pub IsUnused : Endpoints → Type 0
 IsUnused endpoints = (claims_of endpoints.producer ≡ []) × (joined_by endpoints.conductor ≡ [])
     × (services_of endpoints.producer ≡ [])
 
--- the endpoints before the first client: of this ring, this board and these values, and unused
+-- the endpoints before the first client, which are of this ring, this board and these values, and are unused
 pub record IsFreshOf {K B : Type 0} {G : Ghosts B} (p : StormPlan) (ring : Ring K B G) (board : Board) (values : CounterValues)
     (endpoints : Endpoints) : Type 0 where
   pub of : AreEndpointsOf p ring board values endpoints
@@ -218,19 +222,19 @@ pub record IsFreshOf {K B : Type 0} {G : Ghosts B} (p : StormPlan) (ring : Ring 
 abbrev pub IsFreshAt : {G B : Type 0} {H : Ghosts B} → Shared G B H → Endpoints → Type 0
 IsFreshAt s endpoints = IsFreshOf s.plan s.ring.now s.board.now s.values.now endpoints
 
--- no share of ring or board is away, and no claim is open
+-- no share of the ring or the board is away, and no claim is open
 pub record HasAll (endpoints : Endpoints) : Type 0 where
   pub producers : shares_of endpoints.producer ≡ all_shares
   pub receivers : board_shares_of endpoints.conductor ≡ all_shares
   pub settled : open_claims_of endpoints.producer ≡ 0
 
--- as many shares of ring and board as before, and as many open claims
+-- the ring and the board have as many shares as before, and there are as many open claims
 pub record HasSeatsBack (old new : Endpoints) : Type 0 where
   pub producers : shares_of new.producer ≡ shares_of old.producer
   pub receivers : board_shares_of new.conductor ≡ board_shares_of old.conductor
   pub open_claims : open_claims_of new.producer ≡ open_claims_of old.producer
 
--- one share of the ring and one of the board are lent, and nothing else that is counted is another
+-- one share of the ring and one of the board are lent, and no other count has changed
 pub record LendsSeats (old new : Endpoints) : Type 0 where
   pub producers : shares_of new.producer + 1 ≡ shares_of old.producer
   pub receivers : board_shares_of new.conductor + 1 ≡ board_shares_of old.conductor
@@ -240,8 +244,8 @@ pub record LendsSeats (old new : Endpoints) : Type 0 where
   pub services : services_of new.producer ≡ services_of old.producer
   pub taken : taken_by new.conductor ≡ taken_by old.conductor
 
--- a client's seats are joined: one share of the ring and one of the board more, its claims put among the others, and
--- its receiver and its service after the others
+-- A client's seats are joined. There is one more share of the ring and one more of the board. The client's claims are
+-- merged with the others, and its receiver and its service come after the others.
 pub record TakesSeats (c : StormClient) (old new : Endpoints) : Type 0 where
   pub producers : shares_of new.producer ≡ shares_of old.producer + 1
   pub receivers : board_shares_of new.conductor ≡ board_shares_of old.conductor + 1
@@ -253,8 +257,8 @@ pub record TakesSeats (c : StormClient) (old new : Endpoints) : Type 0 where
   pub services : services_of new.producer ≡ services_of old.producer ++ service_of (producer_of c.client) ∷ []
   pub taken : taken_by new.conductor ≡ taken_by old.conductor
 
--- The end of a level: the endpoints with the seats of this many clients, which sent no more commands and saw no more
--- replies than the plan has for them; all of these, each in its turn, if nothing failed
+-- The end of a level. The endpoints have the seats of this many clients. These clients sent no more commands and saw no
+-- more replies than the plan has for them. If nothing failed, they sent and saw all of these, each client in its turn.
 pub record IsEndOf {K B : Type 0} {G : Ghosts B} (p : StormPlan) (ring : Ring K B G) (board : Board) (values : CounterValues)
     (clients : ℕ) (end : LevelEnd) : Type 0 where
   pub endpoints : AreEndpointsOf p ring board values end.endpoints
@@ -267,9 +271,9 @@ IsEndAt s clients end = IsEndOf s.plan s.ring.now s.board.now s.values.now clien
 
 -- The end ----------------------------------------------------------------------
 
--- What is left of a storm, whether all is done or some gave up. The endpoints have all seats of this ring, this board
--- and these values, with no more claims than all commands, and the conductor finished with them: the headline holds of
--- them, and all that they hand on is handed on
+-- The end of a storm, whether all is done or some threads gave up. The endpoints have all seats of this ring, this
+-- board and these values, with no more claims than all commands. The conductor finished with them. The headline is true
+-- of these, and the result has all parts that a conductor hands on.
 pub record HasFinished {K B : Type 0} {G : Ghosts B} (p : StormPlan) (ring : Ring K B G) (board : Board) (values : CounterValues)
     (e : StormEnd) : Type 0 where
   pub endpoints : Endpoints
@@ -280,12 +284,13 @@ pub record HasFinished {K B : Type 0} {G : Ghosts B} (p : StormPlan) (ring : Rin
 
 -- The report -------------------------------------------------------------------
 
--- All commands were taken, none is left, and each client had all its replies. The claims of the ring, in the order of
--- the exchanges, are the clients' commands, and what was taken is their messages; each command has its reply among the
--- copies of its client's receiver, which are runs of all replies; and these are the ones that the messages have. The
--- commands' correlation ids are the numbers below that of all commands, each once. The live counters, and the sum of
--- their values, are those that the messages make of fresh counters: one for each client, which has its label and the
--- last number that it set, which the plan determines
+-- All commands were taken, no command is left, and each client had all its replies. The claims of the ring, in the
+-- order of the exchanges, are the clients' commands. The messages that were taken are the messages of these claims.
+-- Each command has its reply among the copies of its client's receiver, which are runs of all replies. These replies
+-- are the ones that the messages have. The commands' correlation ids are the numbers below the number of all commands,
+-- each once. The live counters, and the sum of their values, are those that the messages make from fresh counters.
+-- There is one for each client, with the client's label and the last number that the client set. The plan determines
+-- this number.
 pub record IsReportBy (p : StormPlan) (r : StormReport) (claims : List StagedClaim) (messages : List Message)
     (replies : List Record) (receivers : List Joined) (services : List Service) (registry : Registry)
     (writes : List ValueWrite) : Type 0 where
@@ -306,13 +311,13 @@ pub record IsReportBy (p : StormPlan) (r : StormReport) (claims : List StagedCla
   pub own : (c : ℕ) → c < p.clients → ∥ HasOwnCounter c (last_set p.commands) (storm_counters p messages) ∥₁
   pub total : r.sum ≡ pos (p.clients * last_set p.commands)
 
--- the same of the claims, messages, replies, receivers, services and counters of what the storm finished with
+-- the report has the claims, messages, replies, receivers, services and counters with which the storm finished
 abbrev pub IsReportFrom : StormPlan → StormReport → Finished → Type 0
 IsReportFrom p r f =
     IsReportBy p r (claims_in f) (messages_of (received_in f)) (replies_in f) (joined_in f) (services_in f)
     (registry_of f.counters) (writes_of f.counters)
 
--- the report is that of what the storm finished with, whose broadcast buffer has the capacity that the plan asks for
+-- the report is that of what the storm finished with, and its broadcast buffer has the capacity that the plan asks for
 abbrev pub IsReportOf : StormPlan → StormReport → Type 0
 IsReportOf p r =
     IsReportFrom p r r.finished.value × IsBoardFor p (closed_capacity r.finished.value.board)

@@ -1,4 +1,4 @@
--- What a client of a storm does: command after command, each with its reply.
+-- The turns of a client of a storm. It sends one command after another, and each has its reply.
 use Rattle.std.specs.Prelude.{◌≡◌, ℕ, zero, suc, ◌==◌, ◌%◌, ◌^◌, pos, if◌then◌else◌, List, [], ◌∷◌, ◌++◌, codes}
 use Rattle.std.specs.Fmt.{decimal}
 use Rattle.ring_layout.specs.declared.message.ClaimState.TheVariants.{Committed}
@@ -20,19 +20,20 @@ use Rattle.ring_protocol.specs.declared.command.Request.TheVariants.{Allocate, S
 use Rattle.ring_protocol.specs.Command.{Instruction, spelling_of, type_id_of, with_id}
 use Rattle.ring_protocol.specs.Reply as reply
 
--- the label of a client's counter: `c` and the client's number in decimal digits, without a leading zero
+-- the label of a client's counter, which is `c` and the client's number in decimal digits, without a leading zero
 abbrev pub label_of : ℕ → List ℕ
 label_of client = codes "c" ++ decimal client
 
--- the request with this number, for a counter with this label, or to set the counter with this id to the number
+-- the request with this number, which asks for a counter with this label or sets the counter with this id to the number
 abbrev pub numbered : List ℕ → ℕ → ℕ → Request (List ℕ)
 numbered label counter number = if number == 1 then Allocate (pos 1) [] label else Set counter (pos number)
 
--- a client's command: its first allocates a counter with its label, each further one sets a counter to its number
+-- A client's command. The first command allocates a counter with the client's label. Each later one sets a counter to
+-- the command's number.
 abbrev pub turn_of : ℕ → ℕ → ℕ → ℕ → Instruction
 turn_of client counter number correlation = with_id correlation (numbered (label_of client) counter number)
 
--- the last number that a client sets by this many commands: none by the first alone, and its counter has 0
+-- The last number that a client sets by this many commands. The first command alone sets none, and the counter has 0.
 abbrev pub last_set : ℕ → ℕ
 last_set commands = if commands == 1 then 0 else commands
 
@@ -46,18 +47,18 @@ draws_by c = draws_of (producer_of c)
 abbrev pub copies_by : Client → List Taken
 copies_by c = copied (receiver_of c)
 
--- the second list begins with the first
+-- the second list begins with the first list
 abbrev pub Lengthens : {A : Type 0} → List A → List A → Type 0
 Lengthens {A} old new = (more : List A) × (new ≡ old ++ more)
 
--- the claims have one more, the committed command
+-- the claims have one more claim, which is the committed command
 pub record Adds (c : Instruction) (old new : List StagedClaim) : Type 0 where
   pub claim : StagedClaim
   pub added : new ≡ old ++ claim ∷ []
   pub message : claim.message ≡ record { type_id = type_id_of c; body = spelling_of c }
   pub committed : claim.stage ≡ Stored Committed
 
--- the copies have some more, of which the last spells this reply, with this correlation id
+-- the copies have some more, of which the last one encodes this reply, with this correlation id
 pub record IsAnswered (correlation : ℕ) (r : Reply) (old new : List Taken) : Type 0 where
   pub passed : List Taken
   pub copy : Taken
@@ -65,7 +66,8 @@ pub record IsAnswered (correlation : ℕ) (r : Reply) (old new : List Taken) : T
   pub spells : reply.Spells copy.message.type_id copy.message.body r
   pub answers : reply.correlation_id_of r ≡ correlation
 
--- what a client did: its claims, the numbers that it drew, its copies, and the id of its counter, as it knows it
+-- the history of a client, which is its claims, the numbers that it drew, its copies, and the id of its counter, as the
+-- client knows it
 pub record ClientHistory : Type 0 where
   pub claims : List StagedClaim
   pub draws : List ℕ
@@ -78,15 +80,15 @@ pub record Extends (old new : ClientHistory) : Type 0 where
   pub draws : Lengthens old.draws new.draws
   pub copies : Lengthens old.copies new.copies
 
--- the id of a client's counter after a reply: the one that was allocated, or as before
+-- the id of a client's counter after a reply, which is the one that was allocated, or the one before
 abbrev pub counter_told : Reply → ℕ → ℕ
 counter_told (Allocated correlation id) counter = id
 counter_told (Done correlation) counter = counter
 counter_told (Refused correlation code) counter = counter
 counter_told (Closed correlation freed) counter = counter
 
--- A client drew one number, and its command was sent with that correlation id; if it sets a counter, this is the one
--- that the client knew. Then a reply with that id came, which may have the id of its counter
+-- A client drew one number, and its command was sent with this correlation id. If the command sets a counter, it is the
+-- counter that the client knew. Then a reply with this id came. It may have the id of the client's counter.
 pub record Turns (client number : ℕ) (old new : ClientHistory) : Type 0 where
   pub draw : ℕ
   pub drawn : new.draws ≡ old.draws ++ draw ∷ []
@@ -95,7 +97,7 @@ pub record Turns (client number : ℕ) (old new : ClientHistory) : Type 0 where
   pub heard : IsAnswered (draw % 2 ^ 64) told old.copies new.copies
   pub counter : new.counter ≡ counter_told told old.counter
 
--- the history is the first n commands of a client and no others, each with its reply among the copies, in order
+-- The history is the first n commands of a client, and no others. Each has its reply among the copies, in order.
 abbrev pub AreTurns : ℕ → ℕ → ClientHistory → Type 0
 AreTurns client zero d = (d.claims ≡ []) × (d.draws ≡ []) × (d.counter ≡ 0)
 AreTurns client (suc n) d = (before : ClientHistory) × AreTurns client n before × Turns client (suc n) before d
@@ -106,9 +108,9 @@ pub record AreAnswered (client n : ℕ) (d : ClientHistory) : Type 0 where
   pub turns : AreTurns client n before
   pub more : Extends before d
 
--- The claims, receivers and services of some clients, and then the same with those of one client more: its claims,
--- whose places rise, are all its commands and no others, each with its reply among its receiver's copies, and its
--- service has the numbers that it drew
+-- The claims, receivers and services of some clients, and then those of one more client. The claims of this client,
+-- whose places rise, are all its commands and no others. Each has its reply among the copies of its receiver. Its
+-- service has the numbers that it drew.
 pub record AddsClient (commands client : ℕ) (claims more_claims : List StagedClaim)
     (receivers more_receivers : List Joined) (services more_services : List Service) : Type 0 where
   pub own : ClientHistory
@@ -122,8 +124,8 @@ pub record AddsClient (commands client : ℕ) (claims more_claims : List StagedC
   pub served : more_services ≡ services ++ service ∷ []
   pub draws : service.draws ≡ own.draws
 
--- these claims, put together by place, are all commands of the clients below a number, and these are the clients'
--- receivers and services, the first client's first
+-- These claims, merged by place, are all commands of the clients below a number. These are the clients' receivers and
+-- services, those of the first client first.
 abbrev pub AreAllTurns : ℕ → ℕ → List StagedClaim → List Joined → List Service → Type 0
 AreAllTurns commands zero claims receivers services = (claims ≡ []) × (receivers ≡ []) × (services ≡ [])
 AreAllTurns commands (suc client) more_claims more_receivers more_services =

@@ -1,4 +1,4 @@
-//! What a client does.
+//! The client of a storm.
 ghost use Rattle.std.specs.Prelude.{◌≡◌, ℕ, ◌+◌, ◌%◌, ◌^◌, ◌<◌, ◌≤◌, [], ◌∷◌, ◌++◌, length, take};
 ghost use Rattle.std.specs.Prelude.{IfNone, IfSome, OnSome};
 ghost use Rattle.std.specs.Bool.{OnFalse, OnTrue};
@@ -20,7 +20,8 @@ use ring_service::{Client, Polled, Request};
 /// The type of the clients' counters.
 const COUNTER_TYPE: i32 = 1;
 
-/// The label of a client's counter, and its length: `c` and the client's number, which is below 100.
+/// Returns the label of a client's counter, and the label's length. The label is `c` and the client's number, which is
+/// below 100.
 fn label_of(client: u32) -> ([u8; 3], usize)
     requires { client < 100 }
     ensures length { result.1 ≤ 3 }
@@ -35,8 +36,8 @@ fn label_of(client: u32) -> ([u8; 3], usize)
     }
 }
 
-/// What a client asks by its command with this number: the first one allocates a counter with the label, each further
-/// one sets that counter to the command's number.
+/// Returns the request of a client's command with this number. The first command allocates a counter with the label.
+/// Each later command sets the counter to the command's number.
 fn request_of(label: &[u8], counter: u32, number: u32) -> Request<&[u8]>
     ensures { content_of_request result ≡ numbered label.now counter number }
 {
@@ -54,7 +55,7 @@ fn request_of(label: &[u8], counter: u32, number: u32) -> Request<&[u8]>
     }
 }
 
-/// Tries once to send a command. The ring refuses while it is full, or if another client was faster.
+/// Tries once to send a command. The ring refuses the command while it is full, or if another client was faster.
 fn try_send<B: Bodies>(
     ring: &Ring<ManyToOne, B>,
     client: &mut Client,
@@ -129,7 +130,7 @@ impl<G: Gate, B: Bodies> Shared<'_, G, B> {
             }
             match client.poll(self.board, correlation) {
                 Polled::Answered(reply) => return Some(reply),
-                // The next message may be there already.
+                // The next message may already be there.
                 Polled::Another(_) | Polled::NoReply => backoff.reset(),
                 Polled::Nothing | Polled::Lapped(_) => backoff.snooze(),
             }
@@ -137,8 +138,8 @@ impl<G: Gate, B: Bodies> Shared<'_, G, B> {
         None
     }
 
-    /// Reports to the gate that the client's newest command, which has this number, has its reply. Only this function
-    /// reports to the gate.
+    /// Reports to the gate that the reply to the client's newest command came. The command has this number. Only this
+    /// function reports to the gate.
     fn tell_answered(&self, client: &StormClient, number: u32)
         requires heard { (before : ClientHistory) × Turns client.now.index number before (history_of client.now) }
     {
@@ -168,7 +169,8 @@ impl<G: Gate, B: Bodies> Shared<'_, G, B> {
         Some(())
     }
 
-    /// Sends all commands of a client. If it gives up, it stops all others, which a test shows and no clause says.
+    /// Sends all commands of a client. A client that gives up stops all other threads. A test shows this, and no clause
+    /// says it.
     pub(crate) fn run_client(&self, mut client: StormClient) -> StormClient
         requires client { IsClientAt self.now client }
         requires new { IsNew client }

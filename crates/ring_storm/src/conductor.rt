@@ -1,4 +1,4 @@
-//! What the conductor does in a storm.
+//! The conductor of a storm.
 ghost use Rattle.std.specs.Prelude.{◌≡◌, ◌+◌, ◌≤◌, IsTrue};
 ghost use Rattle.ring_storm.specs.Storming.{HasCounters, IsConductorAt, IsPlan, KeepsReceivers};
 ghost use Rattle.ring_storm.specs.Storming.{all_commands, taken_by};
@@ -12,12 +12,12 @@ use ring_service::{Conductor, WorkStop};
 #[derive(Drop)]
 pub(crate) struct ConductorEnd {
     pub(crate) conductor: Conductor,
-    /// Whether it took all commands.
+    /// Whether the conductor took all commands.
     pub(crate) is_done: bool,
 }
 
 impl<G, B: Bodies> Shared<'_, G, B> {
-    /// Works until a command comes, and returns the number of those that came, 0 if none did.
+    /// Works until a command comes. Returns the number of commands that came, or 0 if none came.
     fn work(&self, conductor: &mut Conductor) -> u64
         requires conductor { IsConductorAt self.now conductor.old }
         requires counters { HasCounters self.now.plan conductor.old }
@@ -35,7 +35,7 @@ impl<G, B: Bodies> Shared<'_, G, B> {
             if work.messages > 0 {
                 return work.messages;
             }
-            // At the end of the buffer the next commands are after it.
+            // If the read stopped at the end of the buffer, the next commands are after it.
             if work.stopped != WorkStop::Block {
                 backoff.snooze();
             }
@@ -43,7 +43,8 @@ impl<G, B: Bodies> Shared<'_, G, B> {
         0
     }
 
-    /// Works until all commands are taken. If it gives up, it stops all others, which a test shows and no clause says.
+    /// Works until all commands are taken. A conductor that gives up stops all other threads. A test shows this, and no
+    /// clause says it.
     pub(crate) fn run_conductor(&self, mut conductor: Conductor) -> ConductorEnd
         requires plan { IsPlan self.now.plan }
         requires conductor { IsConductorAt self.now conductor }

@@ -1,4 +1,4 @@
-//! How clients get their seats, and give them back.
+//! The calls that give clients their seats, and that take the seats back.
 ghost use Rattle.std.specs.Prelude.{◌≡◌, ◌<◌, IfOk, OnErr, OnOk};
 ghost use Rattle.ring_rings.specs.Seats.{shares_of};
 ghost use Rattle.ring_storm.specs.Storming.{IsClientAt, AreEndpointsAt, IsNew, LendsSeats, TakesSeats, board_shares_of};
@@ -11,7 +11,7 @@ use ring_service::Client;
 use std::alloc::Global;
 
 impl<G, B: Bodies> Shared<'_, G, B> {
-    /// Makes a client with endpoints of its own. If memory runs out, nothing has changed.
+    /// Makes a client with its own producer and its own receiver. If there is no memory, nothing has changed.
     pub(crate) fn split_client(
         &self,
         alloc: Global,
@@ -39,7 +39,7 @@ impl<G, B: Bodies> Shared<'_, G, B> {
         })
     }
 
-    /// Takes a client's endpoints back, and returns how many of its commands had their replies.
+    /// Takes back a client's producer and receiver. Returns how many of its commands had their replies.
     pub(crate) fn join_client(&self, endpoints: &mut Endpoints, client: StormClient) -> u64
         requires endpoints { AreEndpointsAt self.now endpoints.old }
         requires client { IsClientAt self.now client }

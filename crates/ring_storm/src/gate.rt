@@ -1,19 +1,19 @@
-//! What decides which threads start, and when a client may send.
+//! The trait that decides which threads start, and when a client may send.
 
-/// Lets the clients of a storm send in an order of its own. Each client asks it on its own thread when it may send, and
-/// says it there of each reply.
+/// Decides the order in which the clients of a storm send. Each client asks the gate on its own thread when it may
+/// send, and reports each reply to the gate there.
 pub trait Gate {
-    /// Whether the client may send its command with this number. Clients count from 0 and their commands from 1. It is
-    /// asked again until it returns true.
+    /// Returns whether the client may send its command with this number. The client asks again until the result is
+    /// true. The number of the first client is 0, and the number of its first command is 1.
     fn may_send(&self, client: u32, number: u32) -> bool;
 
-    /// The client's command with this number had its reply.
+    /// Notes that the client's command with this number had its reply.
     fn answered(&self, client: u32, number: u32);
 
-    /// Whether a thread may start: a client's by its number, or the conductor's by the number of clients. It is asked
-    /// once for each thread, by the one that starts it, beginning with the client of the highest number. If it returns
-    /// false, that thread and those after it are not started, and the storm ends with `OutOfMemory`. By default it lets
-    /// all start.
+    /// Returns whether a thread may start. The number of a thread is the number of its client, or the number of clients
+    /// for the conductor's thread. The call is made once for each thread, by the thread that starts it. The client with
+    /// the highest number is the first one. If the result is false, this thread and the later ones are not started, and
+    /// the storm ends with `OutOfMemory`. By default all threads may start.
     fn may_start(&self, _thread: u32) -> bool {
         true
     }

@@ -1,4 +1,4 @@
-//! How the threads of a storm are started and joined.
+//! The functions that start and join the threads of a storm.
 ghost use Rattle.std.specs.Prelude.{◌≡◌, ◌+◌, ◌<◌, ◌≤◌, [], None, Some};
 ghost use Rattle.ring_storm.specs.declared.seats.Failure.TheVariants.{OutOfMemory};
 ghost use Rattle.ring_rings.specs.Seats.{shares_of, IsConsumerOf};
@@ -19,8 +19,8 @@ use std::alloc::Global;
 use std::snapshot::Snapshot;
 use std::thread::{Scope, Threads};
 
-/// The stack of a thread that is to start. If the gate refuses the thread, the stack is larger than any system gives,
-/// so that it cannot be started.
+/// Returns the stack of a thread that is to start. If the gate refuses the thread, the stack is larger than any system
+/// gives, so the thread cannot be started.
 fn stack_of<G: Gate>(gate: &G, thread: u32) -> Stack {
     if gate.may_start(thread) {
         Stack::new()
@@ -29,7 +29,7 @@ fn stack_of<G: Gate>(gate: &G, thread: u32) -> Stack {
     }
 }
 
-/// A level that goes no deeper, since memory ran out or a thread could not be started.
+/// Returns a level that goes no deeper, since memory ran out or a thread could not be started.
 fn give_up(endpoints: Endpoints) -> LevelEnd
     ensures endpoints { result.endpoints ≡ endpoints }
     ensures seen { result.seen ≡ 0 }
@@ -42,7 +42,7 @@ fn give_up(endpoints: Endpoints) -> LevelEnd
     }
 }
 
-/// The innermost level: the conductor, on a thread of its own.
+/// Returns the innermost level, which is the conductor on a thread of its own.
 fn conduct<'s, E, R: Threads, G: Gate + Sync, B: Bodies + Sync>(
     scope: &'s Scope<'s, E>,
     rt: &'s R,
@@ -114,7 +114,7 @@ fn conduct<'s, E, R: Threads, G: Gate + Sync, B: Bodies + Sync>(
             }
         }
         Err(closure) => {
-            // The closure ends at once, since all are stopped, and gives the conductor back.
+            // The closure ends at once, since all threads are stopped. It returns the conductor.
             shared.stop();
             let ConductorEnd { conductor, .. } = (closure.value)();
             give_up(Endpoints {
@@ -126,7 +126,7 @@ fn conduct<'s, E, R: Threads, G: Gate + Sync, B: Bodies + Sync>(
 }
 
 /// Starts the clients below a number, each on a thread of its own, and after them the conductor. Each level starts one
-/// client and calls the next level; then it joins the thread and takes the seats back.
+/// client and calls the next level. After that it joins the thread and takes the seats back.
 pub(crate) fn level<'s, E, R: Threads, G: Gate + Sync, B: Bodies + Sync>(
     scope: &'s Scope<'s, E>,
     rt: &'s R,
@@ -188,7 +188,7 @@ pub(crate) fn level<'s, E, R: Threads, G: Gate + Sync, B: Bodies + Sync>(
             (end, child.join(rt))
         }
         Err(closure) => {
-            // The closure ends at once, since all are stopped, and gives the seats back.
+            // The closure ends at once, since all threads are stopped. It returns the seats.
             shared.stop();
             let client = (closure.value)();
             (give_up(endpoints), client)
@@ -197,7 +197,7 @@ pub(crate) fn level<'s, E, R: Threads, G: Gate + Sync, B: Bodies + Sync>(
     gather(shared, index, end, client)
 }
 
-/// Takes a client's seats back. It has spent its turns if it did not get all its replies.
+/// Takes a client's seats back. The client has spent its turns if it did not get all its replies.
 fn gather<G, B: Bodies>(
     shared: Shared<'_, G, B>,
     index: u32,

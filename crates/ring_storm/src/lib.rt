@@ -1,8 +1,8 @@
-//! Storms: clients on threads of their own, against one conductor.
+//! Storms. Clients on several threads send commands to one conductor.
 //!
-//! - `storm`: runs the clients of a `StormPlan`, and reports what came of it. `storm_over` takes a ring of either form.
-//! - `StormReport`, `StormFault`: what a storm did, and why it gives no report.
-//! - `Gate`: decides when a client may send, and which threads start. `OpenGate` never makes them wait.
+//! - `storm`: runs the clients of a `StormPlan`, and reports the results. `storm_over` takes a ring of either form.
+//! - `StormReport`, `StormFault`: the results of a storm, and the reason why there is no report.
+//! - `Gate`: decides when a client may send, and which threads start. `OpenGate` never makes clients wait.
 #![tactic(auto)]
 
 mod client;

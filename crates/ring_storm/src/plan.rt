@@ -1,4 +1,4 @@
-//! What a storm does, and what it reports.
+//! The plan of a storm, and its report.
 ghost use Rattle.std.specs.Prelude.{◌≡◌, ◌*◌, ◌↔◌, IsTrue};
 ghost use Rattle.ring_storm.specs.Storming.{IsBoardFor, IsPlan, storm_code};
 
@@ -7,20 +7,20 @@ use ring_service::Finished;
 use std::snapshot::Snapshot;
 use thiserror::Error;
 
-/// What a storm does.
+/// The plan of a storm.
 #[derive(Clone, Copy, Debug, PartialEq, Eq)]
 pub struct StormPlan {
-    /// The number of clients: 1 to 64.
+    /// The number of clients, from 1 to 64.
     pub clients: u32,
-    /// The number of commands of each client: 1 to 10,000.
+    /// The number of commands of each client, from 1 to 10,000.
     pub commands: u32,
-    /// The capacity of the command ring in bytes: a power of two from 256 to 2^24.
+    /// The capacity of the command ring in bytes, which is a power of two from 256 to 2^24.
     pub ring: u32,
-    /// The number of turns that each wait may take: at least one.
+    /// The number of turns that each wait may take, which is at least one.
     pub turns: u64,
 }
 
-/// What a storm did.
+/// The report of a storm.
 #[derive(Drop)]
 pub struct StormReport {
     /// The number of commands that the conductor took.
@@ -29,15 +29,15 @@ pub struct StormReport {
     pub left: u64,
     /// The number of replies that came to the clients that had sent their commands.
     pub seen: u64,
-    /// The number of counters in use: one for each client.
+    /// The number of counters in use, which is one for each client.
     pub live: u32,
-    /// The sum of their values: for each client the last number that it set, 0 if it sent one command.
+    /// The sum of the counters' values. Each client adds the last number that it set, or 0 if it sent only one command.
     pub sum: i64,
-    /// What the storm finished with, for contracts: it has no bytes.
+    /// The parts with which the storm finished. This field is for contracts, and has no bytes.
     pub finished: Snapshot<Finished>,
 }
 
-/// Why a storm gives no report.
+/// The reason why a storm gives no report.
 #[derive(Clone, Copy, Debug, PartialEq, Eq, Error)]
 pub enum StormFault {
     /// A number of the plan is not allowed.
@@ -52,7 +52,7 @@ pub enum StormFault {
 }
 
 impl StormFault {
-    /// The number of the refusal.
+    /// Returns the number of the refusal.
     pub fn code(self) -> i32
         ensures { result ≡ storm_code self }
     {
@@ -65,7 +65,7 @@ impl StormFault {
 }
 
 impl StormPlan {
-    /// Whether each number is allowed.
+    /// Returns whether each number is allowed.
     pub(crate) fn is_lawful(&self) -> bool
         ensures { IsTrue result ↔ IsPlan self.now }
     {
@@ -79,7 +79,7 @@ impl StormPlan {
             && 1 <= self.turns
     }
 
-    /// The number of commands of all clients.
+    /// Returns the number of commands of all clients.
     pub(crate) fn all_commands(&self) -> u32
         requires { IsPlan self.now }
         ensures { result ≡ self.now.clients * self.now.commands }
@@ -87,7 +87,7 @@ impl StormPlan {
         self.clients * self.commands
     }
 
-    /// The capacity of a broadcast buffer on which no reply of all is overtaken.
+    /// Returns a capacity of the broadcast buffer with which no reply is overtaken.
     pub(crate) fn board_capacity(&self) -> u32
         requires { IsPlan self.now }
         ensures { IsBoardFor self.now result }

@@ -1,4 +1,4 @@
-//! What threads promise of what they give back.
+//! The promises of threads about what they return.
 ghost use Rattle.std.specs.Prelude.{◌≡◌};
 ghost use Rattle.ring_storm.specs.Storming.{HasConducted, HasWorked, IsClientOf, board_shares_of};
 
@@ -12,7 +12,7 @@ use ring_service::Conductor;
 use std::snapshot::Snapshot;
 use std::thread::Promise;
 
-/// A client comes back with its seats, and each command that it counts had its reply.
+/// States that a client comes back with its seats, and that each command that it counts had its reply.
 #[derive_where(Clone, Copy)]
 pub(crate) struct ClientBack<'a, B: Bodies> {
     pub(crate) ring: &'a Ring<ManyToOne, B>,
@@ -25,13 +25,13 @@ impl<'a, B: Bodies> Promise<StormClient> for ClientBack<'a, B> {
     ghost kept_by = { λ p r. IsClientOf p.ring.now p.board.now r × HasWorked p.plan.commands p.index r };
 }
 
-/// The conductor comes back with its shares, and has joined no receiver.
+/// States that the conductor comes back with its shares, and has joined no receiver.
 #[derive(Drop)]
 pub(crate) struct ConductorBack<'a, B: Bodies> {
     pub(crate) ring: &'a Ring<ManyToOne, B>,
     pub(crate) board: &'a Board,
     pub(crate) values: &'a CounterValues,
-    /// The conductor that was given.
+    /// The conductor that was given to the thread.
     pub(crate) given: Snapshot<Conductor>,
     pub(crate) plan: StormPlan,
 }

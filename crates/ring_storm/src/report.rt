@@ -13,7 +13,7 @@ use ring_counters::CountersManager;
 use ring_service::Finished;
 use std::snapshot::Snapshot;
 
-/// The number of counters in use, and the sum of their values.
+/// Returns the number of counters in use, and the sum of their values.
 fn count_live(counters: &CountersManager) -> (u32, i64)
     requires few { count_of (registry_of counters.now) ≤ 64 }
     ensures live { result.0 ≡ length (live_of (registry_of counters.now)) }
@@ -28,7 +28,7 @@ fn count_live(counters: &CountersManager) -> (u32, i64)
     (live, sum)
 }
 
-/// The report of a storm in which this many replies came to their clients.
+/// Returns the report of a storm in which this many replies came to their clients.
 pub(crate) fn report(finished: Finished, seen: u64) -> StormReport
     requires few { count_of (registry_of finished.counters) ≤ 64 }
     ensures received { (result.received ≡ finished.received) × (result.seen ≡ seen) }

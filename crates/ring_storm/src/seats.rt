@@ -10,12 +10,12 @@ use ring_service::{Client, Conductor, Finished};
 /// A client of a storm.
 #[derive(Drop)]
 pub(crate) struct StormClient {
-    /// Its number, from 0 on.
+    /// The number of the client, from 0 on.
     pub(crate) index: u32,
     pub(crate) client: Client,
-    /// The id of its counter, once that is allocated.
+    /// The id of the client's counter, after the counter was allocated.
     pub(crate) counter: u32,
-    /// The number of its commands that had their replies.
+    /// The number of the client's commands that had their replies.
     pub(crate) seen: u64,
 }
 
@@ -26,7 +26,7 @@ pub(crate) struct Endpoints {
     pub(crate) conductor: Conductor,
 }
 
-/// Why a storm does not go on.
+/// The reason why a storm does not go on.
 #[derive(Clone, Copy)]
 pub(crate) enum Failure {
     /// Out of memory, or a thread could not be started.
@@ -46,7 +46,7 @@ impl From<Failure> for StormFault {
     }
 }
 
-/// What comes back from the clients and the conductor, with all their seats.
+/// The parts that the clients and the conductor return, with all their seats.
 #[derive(Drop)]
 pub(crate) struct LevelEnd {
     pub(crate) endpoints: Endpoints,
@@ -55,7 +55,7 @@ pub(crate) struct LevelEnd {
     pub(crate) failure: Option<Failure>,
 }
 
-/// What is left when all threads have ended and the conductor has finished.
+/// The parts that are left when all threads have ended and the conductor has finished.
 #[derive(Drop)]
 pub(crate) struct StormEnd {
     pub(crate) finished: Finished,

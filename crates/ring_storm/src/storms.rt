@@ -1,4 +1,4 @@
-//! Clients on threads of their own, against one conductor.
+//! Storms. Clients on several threads send commands to one conductor.
 ghost use Rattle.std.specs.Prelude.{◌≡◌, ◌↔◌, IfOk, Err};
 ghost use Rattle.ring_storm.specs.declared.plan.StormFault.TheVariants.{BadPlan};
 ghost use Rattle.ring_storm.specs.Storming.{HasAll, HasFinished, IsEndOf, IsFreshOf, IsPlan, IsReportOf};
@@ -19,18 +19,22 @@ use std::sync::atomic::AtomicBool;
 use std::thread;
 use std::thread::Threads;
 
-/// Runs the clients of a plan against one conductor, all on threads of their own, and reports what came of it.
+/// Runs the clients of a plan against one conductor, all on threads of their own, and reports the results.
 ///
-/// Each client sends its commands one by one through a many-to-one ring, as the gate lets it, and waits for each reply
-/// on a broadcast buffer that has room for all of them. Its first command allocates a counter of type 1 with an empty
-/// key and the label `c` and the client's number; each later one sets that counter to the command's number. The
-/// conductor works at the moment 0 until it has taken all commands. Then all endpoints are joined and the conductor
-/// finishes, whatever came before. So the report's `sum` follows from the plan: each client's counter ends at the
-/// number of its commands, or at 0 if it sends one.
+/// Each client sends its commands one by one through a many-to-one ring, when the gate lets it. It waits for each reply
+/// on a broadcast buffer that has room for all replies. The first command of a client allocates a counter of type 1
+/// with an empty key. The label is `c` and the client's number. Each later command sets the counter to the command's
+/// number. The conductor works at the moment 0 until it has taken all commands. Then all producers and receivers are
+/// joined, and the conductor finishes. This happens also if threads gave up. So the report's `sum` follows from the
+/// plan. Each client's counter ends at the number of its commands, or at 0 if it sends only one.
 ///
-/// Returns, in this order: `BadPlan` if a number of the plan is not allowed, before anything is done; `OutOfMemory` if
-/// memory runs out, or if a thread could not be started or was kept from it by the gate; `TurnsSpent` if a wait took
-/// the number of turns that the plan allows. All threads have ended by then. It may wait.
+/// These are the errors, in this order:
+/// - `BadPlan` if a number of the plan is not allowed, before anything is done;
+/// - `OutOfMemory` if there is no memory, or if a thread could not be started, or if the gate kept a thread from its
+///   start;
+/// - `TurnsSpent` if a wait took the number of turns that the plan allows.
+///
+/// All threads have ended when the call returns. The call may wait.
 pub fn storm<R: Threads + Wait, G: Gate + Sync>(
     rt: &R,
     alloc: Global,
@@ -43,7 +47,7 @@ pub fn storm<R: Threads + Wait, G: Gate + Sync>(
     storm_over::<InWords, R, G>(rt, alloc, plan, gate)
 }
 
-/// Does what `storm` does, over a ring of either form. With `InSlots` bodies lie in plain memory.
+/// Does what `storm` does, over a ring of either form. With `InSlots` the bodies are in plain memory.
 pub fn storm_over<B: Bodies + Sync, R: Threads + Wait, G: Gate + Sync>(
     rt: &R,
     alloc: Global,
@@ -80,7 +84,7 @@ pub fn storm_over<B: Bodies + Sync, R: Threads + Wait, G: Gate + Sync>(
     }
 }
 
-/// Runs all threads, and finishes with what they give back, whether all is done or some gave up.
+/// Runs all threads, and finishes with what they return, also if some of them gave up.
 fn run<B: Bodies + Sync, R: Threads + Wait, G: Gate + Sync>(
     rt: &R,
     alloc: Global,

@@ -4,8 +4,8 @@ use Rattle.ring_uses.specs.declared.numbers.Summed.{Summed}
 use Rattle.ring_uses.specs.Closing.{IsWholeIn, received_in, sent_in}
 use Rattle.ring_uses.specs.Numbers.{numbered, sum_of}
 
--- Exactly the message of this number was sent. What was received, followed by what is unread, is that message. The sum
--- is that of what was received
+-- Exactly the message of this number was sent. The received messages, followed by the unread ones, are this message.
+-- The sum is that of the received messages.
 pub record IsOnly (number : ℕ) (s : Summed) : Type 0 where
   pub sends : sent_in s.closed ≡ numbered (pos 1) number ∷ []
   pub whole : IsWholeIn s.closed

@@ -6,15 +6,15 @@ use Rattle.ring_rings.specs.declared.ring.Producer.{Producer}
 use Rattle.ring_rings.specs.Ring.{IsWhole, received, sent}
 use Rattle.ring_uses.specs.declared.closing.Closed.{Closed}
 
--- what its producers sent
+-- the messages that the ring's producers sent
 abbrev pub sent_in : Closed → List Message
 sent_in closed = sent closed.producer.value
 
--- what its consumer received
+-- the messages that the ring's consumer received
 abbrev pub received_in : Closed → List Message
 received_in closed = received closed.consumer.value
 
--- what was received, followed by what is unread, is what was sent
+-- the received messages, followed by the unread ones, are the messages that were sent
 abbrev pub IsWholeIn : Closed → Type 0
 IsWholeIn closed = IsWhole (sent_in closed) (received_in closed) closed.rest
 

@@ -20,17 +20,17 @@ numbers type_id (suc n) = numbers type_id n ++ numbered type_id (suc n) ∷ []
 abbrev pub AreUpTo : ℤ → ℕ → List Message → Type 0
 AreUpTo type_id last ms = (n : ℕ) × (n ≤ last) × (ms ≡ numbers type_id n)
 
--- the number in a body: its first eight bytes, the lowest first, or 0 if it has fewer
+-- the number in a body, which is its first eight bytes, the lowest first, or 0 if it has fewer bytes
 abbrev pub number_of : List ℕ → ℕ
 number_of body = if nat_lt (length body) 8 then 0 else from_le_bytes w64 (take 8 body)
 
 abbrev pub number_in : Message → ℕ
 number_in m = number_of m.body
 
--- the sum of the numbers in some messages, as 64 bits have it
+-- the sum of the numbers in some messages, within 64 bits
 abbrev pub sum_of : List Message → ℕ
 sum_of ms = sum_by number_in ms % 2 ^ 64
 
--- what the handler does with a message
+-- the effect of a message on the handler
 abbrev pub Adds : Sum → Message → Sum → Action → Type 0
 Adds s m t action = t.sum ≡ (s.sum + number_in m) % 2 ^ 64

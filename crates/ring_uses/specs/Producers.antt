@@ -11,7 +11,7 @@ use Rattle.ring_uses.specs.Numbers.{numbers, sum_of}
 abbrev pub of_type : ℤ → List Message → List Message
 of_type type_id ms = filter (λ (m : Message). int_eq m.type_id type_id) ms
 
--- two producers sent these messages: numbers of two type ids from 1 on, at most up to `last`
+-- two producers sent these messages, which are numbers of two type ids from 1 on, at most up to `last`
 pub record AreOfTwo (first second : ℤ) (last : ℕ) (ms : List Message) : Type 0 where
   pub n : ℕ
   pub m : ℕ
@@ -27,8 +27,8 @@ pub record AreOfFour (last : ℕ) (ms : List Message) : Type 0 where
   pub second : AreOfTwo (pos 3) (pos 4) last right
   pub merged : AreMerged left right ms
 
--- All that was sent was received. It has the numbers from 1 to `last` with each of four type ids, in order, and no others.
--- The sum is that of the numbers received
+-- All that was sent was received. The messages have the numbers from 1 to `last` with each of four type ids, in order,
+-- and no others. The sum is that of the received numbers.
 pub record AreInOrder (last : ℕ) (s : Summed) : Type 0 where
   pub whole : IsWholeIn s.closed
   pub all : received_in s.closed ≡ sent_in s.closed

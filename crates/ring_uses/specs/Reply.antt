@@ -19,12 +19,12 @@ use Rattle.ring_uses.specs.Laps.{messages_of as copied_messages}
 abbrev pub request_with : ℕ → Message
 request_with correlation = command_message (with_id correlation (Allocate (pos 1) [] (codes "requests")))
 
--- the replies to these messages, each taken at the moment 0, if four counters are fresh
+-- the replies to these messages, each of which is taken at the moment 0, if four counters are fresh
 abbrev pub replies_to : List Message → List Message
 replies_to ms = (account_of (fresh_account 4 50) (at_moment 0 ms)).replies
 
--- Exactly the request was sent, and it was received. The one reply that was transmitted is the reply to it, and it is the
--- one that the client's receiver copied
+-- Exactly the request was sent, and it was received. The one reply that was transmitted is the reply to this request.
+-- The client's receiver copied this reply.
 pub record IsAnswered (a : Answer) : Type 0 where
   pub sends : sent a.producer.value ≡ request_with a.correlation ∷ []
   pub receives : messages_of (received_of a.conductor.value) ≡ request_with a.correlation ∷ []

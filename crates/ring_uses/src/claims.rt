@@ -13,7 +13,7 @@ use std::alloc::Global;
 /// The type id of the messages.
 const NUMBER: i32 = 1;
 
-/// Claims room for these bytes, and puts them there.
+/// Claims room for these bytes, and puts the bytes there.
 fn claim_filled(
     ring: &PlainOneToOneRing,
     producer: &mut Producer,
@@ -33,7 +33,7 @@ fn claim_filled(
     }
 }
 
-/// Claims room for two numbers, aborts the first claim and commits the second, and reads what has come.
+/// Claims room for two numbers. Aborts the first claim, commits the second one, and reads the messages that came.
 pub fn abort_first(alloc: Global, first: u64, second: u64) -> anyhow::Result<Summed>
     ensures { IfOk result (IsOnly second) }
 {

@@ -1,4 +1,4 @@
-//! How each use ends.
+//! The end of each use.
 ghost use Rattle.std.specs.Prelude.{IfOk};
 ghost use Rattle.ring_rings.specs.Seats.{IsConsumerOf, IsProducerOf};
 ghost use Rattle.ring_uses.specs.Closing.{IsClosedWith};
@@ -7,18 +7,19 @@ use ring_rings::{CloseFault, Consumer, PlainRing, Producer};
 use ring_words::SoloRing;
 use std::snapshot::Snapshot;
 
-/// A ring as it was closed.
+/// A ring that was closed.
 #[derive(Drop)]
 pub struct Closed {
-    /// What is still in the ring.
+    /// The messages that are still in the ring.
     pub rest: SoloRing,
-    /// The producer that was given, for contracts: it has no bytes. They read in it what was sent.
+    /// The producer that was given to the call. This field is for contracts, and has no bytes. Contracts read in it
+    /// what was sent.
     pub producer: Snapshot<Producer>,
-    /// The consumer that was given, for contracts. They read in it what was received.
+    /// The consumer that was given to the call, for contracts. Contracts read in it what was received.
     pub consumer: Snapshot<Consumer>,
 }
 
-/// Closes a ring, and gives up if it can't be closed.
+/// Closes a ring, and gives up if it cannot be closed.
 pub fn close<K>(
     ring: PlainRing<K>,
     producer: Producer,

@@ -13,17 +13,17 @@ use std::snapshot::Snapshot;
 /// The type id of the messages.
 const NUMBER: i32 = 1;
 
-/// What a receiver copied.
+/// The results of a receiver that was overtaken.
 #[derive(Drop)]
 pub struct Overtaken {
-    /// The sum of the numbers that it copied.
+    /// The sum of the numbers that the receiver copied.
     pub sum: u64,
-    /// The number of times that it was lapped.
+    /// The number of times that the receiver was lapped.
     pub laps: u64,
-    /// The transmitter that the receiver was joined into, for contracts: it has no bytes. They read in it what was
-    /// transmitted.
+    /// The transmitter to which the receiver was joined. This field is for contracts, and has no bytes. Contracts read
+    /// in it what was transmitted.
     pub transmitter: Snapshot<Transmitter>,
-    /// The receiver before it was joined, for contracts. They read in it what was copied.
+    /// The receiver before it was joined, for contracts. Contracts read in it what was copied.
     pub receiver: Snapshot<CopyReceiver>,
 }
 
@@ -45,7 +45,7 @@ fn transmit_numbers(
     Ok(())
 }
 
-/// Receives until there is no message, and adds up the numbers. It makes at most this many calls.
+/// Receives until there is no message, and adds up the numbers. The function makes at most this many calls.
 fn receive_all(board: &Board, receiver: &mut CopyReceiver, calls: u32) -> u64
     requires receiver { IsReceiverOf board.now receiver.old }
     requires new { copied receiver.old ≡ [] }
@@ -65,7 +65,8 @@ fn receive_all(board: &Board, receiver: &mut CopyReceiver, calls: u32) -> u64
     sum
 }
 
-/// Transmits the numbers from 1 to `last`, and then looks what a receiver that was there from the start gets of them.
+/// Transmits the numbers from 1 to `last`. After that a receiver that subscribed at the start receives what is left of
+/// them.
 pub fn overtake(alloc: Global, last: u32) -> anyhow::Result<Overtaken>
     ensures { IfOk result (λ h. HasCopied last h) }
 {

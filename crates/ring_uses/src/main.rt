@@ -1,4 +1,4 @@
-//! Five small uses of rings, each with a contract that says what became of the data.
+//! Five small uses of rings. Each has a contract that says what became of the data.
 #![tactic(auto)]
 
 mod claims;

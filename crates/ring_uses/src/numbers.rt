@@ -9,20 +9,20 @@ use crossbeam_utils::Backoff;
 use ring_rings::{Action, Consumer, Handler, PlainRing};
 use std::sync::Wait;
 
-/// Adds up the numbers that it is shown.
+/// Adds up the numbers that the handler is shown.
 #[derive(Drop)]
 pub struct Sum {
     pub sum: u64,
 }
 
-/// A sum, and the ring as it was closed.
+/// A sum, and the ring that was closed.
 #[derive(Drop)]
 pub struct Summed {
     pub sum: u64,
     pub closed: Closed,
 }
 
-/// The number in a body: its first eight bytes, or 0 if it has fewer.
+/// Returns the number in a body. This is its first eight bytes, or 0 if it has fewer bytes.
 pub fn number_of(body: &[u8]) -> u64
     ensures { result ≡ number_of body.now }
 {
@@ -64,8 +64,8 @@ pub fn read_numbers<K, R: Wait>(
         }
         let end = ring.read(&mut consumer, u32::MAX, &mut sum);
         count = count.saturating_add(u64::from(end.messages));
-        // No bytes: nothing was settled at the head. A read that only comes to the end of the buffer moves the head
-        // too.
+        // If no byte was read, no settled record was at the head. A read that only reaches the end of the buffer moves
+        // the head too.
         if end.bytes == 0 {
             backoff.snooze();
         } else {

@@ -49,7 +49,7 @@ fn write_numbers<R: Wait>(
     unreachable!()
 }
 
-/// Writes the numbers from 1 to `last` by two producers on two threads, and puts the producers together.
+/// Writes the numbers from 1 to `last` by two producers on two threads, and joins the producers.
 fn write_both<R: Threads + Wait + Sync>(
     rt: &R,
     ring: &PlainManyToOneRing,
@@ -79,8 +79,8 @@ fn write_both<R: Threads + Wait + Sync>(
     one
 }
 
-/// Writes the numbers from 1 to `last` by four producers on four threads, with the type ids 1 to 4, and puts the
-/// producers together.
+/// Writes the numbers from 1 to `last` by four producers on four threads, with the type ids 1 to 4, and joins the
+/// producers.
 fn write_all<R: Threads + Wait + Sync>(
     rt: &R,
     ring: &PlainManyToOneRing,
@@ -111,7 +111,7 @@ fn write_all<R: Threads + Wait + Sync>(
     producer
 }
 
-/// Sends the numbers from 1 to `last` by each of four producers, and adds up all that comes.
+/// Sends the numbers from 1 to `last` by each of four producers, and adds up all numbers that come.
 pub fn gather<R: Threads + Wait + Sync>(rt: &R, alloc: Global, last: u32) -> anyhow::Result<Summed>
     ensures { IfOk result (λ s. AreInOrder last s) }
 {

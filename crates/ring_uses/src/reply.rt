@@ -11,18 +11,18 @@ use std::alloc::Global;
 use std::snapshot::Snapshot;
 use thiserror::Error;
 
-/// The client's poll returned no reply to its request.
+/// The error of a client whose poll returned no reply to its request.
 #[derive(Clone, Copy, Debug, Error)]
 #[error("no reply came")]
 pub struct NoReply;
 
-/// The reply to a request, and the ring as it was closed.
+/// The reply to a request, and the ring that was closed.
 #[derive(Drop)]
 pub struct Answer {
     pub correlation: u64,
     pub reply: Reply,
     pub rest: SoloRing,
-    /// The producer that the ring was closed with, for contracts: it has no bytes.
+    /// The producer with which the ring was closed. This field is for contracts, and has no bytes.
     pub producer: Snapshot<Producer>,
     /// The conductor that finished, for contracts.
     pub conductor: Snapshot<Conductor>,

@@ -1,4 +1,4 @@
-//! One thread writes the numbers from 1 on into a ring, another reads them and adds them up.
+//! One thread writes the numbers from 1 on into a ring. Another thread reads them and adds them up.
 ghost use Rattle.std.specs.Prelude.{◌≡◌, ◌≤◌, pos, [], length, IfOk};
 ghost use Rattle.ring_rings.specs.Ring.{received, sent};
 ghost use Rattle.ring_rings.specs.Seats.{all_shares, shares_of, IsConsumerOf, IsProducerOf};

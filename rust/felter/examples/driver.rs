@@ -1,5 +1,5 @@
-//! A conductor, two clients and a monitor, each on a thread of its own. The program does and prints what
-//! `crates/ring_example` does.
+//! A conductor, two clients and a monitor, each on a thread of its own. The program does the same and prints the same
+//! as `crates/ring_example`.
 #![forbid(unsafe_code)]
 
 use felter::{Client, Conductor, Error, Polled, Reader, Reply, WorkStop};
@@ -9,7 +9,7 @@ use std::thread;
 /// The capacity of the command ring, in bytes. The ring takes commands of up to 32 bytes, and is often full.
 const RING: u32 = 256;
 
-/// The capacity of the board, in bytes. A reply takes at most 24 bytes, so the board has room for all 2,002 replies,
+/// The capacity of the board, in bytes. A reply takes at most 24 bytes. So the board has room for all 2,002 replies,
 /// and no client is lapped.
 const BOARD: u32 = 65_536;
 
@@ -36,16 +36,16 @@ impl Caller {
         loop {
             match send(&mut self.client) {
                 Ok(id) => return Some(id),
-                // Another client was faster: try again at once.
+                // Another client was faster. Try again at once.
                 Err(Error::Contended) => {}
-                // The ring is full: the conductor must take a command first.
+                // The ring is full. The conductor must take a command first.
                 Err(Error::InsufficientCapacity) => thread::yield_now(),
                 Err(_) => return None,
             }
         }
     }
 
-    /// Waits for the reply to a command. Returns `None` if replies were missed. What became of the command is then not
+    /// Waits for the reply to a command. Returns `None` if replies were missed. The result of the command is then not
     /// known.
     fn hear(&mut self, id: u64) -> Option<Reply> {
         loop {
@@ -121,7 +121,7 @@ fn watch(stop: &AtomicBool, mut reader: Reader) -> (Reader, bool) {
 }
 
 fn main() -> Result<(), Error> {
-    // All clients and readers are made before a thread is started: afterwards only the conductor's thread uses the
+    // All clients and readers are made before a thread is started. After that only the conductor's thread uses the
     // conductor.
     let mut conductor = Conductor::new(RING, BOARD, COUNTERS, 0)?;
     let callers = [Caller::new("requests", conductor.client()?), Caller::new("errors", conductor.client()?)];

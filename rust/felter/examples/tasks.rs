@@ -1,4 +1,4 @@
-//! The tasks of docs/USING.md in Rust. It prints `c/examples/tasks.out`, as the same tasks in C and Python do.
+//! The tasks of docs/USING.md in Rust. The program prints `c/examples/tasks.out`, as the same tasks in C and Python do.
 #![forbid(unsafe_code)]
 
 use felter::{Client, Conductor, Consumer, Counters, Error, Found, Polled, Producer, Reply, Transmitter, WorkStop};
@@ -11,8 +11,8 @@ const LAST: i32 = 1_000;
 
 type Done = Result<(), Box<dyn std::error::Error>>;
 
-/// Sends messages to another thread: one thread sends numbers, and this one adds them up. Both wait, without a
-/// deadline.
+/// Sends messages to another thread. One thread sends numbers, and this thread adds them up. Both threads wait without
+/// a deadline.
 fn add_up() -> Done {
     let (mut producer, mut consumer) = felter::one_to_one(1_024)?;
     let sender =

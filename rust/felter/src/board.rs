@@ -1,11 +1,13 @@
-//! Boards, which are broadcast buffers: one transmitter, and receivers that learn when they missed something.
+//! Boards, which are broadcast buffers. A board has one transmitter, and receivers that learn when they missed
+//! something.
 use crate::ends::{Bed, End};
 use crate::error::{Error, Refused};
 use crate::handle::{done, Handle, Number, Sizes};
 use crate::message::{message_of, Message};
 use crate::raw::{self, Raw};
 
-/// Transmits on a board. A transmitter never waits. A receiver that is too slow is overtaken, and learns that.
+/// Transmits messages on a board. A transmitter never waits. A receiver that is too slow is overtaken, and learns this
+/// from [`Error::Lapped`].
 ///
 /// ```
 /// let mut transmitter = felter::Transmitter::new(4096)?;
@@ -25,24 +27,24 @@ pub struct Transmitter {
 }
 
 impl Transmitter {
-    /// Makes a board with its transmitter. The capacity is a power of two from 256 to 2^24.
+    /// Makes a board, and returns its transmitter. The capacity is a power of two from 256 to 2^24.
     ///
     /// Errors: [`Error::BadCapacity`], [`Error::OutOfMemory`].
     pub fn new(capacity: u32) -> Result<Transmitter, Error> {
         Transmitter::new_at(capacity, 0)
     }
 
-    /// Makes such a board, with positions that begin at `start`.
+    /// Makes a board as [`new`](Transmitter::new) does, with positions that begin at `start`.
     ///
     /// Errors: [`Error::BadCapacity`], [`Error::BadStart`], [`Error::OutOfMemory`].
     pub fn new_at(capacity: u32, start: u64) -> Result<Transmitter, Error> {
         let (board, mut handle) = (Number::next(), Handle::empty());
-        // SAFETY: a number that nothing else has, and an empty handle.
+        // SAFETY: nothing else has this number, and the handle is empty.
         done(unsafe { raw::felter_board_new_at_numbered(board.raw(), capacity, start, handle.raw()) })?;
         Ok(Transmitter { handle, board, end: End::writer() })
     }
 
-    /// The capacity of the board, and the length of its longest message.
+    /// Returns the capacity of the board, and the length of its longest message.
     pub fn sizes(&mut self) -> Result<Sizes, Error> {
         self.handle.sizes()
     }
@@ -51,7 +53,7 @@ impl Transmitter {
     ///
     /// Errors: [`Error::BadType`], [`Error::TooLong`], [`Error::PositionLimit`].
     pub fn transmit(&mut self, type_id: i32, body: &[u8]) -> Result<(), Error> {
-        // SAFETY: our handle, and a slice's pointer and length.
+        // SAFETY: the handle is ours, and pointer and length are those of a slice.
         done(unsafe { raw::felter_transmit(self.handle.raw(), type_id, body.as_ptr(), body.len()) })?;
         self.end.wake();
         Ok(())
@@ -64,12 +66,12 @@ impl Transmitter {
     /// Errors: [`Error::NoShares`], [`Error::OutOfMemory`].
     pub fn subscribe(&mut self) -> Result<Receiver, Error> {
         let mut handle = Handle::empty();
-        // SAFETY: two handles, the second empty.
+        // SAFETY: both handles are ours, and the second one is empty.
         done(unsafe { raw::felter_subscribe(self.handle.raw(), handle.raw()) })?;
         Ok(Receiver { handle, board: self.board, end: self.end.other(false) })
     }
 
-    /// Makes a raw receiver, which returns each record without its body. The rest is as for
+    /// Makes a raw receiver, which returns each record without its body. Otherwise the call is the same as
     /// [`subscribe`](Transmitter::subscribe).
     ///
     /// ```
@@ -86,7 +88,7 @@ impl Transmitter {
     /// ```
     pub fn subscribe_raw(&mut self) -> Result<RawReceiver, Error> {
         let mut handle = Handle::empty();
-        // SAFETY: two handles, the second empty.
+        // SAFETY: both handles are ours, and the second one is empty.
         done(unsafe { raw::felter_subscribe_raw(self.handle.raw(), handle.raw()) })?;
         Ok(RawReceiver { handle, board: self.board, end: self.end.other(false) })
     }
@@ -97,7 +99,7 @@ impl Transmitter {
     /// receiver back.
     pub fn join(&mut self, mut receiver: Receiver) -> Result<(), Refused<Receiver>> {
         let joined = self.board.must_be(receiver.board).and_then(|()| {
-            // SAFETY: two handles of one board, as their numbers show.
+            // SAFETY: both handles are of one board, as their numbers show.
             done(unsafe { raw::felter_board_join(self.handle.raw(), receiver.handle.raw()) })
         });
         joined.map_err(|reason| Refused { reason, back: receiver })
@@ -117,17 +119,17 @@ impl Transmitter {
     /// ```
     pub fn join_raw(&mut self, mut receiver: RawReceiver) -> Result<(), Refused<RawReceiver>> {
         let joined = self.board.must_be(receiver.board).and_then(|()| {
-            // SAFETY: two handles of one board, as their numbers show.
+            // SAFETY: both handles are of one board, as their numbers show.
             done(unsafe { raw::felter_board_join_raw(self.handle.raw(), receiver.handle.raw()) })
         });
         joined.map_err(|reason| Refused { reason, back: receiver })
     }
 
-    /// Ends a board whose receivers of both kinds were all taken back or dropped. Returns the tail: the position at
-    /// which the last transmission ended.
+    /// Ends a board whose receivers of both kinds were all taken back or dropped. Returns the tail, which is the
+    /// position at which the last transmission ended.
     ///
-    /// Errors: [`Error::ReceiversOut`] while a receiver is there. The error gives the transmitter back, which can go
-    /// on, and close later.
+    /// Errors: [`Error::ReceiversOut`] while a receiver exists. The error gives the transmitter back. The caller can go
+    /// on using the transmitter, and can close it later.
     ///
     /// ```
     /// use felter::{Error, Transmitter};
@@ -148,23 +150,25 @@ impl Transmitter {
     }
 }
 
-/// The place of a receiver when it was lapped.
+/// The positions at which a receiver was lapped.
 #[derive(Clone, Copy, Debug, PartialEq, Eq)]
 pub struct Lap {
     /// The position, in bytes, at which the receiver looked for a message.
     pub place: u64,
-    /// The intent that showed the lap: the position up to which the transmitter had begun to write.
+    /// The intent that showed that the receiver was lapped. This is the position up to which the transmitter had begun
+    /// to write.
     pub intent: u64,
 }
 
 impl Lap {
-    /// How a receiver was lapped last. `call` is the call for this kind of receiver.
+    /// Returns the positions at which a receiver was lapped last. `call` is the call of the library for this kind of
+    /// receiver.
     fn of(
         handle: &mut Handle,
         call: unsafe extern "C" fn(*mut Raw, *mut u64, *mut u64) -> i32,
     ) -> Result<Option<Lap>, Error> {
         let (mut place, mut intent) = (0, 0);
-        // SAFETY: our handle, and two numbers of ours.
+        // SAFETY: the handle and the numbers are ours.
         match done(unsafe { call(handle.raw(), &mut place, &mut intent) }) {
             Ok(()) => Ok(Some(Lap { place, intent })),
             Err(Error::NoMessage) => Ok(None),
@@ -173,7 +177,7 @@ impl Lap {
     }
 }
 
-/// The error for a lap that was just found. The receiver goes on from `place`.
+/// Returns the error of a receiver that was just lapped. The receiver goes on from `place`.
 fn lapped_now(count: u64, lap: Result<Option<Lap>, Error>, place: Result<u64, Error>) -> Error {
     let missed_bytes = match (lap, place) {
         (Ok(Some(lap)), Ok(place)) => place - lap.place,
@@ -192,23 +196,23 @@ pub struct Receiver {
 }
 
 impl Receiver {
-    /// The capacity of the board, and the length of its longest message.
+    /// Returns the capacity of the board, and the length of its longest message.
     pub fn sizes(&mut self) -> Result<Sizes, Error> {
         self.handle.sizes()
     }
 
-    /// The position, in bytes, at which the next call looks for a message.
+    /// Returns the position, in bytes, at which the next call looks for a message.
     pub fn place(&mut self) -> Result<u64, Error> {
         self.handle.said(raw::felter_receiver_place)
     }
 
-    /// How the receiver was lapped last, or `None` if it never was.
+    /// Returns the positions at which the receiver was lapped last, or `None` if it never was.
     pub fn lap(&mut self) -> Result<Option<Lap>, Error> {
         Lap::of(&mut self.handle, raw::felter_receiver_lap)
     }
 
-    /// Whether the transmitter, or the conductor that transmits, was dropped or ended. Then nothing more will come, but
-    /// what was transmitted before can still be received.
+    /// Returns whether the transmitter, or the conductor that transmits, was dropped or ended. After that no message is
+    /// transmitted, but earlier messages can still be received.
     ///
     /// ```
     /// let mut transmitter = felter::Transmitter::new(256)?;
@@ -228,12 +232,12 @@ impl Receiver {
     ///
     /// - [`Error::Lapped`] if the transmitter overtook the receiver. The next call goes on with the message that was
     ///   transmitted last.
-    /// - [`Error::ShortBuffer`] if the buffer is shorter than an eighth of the capacity, however short the message is.
-    ///   Then nothing is taken.
+    /// - [`Error::ShortBuffer`] if the buffer is shorter than an eighth of the capacity, even if the message is short.
+    ///   No message is then taken.
     pub fn receive<'a>(&mut self, buffer: &'a mut [u8]) -> Result<Option<Message<'a>>, Error> {
         let (mut type_id, mut len, mut lapped) = (0, 0, 0);
         let (at, room) = (buffer.as_mut_ptr(), buffer.len());
-        // SAFETY: our handle, three numbers of ours, and a slice's pointer and length.
+        // SAFETY: the handle and the numbers are ours, and pointer and length are those of a slice.
         let code = unsafe { raw::felter_receive(self.handle.raw(), &mut type_id, &mut len, &mut lapped, at, room) };
         match message_of(code, type_id, len, buffer) {
             Err(Error::Lapped { .. }) => Err(lapped_now(lapped, self.lap(), self.place())),
@@ -241,18 +245,18 @@ impl Receiver {
         }
     }
 
-    /// The place at which the receiver sleeps until the transmitter wakes it.
+    /// Returns the place at which the receiver sleeps until the transmitter wakes it.
     pub(crate) fn bed(&self) -> Bed {
         self.end.bed()
     }
 
-    /// How often the receiver was lapped.
+    /// Returns how often the receiver was lapped.
     pub fn lapped_count(&mut self) -> Result<u64, Error> {
         self.handle.said(raw::felter_lapped_count)
     }
 }
 
-/// What a raw receiver returns of a record, whose body is not yet copied.
+/// A record that a raw receiver passed, and whose body is not yet copied.
 #[derive(Clone, Copy, Debug, PartialEq, Eq)]
 pub struct RawRecord {
     /// The type id of the record, at least 1.
@@ -270,22 +274,22 @@ pub struct RawReceiver {
 }
 
 impl RawReceiver {
-    /// The capacity of the board, and the length of its longest message.
+    /// Returns the capacity of the board, and the length of its longest message.
     pub fn sizes(&mut self) -> Result<Sizes, Error> {
         self.handle.sizes()
     }
 
-    /// The position, in bytes, at which the next call looks for a message.
+    /// Returns the position, in bytes, at which the next call looks for a message.
     pub fn place(&mut self) -> Result<u64, Error> {
         self.handle.said(raw::felter_raw_receiver_place)
     }
 
-    /// How the receiver was lapped last, or `None` if it never was.
+    /// Returns the positions at which the receiver was lapped last, or `None` if it never was.
     pub fn lap(&mut self) -> Result<Option<Lap>, Error> {
         Lap::of(&mut self.handle, raw::felter_raw_receiver_lap)
     }
 
-    /// Whether the transmitter was dropped, or closed.
+    /// Returns whether the transmitter was dropped, or closed.
     pub fn is_abandoned(&self) -> bool {
         self.end.is_abandoned()
     }
@@ -297,7 +301,7 @@ impl RawReceiver {
     /// was transmitted last.
     pub fn receive_next(&mut self) -> Result<Option<RawRecord>, Error> {
         let (mut type_id, mut len, mut lapped) = (0, 0, 0);
-        // SAFETY: our handle, and three numbers of ours.
+        // SAFETY: the handle and the numbers are ours.
         let code = unsafe { raw::felter_receive_next(self.handle.raw(), &mut type_id, &mut len, &mut lapped) };
         match done(code) {
             Ok(()) => Ok(Some(RawRecord { type_id, len })),
@@ -311,18 +315,18 @@ impl RawReceiver {
     /// of this record only if [`validate`](RawReceiver::validate) then returns true.
     ///
     /// Errors: [`Error::NoMessage`] if no record was returned yet. [`Error::ShortBuffer`] if the buffer is too short.
-    /// Then `wanted` is 0, since the record has the length.
+    /// Its field `wanted` is 0, since [`RawRecord::len`] is the length of the body.
     pub fn load_body(&mut self, buffer: &mut [u8]) -> Result<(), Error> {
-        // SAFETY: our handle, and a slice's pointer and length.
+        // SAFETY: the handle is ours, and pointer and length are those of a slice.
         done(unsafe { raw::felter_load_body(self.handle.raw(), buffer.as_mut_ptr(), buffer.len()) })
     }
 
-    /// Tests that the record which was returned last is not yet overwritten. If the result is true, each copy of its
-    /// body that was made before is the body that was transmitted.
+    /// Returns true if the record that was returned last was not overwritten, and false if it may have been
+    /// overwritten. If the result is true, each copy of the body that was made before is the body that was transmitted.
     ///
     /// Errors: [`Error::NoMessage`] if no record was returned yet.
     pub fn validate(&mut self) -> Result<bool, Error> {
-        // SAFETY: our handle.
+        // SAFETY: the handle is ours.
         match done(unsafe { raw::felter_validate(self.handle.raw()) }) {
             Ok(()) => Ok(true),
             Err(Error::Lapped { .. }) => Ok(false),
@@ -330,7 +334,7 @@ impl RawReceiver {
         }
     }
 
-    /// How often [`receive_next`](RawReceiver::receive_next) returned [`Error::Lapped`].
+    /// Returns how often [`receive_next`](RawReceiver::receive_next) returned [`Error::Lapped`].
     pub fn lapped_count(&mut self) -> Result<u64, Error> {
         self.handle.said(raw::felter_raw_lapped_count)
     }

@@ -1,4 +1,4 @@
-//! Claims: room in a ring for a message, whose bytes are put later, and which is then committed or aborted.
+//! Claims. A claim is room in a ring for a message, whose bytes are put later. The claim is then committed or aborted.
 use crate::error::{Error, Refused};
 use crate::handle::{done, Number};
 use crate::raw::{self, Raw};
@@ -15,7 +15,7 @@ pub struct Claim<'a> {
 }
 
 impl<'a> Claim<'a> {
-    /// An open claim of a producer, by its number.
+    /// Returns an open claim of a producer, by its number.
     pub(crate) fn of(producer: &'a mut Producer, number: u64) -> Claim<'a> {
         Claim { producer, number, is_open: true }
     }
@@ -25,20 +25,20 @@ impl<'a> Claim<'a> {
     /// Errors: [`Error::PutRange`].
     pub fn put(&mut self, offset: usize, bytes: &[u8]) -> Result<(), Error> {
         let raw = self.producer.handle.raw();
-        // SAFETY: our producer's handle, and a slice's pointer and length.
+        // SAFETY: the handle is our producer's, and pointer and length are those of a slice.
         done(unsafe { raw::felter_put(raw, self.number, offset, bytes.as_ptr(), bytes.len()) })
     }
 
     /// Commits the claim, so that the consumer is shown the message.
     pub fn commit(mut self) {
-        // SAFETY: our producer's handle.
+        // SAFETY: the handle is our producer's.
         let code = unsafe { raw::felter_commit(self.producer.handle.raw(), self.number) };
         debug_assert_eq!(code, raw::OK);
         self.is_open = false;
         self.producer.end.wake();
     }
 
-    /// Keeps the claim open without its producer, so that several claims can be open at once.
+    /// Keeps the claim open without a borrow of its producer, so that several claims can be open at once.
     ///
     /// ```
     /// let (mut producer, mut consumer) = felter::many_to_one(256)?;
@@ -63,8 +63,8 @@ impl<'a> Claim<'a> {
 /// A claim that stays open until it is committed or aborted. If its producer is dropped, the claim is aborted. The
 /// consumer does not pass an open claim.
 ///
-/// Its calls take the producer of the claim, or the producer to which that one was [joined](Producer::join). With
-/// another producer of the same ring they return [`Error::NoClaim`], and with a producer of another ring
+/// The calls of a claim take its producer, or the producer to which its producer was [joined](Producer::join). With
+/// another producer of the same ring they return [`Error::NoClaim`]. With a producer of another ring they return
 /// [`Error::OtherRing`].
 #[derive(Debug)]
 #[must_use = "the consumer passes no open claim: commit or abort it"]
@@ -76,27 +76,30 @@ pub struct KeptClaim {
 impl KeptClaim {
     /// Puts bytes into the message, from the byte at `offset` on.
     ///
-    /// Errors: [`Error::PutRange`], and for another producer [`Error::NoClaim`] and [`Error::OtherRing`].
+    /// Errors: [`Error::PutRange`] if the bytes are not inside the claim. If `producer` is another producer, the call
+    /// returns [`Error::NoClaim`] or [`Error::OtherRing`], as [`KeptClaim`] describes.
     pub fn put(&self, producer: &mut Producer, offset: usize, bytes: &[u8]) -> Result<(), Error> {
         self.ring.must_be(producer.ring)?;
         let raw = producer.handle.raw();
-        // SAFETY: a producer's handle, and a slice's pointer and length.
+        // SAFETY: the handle is a producer's, and pointer and length are those of a slice.
         done(unsafe { raw::felter_put(raw, self.number, offset, bytes.as_ptr(), bytes.len()) })
     }
 
     /// Commits the claim, so that the consumer is shown the message.
     ///
-    /// Errors: [`Error::NoClaim`] and [`Error::OtherRing`], if it is another producer. The error gives the claim back.
+    /// Errors: [`Error::NoClaim`] or [`Error::OtherRing`] if `producer` is another producer, as [`KeptClaim`]
+    /// describes. The error gives the claim back.
     pub fn commit(self, producer: &mut Producer) -> Result<(), Refused<KeptClaim>> {
-        // SAFETY: a producer's handle.
+        // SAFETY: the handle is a producer's.
         self.settle(producer, |raw, number| unsafe { raw::felter_commit(raw, number) })
     }
 
     /// Aborts the claim, so that the consumer passes it.
     ///
-    /// Errors: [`Error::NoClaim`] and [`Error::OtherRing`], if it is another producer. The error gives the claim back.
+    /// Errors: [`Error::NoClaim`] or [`Error::OtherRing`] if `producer` is another producer, as [`KeptClaim`]
+    /// describes. The error gives the claim back.
     pub fn abort(self, producer: &mut Producer) -> Result<(), Refused<KeptClaim>> {
-        // SAFETY: a producer's handle.
+        // SAFETY: the handle is a producer's.
         self.settle(producer, |raw, number| unsafe { raw::felter_abort(raw, number) })
     }
 
@@ -114,7 +117,7 @@ impl KeptClaim {
 impl Drop for Claim<'_> {
     fn drop(&mut self) {
         if self.is_open {
-            // SAFETY: our producer's handle.
+            // SAFETY: the handle is our producer's.
             let code = unsafe { raw::felter_abort(self.producer.handle.raw(), self.number) };
             debug_assert_eq!(code, raw::OK);
             // (the consumer can then pass the claim, and may find a message after it)

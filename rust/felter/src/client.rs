@@ -11,11 +11,11 @@ use crate::raw::{self, Raw};
 ///
 /// Errors of each call that sends:
 ///
-/// - [`Error::TooLong`] if the command takes more than 520 bytes, or more than an eighth of the ring's capacity;
+/// - [`Error::TooLong`] if the command takes more than 520 bytes, or more than an eighth of the ring's capacity.
 /// - [`Error::PositionLimit`], [`Error::InsufficientCapacity`] or [`Error::Contended`], in the same cases as for
 ///   [`Producer::write`](crate::Producer::write).
 ///
-/// After an error nothing was sent, and the next try draws another id.
+/// After an error the command was not sent, and the next try draws another id.
 ///
 /// [`Conductor::join`](crate::Conductor::join) takes a client back.
 #[derive(Debug)]
@@ -31,19 +31,19 @@ pub struct Client {
 pub enum Reply {
     /// A counter was allocated.
     Allocated {
-        /// Its id.
+        /// The id of the counter.
         id: u32,
     },
     /// The counter was freed or set.
     Done,
-    /// Nothing was done.
+    /// The conductor did nothing.
     Refused {
-        /// Why: an error that a call of [`Counters`](crate::Counters) returns too.
+        /// The reason, which is an error that a call of [`Counters`](crate::Counters) returns too.
         reason: Error,
     },
     /// The owner's counters were freed.
     Closed {
-        /// How many counters were freed.
+        /// The number of counters that were freed.
         freed: u32,
     },
 }
@@ -60,43 +60,43 @@ impl Reply {
     }
 }
 
-/// What [`Client::poll`] finds.
+/// The results of [`Client::poll`].
 #[derive(Clone, Copy, Debug, PartialEq, Eq)]
 pub enum Polled {
     /// The reply to the command.
     Answered(Reply),
-    /// The reply to another command, of this client or of another one. It was passed over, so poll again.
+    /// The reply to another command, of this client or of another one. The message was passed over, so poll again.
     Another,
     /// No message is there yet.
     Nothing,
 }
 
 impl Client {
-    /// Whether the conductor was dropped, or has finished. Then no further reply will come.
+    /// Returns whether the conductor was dropped, or has finished. No further reply will then come.
     pub fn is_abandoned(&self) -> bool {
         self.end.is_abandoned()
     }
 
-    /// Asks for a counter with the value 0, a type id, a key and a label. Its registration id is the correlation id.
-    /// The command takes 20 bytes plus those of key and label.
+    /// Asks for a counter with the value 0, a type id, a key and a label. The registration id of the counter is the
+    /// correlation id of the command. The command takes 20 bytes, plus the bytes of the key and the label.
     ///
     /// The reply is [`Reply::Allocated`], or [`Reply::Refused`] with [`Error::KeyTooLong`], [`Error::LabelTooLong`],
     /// [`Error::LabelNotAscii`] or [`Error::NoFreeCounter`].
     pub fn allocate(&mut self, type_id: i32, key: &[u8], label: &[u8]) -> Result<u64, Error> {
         let (key_at, key_len) = (key.as_ptr(), key.len());
         let (label_at, label_len) = (label.as_ptr(), label.len());
-        // SAFETY: our handle, two slices' pointers and lengths, and a number of ours.
+        // SAFETY: the handle and the number are ours, and pointers and lengths are those of slices.
         self.sent(|handle, id| unsafe {
             raw::felter_send_allocate(handle, type_id, key_at, key_len, label_at, label_len, id)
         })
     }
 
-    /// Asks for a counter with an owner, and is otherwise the same. The owner 0 means that there is none. The command
-    /// takes 8 bytes more.
+    /// Asks for a counter with an owner. Otherwise the call is the same as [`allocate`](Client::allocate). The owner 0
+    /// means that the counter has no owner. The command takes 8 bytes more.
     pub fn allocate_owned(&mut self, type_id: i32, owner: u64, key: &[u8], label: &[u8]) -> Result<u64, Error> {
         let (key_at, key_len) = (key.as_ptr(), key.len());
         let (label_at, label_len) = (label.as_ptr(), label.len());
-        // SAFETY: our handle, two slices' pointers and lengths, and a number of ours.
+        // SAFETY: the handle and the number are ours, and pointers and lengths are those of slices.
         self.sent(|handle, id| unsafe {
             raw::felter_send_allocate_owned(handle, type_id, owner, key_at, key_len, label_at, label_len, id)
         })
@@ -105,25 +105,25 @@ impl Client {
     /// Asks the conductor to free a counter. The reply is [`Reply::Done`], or [`Reply::Refused`] with [`Error::BadId`]
     /// or [`Error::NotAllocated`].
     pub fn free(&mut self, counter: u32) -> Result<u64, Error> {
-        // SAFETY: our handle, and a number of ours.
+        // SAFETY: the handle and the number are ours.
         self.sent(|handle, id| unsafe { raw::felter_send_free(handle, counter, id) })
     }
 
-    /// The same call as [`free`](Client::free), under its name in C++ and Python.
+    /// Does the same as [`free`](Client::free), under the name of this call in C++ and Python.
     pub fn release(&mut self, counter: u32) -> Result<u64, Error> {
         self.free(counter)
     }
 
     /// Asks the conductor to set a counter's value. The replies are those of [`free`](Client::free).
     pub fn set(&mut self, counter: u32, value: i64) -> Result<u64, Error> {
-        // SAFETY: our handle, and a number of ours.
+        // SAFETY: the handle and the number are ours.
         self.sent(|handle, id| unsafe { raw::felter_send_set(handle, counter, value, id) })
     }
 
     /// Asks the conductor to free each counter of an owner. The reply is [`Reply::Closed`], or [`Reply::Refused`] with
     /// [`Error::BadOwner`].
     pub fn close_owner(&mut self, owner: u64) -> Result<u64, Error> {
-        // SAFETY: our handle, and a number of ours.
+        // SAFETY: the handle and the number are ours.
         self.sent(|handle, id| unsafe { raw::felter_send_close_owner(handle, owner, id) })
     }
 
@@ -135,14 +135,14 @@ impl Client {
     }
 
     /// Takes the next message of the board, for a caller that waits for the reply to the command with this correlation
-    /// id. The conductor replies to the commands of a client in the order in which they were sent, so ask for the
+    /// id. The conductor replies to the commands of a client in the order in which they were sent. So ask for the
     /// replies in that order.
     ///
     /// Errors: [`Error::Lapped`] if the conductor overtook the client. The next call goes on with the reply that was
-    /// transmitted last. The client does not learn what became of the commands that had no reply yet.
+    /// transmitted last. The client does not learn the results of the commands that had no reply yet.
     pub fn poll(&mut self, correlation: u64) -> Result<Polled, Error> {
         let (mut kind, mut number, mut lapped) = (0, 0, 0);
-        // SAFETY: our handle, and three numbers of ours.
+        // SAFETY: the handle and the numbers are ours.
         let code = unsafe { raw::felter_poll(self.handle.raw(), correlation, &mut kind, &mut number, &mut lapped) };
         match done(code) {
             Ok(()) => Ok(Polled::Answered(Reply::of(kind, number)?)),

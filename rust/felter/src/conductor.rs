@@ -7,10 +7,11 @@ use crate::error::{Error, Refused};
 use crate::handle::{done, Handle, Number};
 use crate::raw;
 
-/// Owns counters, and applies the commands of its clients to them. It transmits one reply to each command on a board.
+/// Owns counters, and applies the commands of its clients to them. A conductor transmits one reply to each command on a
+/// board.
 ///
-/// Clients, receivers of the replies and readers of the counters' values are for other threads. The share of a client
-/// or a receiver that is dropped is lost, and the conductor can finish without it.
+/// Clients, receivers of the replies and readers of the counters' values can be used on other threads. If a client or a
+/// receiver is dropped, its shares are lost, and the conductor can finish without it.
 ///
 /// ```
 /// use felter::{Conductor, Polled, Reply, Work, WorkStop};
@@ -42,26 +43,26 @@ pub struct Conductor {
     end: End,
 }
 
-/// What one call of [`Conductor::work`] did.
+/// The result of one call of [`Conductor::work`].
 #[derive(Clone, Copy, Debug, PartialEq, Eq)]
 pub struct Work {
-    /// How many commands were taken, which may be 0.
+    /// The number of commands that were taken. It may be 0.
     pub messages: u64,
-    /// Why the call stopped.
+    /// The reason why the call stopped.
     pub stopped: WorkStop,
 }
 
-/// Why a call of [`Conductor::work`] stopped.
+/// The reasons why a call of [`Conductor::work`] stops.
 #[derive(Clone, Copy, Debug, PartialEq, Eq, Hash)]
 #[non_exhaustive]
 pub enum WorkStop {
     /// The limit was reached.
     Limit,
-    /// The end of the ring's buffer was reached: the next call goes on after it.
+    /// The end of the ring's buffer was reached. The next call goes on after it.
     Block,
     /// No further command was there.
     Unpublished,
-    /// A reply might end above 2^62 on the board: the command stays, and is not applied.
+    /// A reply might end above 2^62 on the board. The command stays in the ring, and is not applied.
     BoardEnd,
 }
 
@@ -77,39 +78,39 @@ impl WorkStop {
     }
 }
 
-/// How a conductor ended.
+/// The counts of commands at the end of a conductor.
 #[derive(Clone, Copy, Debug, PartialEq, Eq)]
 pub struct Finished {
-    /// How many commands the conductor received in all.
+    /// The number of commands that the conductor received in all.
     pub received: u64,
-    /// How many commands were still in the ring. These get no reply.
+    /// The number of commands that were still in the ring. These commands get no reply.
     pub left: u64,
 }
 
 impl Conductor {
     /// Makes a conductor.
     ///
-    /// - The ring for commands has `capacity` bytes, a power of two from 128 to 2^24.
-    /// - The board for replies has `replies` bytes, a power of two from 256 to 2^24.
-    /// - The counters have the ids below `counters`, which is at most 4096. A freed id is not given again for
-    ///   `reuse_ms` milliseconds.
+    /// - The ring for commands has `capacity` bytes, which must be a power of two from 128 to 2^24.
+    /// - The board for replies has `replies` bytes, which must be a power of two from 256 to 2^24.
+    /// - The ids of the counters are below `counters`, which must be at most 4096. A freed id is not allocated again
+    ///   for `reuse_ms` milliseconds.
     ///
     /// Errors: [`Error::BadCapacity`], [`Error::BadCount`], [`Error::OutOfMemory`].
     pub fn new(capacity: u32, replies: u32, counters: u32, reuse_ms: u32) -> Result<Conductor, Error> {
         let (number, mut handle) = (Number::next(), Handle::empty());
         let (own, raw) = (number.raw(), handle.raw());
-        // SAFETY: a number that nothing else has, and an empty handle.
+        // SAFETY: nothing else has this number, and the handle is empty.
         done(unsafe { raw::felter_conductor_new_numbered(own, capacity, replies, counters, reuse_ms, raw) })?;
         Ok(Conductor { handle, number, end: End::writer() })
     }
 
-    /// Makes a client, which starts with the reply that was transmitted last. The client gets one share of the ring and
-    /// one of the board, which have 65,536 each.
+    /// Makes a client, which starts with the reply that was transmitted last. The ring and the board have 65,536 shares
+    /// each, and the client gets one share of each.
     ///
     /// Errors: [`Error::NoShares`], [`Error::OutOfMemory`]. After an error no share is lost.
     pub fn client(&mut self) -> Result<Client, Error> {
         let mut handle = Handle::empty();
-        // SAFETY: two handles, the second empty.
+        // SAFETY: both handles are ours, and the second one is empty.
         done(unsafe { raw::felter_conductor_client(self.handle.raw(), handle.raw()) })?;
         Ok(Client { handle, conductor: self.number, end: self.end.other(false) })
     }
@@ -120,7 +121,7 @@ impl Conductor {
     /// Errors: [`Error::NoShares`], [`Error::OutOfMemory`].
     pub fn subscribe(&mut self) -> Result<Receiver, Error> {
         let mut handle = Handle::empty();
-        // SAFETY: two handles, the second empty.
+        // SAFETY: both handles are ours, and the second one is empty.
         done(unsafe { raw::felter_conductor_subscribe(self.handle.raw(), handle.raw()) })?;
         Ok(Receiver { handle, board: self.number, end: self.end.other(false) })
     }
@@ -131,17 +132,17 @@ impl Conductor {
     /// Errors: [`Error::NoShares`], [`Error::OutOfMemory`].
     pub fn reader(&mut self) -> Result<Reader, Error> {
         let mut handle = Handle::empty();
-        // SAFETY: two handles, the second empty.
+        // SAFETY: both handles are ours, and the second one is empty.
         done(unsafe { raw::felter_conductor_reader(self.handle.raw(), handle.raw()) })?;
         Ok(Reader { handle, counters: self.number })
     }
 
     /// Takes up to `limit` commands, applies each at the moment `now`, in milliseconds, and transmits its reply.
     ///
-    /// Errors: [`Error::BadMoment`]; nothing is then taken.
+    /// Errors: [`Error::BadMoment`]. No command is then taken.
     pub fn work(&mut self, now: u64, limit: u32) -> Result<Work, Error> {
         let (mut messages, mut stopped) = (0, 0);
-        // SAFETY: our handle, and two numbers of ours.
+        // SAFETY: the handle and the numbers are ours.
         done(unsafe { raw::felter_conductor_work(self.handle.raw(), now, limit, &mut messages, &mut stopped) })?;
         self.end.wake();
         Ok(Work { messages, stopped: WorkStop::of(stopped)? })
@@ -149,7 +150,7 @@ impl Conductor {
 
     /// Stores the heartbeat that clients load.
     pub fn set_heartbeat(&mut self, value: u64) -> Result<(), Error> {
-        // SAFETY: our handle.
+        // SAFETY: the handle is ours.
         done(unsafe { raw::felter_conductor_set_heartbeat(self.handle.raw(), value) })
     }
 
@@ -158,7 +159,7 @@ impl Conductor {
     /// Errors: [`Error::OtherRing`] if the client belongs to another conductor. The error gives the client back.
     pub fn join(&mut self, mut client: Client) -> Result<(), Refused<Client>> {
         let joined = self.number.must_be(client.conductor).and_then(|()| {
-            // SAFETY: two handles of one conductor, as their numbers show.
+            // SAFETY: both handles are of one conductor, as their numbers show.
             done(unsafe { raw::felter_conductor_join(self.handle.raw(), client.handle.raw()) })
         });
         joined.map_err(|reason| Refused { reason, back: client })
@@ -170,7 +171,7 @@ impl Conductor {
     /// receiver back.
     pub fn join_receiver(&mut self, mut receiver: Receiver) -> Result<(), Refused<Receiver>> {
         let joined = self.number.must_be(receiver.board).and_then(|()| {
-            // SAFETY: two handles of one conductor, as their numbers show.
+            // SAFETY: both handles are of one conductor, as their numbers show.
             done(unsafe { raw::felter_conductor_join_receiver(self.handle.raw(), receiver.handle.raw()) })
         });
         joined.map_err(|reason| Refused { reason, back: receiver })
@@ -182,7 +183,7 @@ impl Conductor {
     /// reader back.
     pub fn join_reader(&mut self, mut reader: Reader) -> Result<(), Refused<Reader>> {
         let joined = self.number.must_be(reader.counters).and_then(|()| {
-            // SAFETY: two handles of one conductor, as their numbers show.
+            // SAFETY: both handles are of one conductor, as their numbers show.
             done(unsafe { raw::felter_conductor_join_reader(self.handle.raw(), reader.handle.raw()) })
         });
         joined.map_err(|reason| Refused { reason, back: reader })
@@ -190,9 +191,12 @@ impl Conductor {
 
     /// Ends a conductor whose clients, receivers and readers were all taken back or dropped.
     ///
-    /// Errors while one of them is there: [`Error::ProducersOut`] if a client was not taken back, then
-    /// [`Error::ReceiversOut`] if a receiver was not, and otherwise [`Error::InUse`]. The error gives the conductor
-    /// back, which can go on, and finish later.
+    /// These are the errors while a client, a receiver or a reader exists, in this order:
+    /// - [`Error::ProducersOut`] if a client was not taken back;
+    /// - [`Error::ReceiversOut`] if a receiver was not taken back;
+    /// - [`Error::InUse`] otherwise.
+    ///
+    /// The error gives the conductor back. The caller can go on using the conductor, and can finish it later.
     ///
     /// ```
     /// use felter::{Conductor, Error, Finished};
@@ -208,7 +212,7 @@ impl Conductor {
     /// ```
     pub fn finish(mut self) -> Result<Finished, Refused<Conductor>> {
         let (mut received, mut left) = (0, 0);
-        // SAFETY: our handle, and two numbers of ours.
+        // SAFETY: the handle and the numbers are ours.
         match done(unsafe { raw::felter_conductor_finish(self.handle.raw(), &mut received, &mut left) }) {
             Ok(()) => Ok(Finished { received, left }),
             Err(reason) => Err(Refused { reason, back: self }),

@@ -1,20 +1,20 @@
-//! Controlled reads: the caller decides after each message how the read goes on.
+//! Controlled reads. After each message the caller decides how the read goes on.
 use crate::error::Error;
 use crate::handle::done;
 use crate::message::{message_of, Message};
 use crate::raw;
 use crate::ring::Consumer;
 
-/// What a [controlled read](Consumer::controlled_read) does after a message was shown.
+/// The ways in which a [controlled read](Consumer::controlled_read) goes on after a message was shown.
 #[derive(Clone, Copy, Debug, PartialEq, Eq)]
 pub enum Action {
     /// Stops. The message stays in the ring.
     Abort,
     /// Takes the message, and stops.
     Break,
-    /// Takes the message, and goes on. The producers get its room at once.
+    /// Takes the message, and goes on. The producers get the room of the message at once.
     Commit,
-    /// The same as `Commit`: the producers get the room of each message as soon as it was taken.
+    /// Does the same as `Commit`, since the producers get the room of each message as soon as it was taken.
     Continue,
 }
 
@@ -25,15 +25,15 @@ impl Consumer {
     pub fn peek<'a>(&mut self, buffer: &'a mut [u8]) -> Result<Option<Message<'a>>, Error> {
         let (mut type_id, mut len) = (0, 0);
         let (at, room) = (buffer.as_mut_ptr(), buffer.len());
-        // SAFETY: our handle, two numbers of ours, and a slice's pointer and length.
+        // SAFETY: the handle and the numbers are ours, and pointer and length are those of a slice.
         let code = unsafe { raw::felter_peek(self.handle.raw(), &mut type_id, &mut len, at, room) };
         message_of(code, type_id, len, buffer)
     }
 
     /// Takes the next message from the ring. Returns `false` if no message is there yet. No byte of the message reaches
-    /// the caller, but the call takes time in proportion to the length of the message.
+    /// the caller. But the call takes time in proportion to the length of the message.
     pub fn take(&mut self) -> Result<bool, Error> {
-        // SAFETY: our handle.
+        // SAFETY: the handle is ours.
         match done(unsafe { raw::felter_take(self.handle.raw()) }) {
             Ok(()) => Ok(true),
             Err(Error::NoMessage) => Ok(false),
@@ -42,11 +42,11 @@ impl Consumer {
     }
 
     /// Copies up to `limit` messages, one after another, into a buffer, and calls `show` with each. The [`Action`] that
-    /// `show` returns says what happens to the message. Returns how many messages were taken. If `show` panics, its
-    /// message stays in the ring.
+    /// `show` returns says whether the message is taken, and whether the read goes on. Returns how many messages were
+    /// taken. If `show` panics, its message stays in the ring.
     ///
     /// Errors: [`Error::ShortBuffer`] if the first message has no room. If a later message has no room, the read ends
-    /// before it.
+    /// before that message.
     ///
     /// ```
     /// use felter::Action;

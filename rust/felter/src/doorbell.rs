@@ -1,12 +1,13 @@
-//! A doorbell for event loops. Writers ring it, and readers wait for it, also by epoll.
+//! A doorbell for event loops. Writers ring a doorbell. Readers wait for it, and can do so by epoll.
 use std::fs::File;
 use std::io::{self, ErrorKind, Read, Write};
 use std::os::fd::{AsFd, AsRawFd, BorrowedFd, FromRawFd, RawFd};
 use std::time::Duration;
 
-/// An eventfd of Linux. Its descriptor is readable after the doorbell was rung, until it is cleared.
+/// An eventfd of Linux. The descriptor becomes readable when the doorbell is rung, and stays readable until the
+/// doorbell is cleared.
 ///
-/// Writers ring the doorbell after they have written: a ring does not do that itself. The reader clears the doorbell
+/// Writers ring the doorbell after they have written, since no write does this itself. The reader clears the doorbell
 /// first, and then reads until no message is there. So no message is missed.
 ///
 /// ```
@@ -48,14 +49,14 @@ const POLLIN: i16 = 1;
 impl Doorbell {
     /// Makes a doorbell that is not rung.
     ///
-    /// Errors: those of the system, for example if no more files can be opened.
+    /// Errors: those of the system, for example if the process can open no more files.
     pub fn new() -> io::Result<Doorbell> {
-        // SAFETY: two numbers.
+        // SAFETY: the call takes only numbers.
         let fd = unsafe { eventfd(0, CLOEXEC_NONBLOCK) };
         if fd < 0 {
             return Err(io::Error::last_os_error());
         }
-        // SAFETY: a file of ours that was just opened.
+        // SAFETY: the file was just opened, and is ours.
         Ok(Doorbell { file: unsafe { File::from_raw_fd(fd) } })
     }
 
@@ -76,12 +77,12 @@ impl Doorbell {
         }
     }
 
-    /// Waits until the doorbell is rung, or until the timeout. Returns whether it was rung. Without a timeout the call
-    /// waits for ever.
+    /// Waits until the doorbell is rung, or until the timeout. Returns whether the doorbell was rung. Without a timeout
+    /// the call waits for ever.
     pub fn wait(&self, timeout: Option<Duration>) -> io::Result<bool> {
         let millis = timeout.map_or(-1, |it| it.as_nanos().div_ceil(1_000_000).min(i32::MAX as u128) as i32);
         let mut it = PollFd { fd: self.file.as_raw_fd(), events: POLLIN, revents: 0 };
-        // SAFETY: one element of ours.
+        // SAFETY: the call gets one element that is ours.
         match unsafe { poll(&mut it, 1, millis) } {
             -1 => Err(io::Error::last_os_error()),
             count => Ok(count > 0),

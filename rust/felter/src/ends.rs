@@ -1,24 +1,24 @@
-//! The ends of a ring or a board: how many there are on each side, and which of them sleep.
+//! The ends of a ring or a board. This module counts the ends of each side, and knows which of them sleep.
 use std::mem;
 use std::sync::atomic::{AtomicUsize, Ordering};
 use std::sync::{Arc, Condvar, Mutex, PoisonError};
 use std::task::Waker;
 use std::time::Instant;
 
-/// The number of ends on each side. This is kept beside the proved library, which does not count them.
+/// The number of ends on each side. This number is kept beside the proved library, which does not count its handles.
 #[derive(Debug, Default)]
 struct Counts {
     writers: AtomicUsize,
     readers: AtomicUsize,
-    /// How many ends sleep, or are about to. A writer loads this number first, so a write costs one load more if no end
-    /// sleeps.
+    /// The number of ends that sleep, or are about to sleep. A writer loads this number first. So a write costs one
+    /// more load if no end sleeps.
     sleepers: AtomicUsize,
-    /// The wakers of the tasks that wait. Each task counts as a sleeper until its waker is taken out.
+    /// The wakers of the tasks that wait. Each task is counted as a sleeper until its waker is taken out.
     bed: Mutex<Vec<Waker>>,
     bell: Condvar,
 }
 
-/// An end that writes, or an end that reads. It is counted until it is dropped.
+/// An end that writes, or an end that reads. An end is counted until it is dropped.
 #[derive(Debug)]
 pub(crate) struct End {
     counts: Arc<Counts>,
@@ -32,7 +32,7 @@ pub(crate) struct Bed {
 }
 
 impl End {
-    /// The two ends of a new structure.
+    /// Returns the two ends of a new structure.
     pub(crate) fn pair() -> (End, End) {
         let writer = End { counts: Arc::default(), writes: true };
         writer.counts.writers.store(1, Ordering::SeqCst);
@@ -40,7 +40,7 @@ impl End {
         (writer, reader)
     }
 
-    /// The writing end of a new structure, which has no reading end yet.
+    /// Returns the writing end of a new structure, which has no reading end yet.
     pub(crate) fn writer() -> End {
         End::pair().0
     }
@@ -53,24 +53,24 @@ impl End {
         }
     }
 
-    /// Another end of the same structure.
+    /// Makes another end of the same structure.
     pub(crate) fn other(&self, writes: bool) -> End {
         self.count(writes).fetch_add(1, Ordering::SeqCst);
         End { counts: Arc::clone(&self.counts), writes }
     }
 
-    /// Whether every end of the other side is gone.
+    /// Returns whether every end of the other side is gone.
     pub(crate) fn is_abandoned(&self) -> bool {
         self.count(!self.writes).load(Ordering::SeqCst) == 0
     }
 
-    /// The place at which this end sleeps.
+    /// Returns the place at which this end sleeps.
     pub(crate) fn bed(&self) -> Bed {
         Bed { counts: Arc::clone(&self.counts) }
     }
 
-    /// Wakes the ends that sleep. They find what was written before this call: a write of the library ends with an
-    /// exchange, and the load here comes after that exchange.
+    /// Wakes the ends that sleep. These ends find what was written before this call. The reason is that a write of the
+    /// library ends with an exchange, and the load here comes after that exchange.
     #[inline]
     pub(crate) fn wake(&self) {
         if self.counts.sleepers.load(Ordering::SeqCst) != 0 {
@@ -80,7 +80,7 @@ impl End {
 
     #[cold]
     fn ring(&self) {
-        // (an end that looked and found nothing holds the lock until it sleeps, so it is woken)
+        // (an end that found nothing holds the lock until it sleeps, so it is woken)
         let wakers = mem::take(&mut *self.counts.bed.lock().unwrap_or_else(PoisonError::into_inner));
         self.counts.sleepers.fetch_sub(wakers.len(), Ordering::SeqCst);
         self.counts.bell.notify_all();
@@ -89,8 +89,7 @@ impl End {
 }
 
 impl Bed {
-    /// Looks once more, and then sleeps until it is woken, or until a deadline, if nothing was found. Returns what was
-    /// found.
+    /// Looks once more. If nothing was found, sleeps until it is woken or a deadline comes. Returns what was found.
     pub(crate) fn sleep<T>(&self, deadline: Option<Instant>, look: impl FnOnce() -> Option<T>) -> Option<T> {
         let counts = &self.counts;
         counts.sleepers.fetch_add(1, Ordering::SeqCst);
@@ -110,7 +109,7 @@ impl Bed {
 }
 
 impl Bed {
-    /// Notes the waker of a task, and then looks once more. Returns what was found.
+    /// Notes the waker of a task, and then calls `look`. Returns the result of `look`.
     pub(crate) fn note<T>(&self, waker: &Waker, look: impl FnOnce() -> Option<T>) -> Option<T> {
         let mut bed = self.counts.bed.lock().unwrap_or_else(PoisonError::into_inner);
         // (a task that is polled again is noted only once)

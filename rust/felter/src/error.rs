@@ -1,11 +1,11 @@
-//! Why calls are refused.
+//! The reasons why calls are refused.
 use crate::raw;
 use std::fmt;
 
 /// Defines the errors, each with its number and its fields.
 macro_rules! errors {
     ($($(#[$doc:meta])* $name:ident $({ $($(#[$note:meta])* $field:ident: $kind:ty),* })? = $number:literal,)*) => {
-        /// Why a call was refused. Each error has the name and the number that it has in C.
+        /// The reason why a call was refused. Each error has the name and the number that it has in C.
         #[derive(Clone, Copy, Debug, PartialEq, Eq, Hash)]
         #[non_exhaustive]
         pub enum Error {
@@ -15,7 +15,7 @@ macro_rules! errors {
         }
 
         impl Error {
-            /// The number that the error has in C.
+            /// Returns the number that the error has in C.
             pub fn number(self) -> i32 {
                 match self {
                     $(Error::$name $({ $($field: _),* })? => $number,)*
@@ -23,7 +23,7 @@ macro_rules! errors {
                 }
             }
 
-            /// The error with this number, which is not 0. Its fields are 0.
+            /// Returns the error with this number, which is not 0. Its fields are 0.
             pub(crate) fn of(number: i32) -> Error {
                 match number {
                     $($number => Error::$name $({ $($field: 0),* })?,)*
@@ -43,27 +43,27 @@ errors! {
     OutOfMemory = 3,
     /// The type id is below 1.
     BadType = 4,
-    /// The message is longer than an eighth of the capacity, or a command longer than 520 bytes.
+    /// The message is longer than an eighth of the capacity, or the command is longer than 520 bytes.
     TooLong = 5,
     /// The record would end above 2^62.
     PositionLimit = 6,
-    /// The ring is full: try again when the consumer has read on.
+    /// The ring is full. Try again after the consumer has read messages.
     InsufficientCapacity = 7,
-    /// Another producer was faster: try again.
+    /// Another producer was faster. Try again.
     Contended = 8,
     /// The bytes are not inside the claim.
     PutRange = 9,
-    /// A claim of the producer is open: the claim was kept or forgotten.
+    /// A claim of the producer is open, because it was kept or forgotten.
     ClaimsOpen = 10,
     /// A producer or a client was neither taken back nor dropped.
     ProducersOut = 11,
-    /// One share is left, and is needed.
+    /// The handle has only one share left, and needs it.
     NoShares = 12,
     /// The transmitter overtook the receiver.
     Lapped {
-        /// How often the receiver was lapped by now.
+        /// The number of times that the receiver was lapped by now.
         count: u64,
-        /// How many bytes the receiver passed over. For a client this is 0, because a client does not know the number.
+        /// The number of bytes that the receiver missed. For a client it is 0, because a client does not know it.
         missed_bytes: u64
     } = 13,
     /// A receiver was neither taken back nor dropped.
@@ -82,19 +82,19 @@ errors! {
     BadId = 20,
     /// No counter with this id is in use.
     NotAllocated = 21,
-    /// The owner is 0, which means none.
+    /// The owner is 0, which means that there is no owner.
     BadOwner = 28,
-    /// The handle is empty. This crate never returns it.
+    /// The handle is empty. This crate never returns this error.
     NoHandle = 100,
-    /// The handle is of another kind: a one-to-one ring has one producer, which cannot be split or joined.
+    /// The handle is of another kind. `split` and `join` return this error for a producer of a one-to-one ring.
     WrongHandle = 101,
-    /// The handle that was to be filled is not empty. This crate never returns it.
+    /// The handle that was to be filled is not empty. This crate never returns this error.
     HandleInUse = 102,
     /// No claim of this number is open.
     NoClaim = 104,
     /// No message is there yet. Most calls of this crate return `None` instead.
     NoMessage = 105,
-    /// The message is longer than the buffer, and stays.
+    /// The message is longer than the buffer, and stays in the ring.
     ShortBuffer {
         /// The number of bytes that are needed.
         wanted: usize
@@ -105,14 +105,15 @@ errors! {
     OtherRing = 108,
     /// The message is the reply to another command. This crate returns [`Polled::Another`](crate::Polled) instead.
     OtherReply = 109,
-    /// Another handle holds what was to be closed: a reader of the conductor was neither taken back nor dropped.
+    /// Another handle holds what was to be closed. A reader of the conductor was neither taken back nor dropped.
     InUse = 110,
-    /// A pointer is NULL. This crate never returns it.
+    /// A pointer is NULL. This crate never returns this error.
     NullPointer = 111,
 }
 
 impl Error {
-    /// Whether the same call may succeed later: the ring was full, or another producer was faster.
+    /// Returns whether the same call may succeed later. This is so if the ring was full, or another producer was
+    /// faster.
     ///
     /// ```
     /// let (mut producer, _consumer) = felter::one_to_one(128)?;
@@ -126,7 +127,7 @@ impl Error {
     }
 }
 
-/// Writes what the error means, in the words of `felter_text`.
+/// Writes the meaning of the error, in the words of `felter_text`.
 impl fmt::Display for Error {
     fn fmt(&self, f: &mut fmt::Formatter<'_>) -> fmt::Result {
         f.write_str(raw::text(self.number()))?;
@@ -141,12 +142,12 @@ impl fmt::Display for Error {
 
 impl std::error::Error for Error {}
 
-/// A message of a batch was refused, and those after it were not tried.
+/// A message of a batch was refused, and the messages after it were not tried.
 #[derive(Clone, Copy, Debug, PartialEq, Eq)]
 pub struct BatchRefused {
-    /// How many messages were written before it.
+    /// The number of messages that were written before the refused one.
     pub written: usize,
-    /// Why it was refused.
+    /// The reason why the message was refused.
     pub reason: Error,
 }
 
@@ -162,10 +163,10 @@ impl std::error::Error for BatchRefused {
     }
 }
 
-/// A call that took a handle was refused, and gives the handle back as it was.
+/// A call that took a handle was refused. It gives the handle back as it was.
 #[derive(Debug)]
 pub struct Refused<T> {
-    /// Why the call was refused.
+    /// The reason why the call was refused.
     pub reason: Error,
     /// The handle that was given to the call.
     pub back: T,

@@ -7,9 +7,9 @@ use std::sync::atomic::{AtomicU64, Ordering};
 /// The size of a ring or a board.
 #[derive(Clone, Copy, Debug, PartialEq, Eq)]
 pub struct Sizes {
-    /// The size of its buffer, in bytes.
+    /// The size of the buffer, in bytes.
     pub capacity: u32,
-    /// The length of its longest message: an eighth of the capacity.
+    /// The length of the longest message, which is an eighth of the capacity.
     pub max_message: u32,
 }
 
@@ -26,28 +26,28 @@ unsafe impl Send for Handle {}
 unsafe impl Sync for Handle {}
 
 impl Handle {
-    /// An empty handle.
+    /// Returns an empty handle.
     pub(crate) const fn empty() -> Handle {
         Handle { raw: Raw::EMPTY }
     }
 
-    /// The sizes of the ring or board of this handle.
+    /// Returns the sizes of the ring or board of this handle.
     pub(crate) fn sizes(&mut self) -> Result<Sizes, Error> {
         let (mut capacity, mut max_message) = (0, 0);
-        // SAFETY: our handle, and two numbers of ours.
+        // SAFETY: the handle and the numbers are ours.
         done(unsafe { raw::felter_capacity(&mut self.raw, &mut capacity, &mut max_message) })?;
         Ok(Sizes { capacity, max_message })
     }
 
-    /// The number that a call writes.
+    /// Returns the number that a call writes.
     pub(crate) fn said<T: Default>(&mut self, call: unsafe extern "C" fn(*mut Raw, *mut T) -> i32) -> Result<T, Error> {
         let mut number = T::default();
-        // SAFETY: our handle, and a number of ours.
+        // SAFETY: the handle and the number are ours.
         done(unsafe { call(&mut self.raw, &mut number) })?;
         Ok(number)
     }
 
-    /// The pointer for a call, which uses it only during the call.
+    /// Returns the pointer for a call of the library, which does not use it after the call.
     pub(crate) fn raw(&mut self) -> *mut Raw {
         &mut self.raw
     }
@@ -75,19 +75,19 @@ pub(crate) fn done(code: i32) -> Result<(), Error> {
 }
 
 /// The number of a ring, a board, counters or a conductor. Each handle has the number of its structure. No two
-/// structures of a process have the same number: the header for C counts from 1 on, this crate from 2^62, and the
-/// Python module from 2^63.
+/// structures of a process have the same number. For this the header for C counts from 1 on, this crate from 2^62, and
+/// the Python module from 2^63.
 #[derive(Clone, Copy, Debug, PartialEq, Eq)]
 pub(crate) struct Number(u64);
 
 impl Number {
-    /// The next number.
+    /// Returns the next number.
     pub(crate) fn next() -> Number {
         static NEXT: AtomicU64 = AtomicU64::new(1 << 62);
         Number(NEXT.fetch_add(1, Ordering::Relaxed))
     }
 
-    /// The number for a call that makes a structure.
+    /// Returns the number for a call that makes a structure.
     pub(crate) fn raw(self) -> u64 {
         self.0
     }

@@ -1,6 +1,6 @@
 //! Rings, boards, counters and conductors for the threads of one process, proved for every interleaving. A board is a
-//! broadcast buffer. The bodies of a ring are in memory of their own, beside the words of headers and positions, so
-//! rings do not have the memory layout of Agrona's rings.
+//! broadcast buffer. The bodies of messages are stored separately from the words of headers and positions. So rings do
+//! not have the memory layout of Agrona's rings.
 //!
 //! ```
 //! let (mut producer, mut consumer) = felter::many_to_one(65_536)?;
@@ -13,15 +13,17 @@
 //! # Ok::<(), felter::Error>(())
 //! ```
 //!
-//! The calls of the proved library never wait. A full ring, a faster producer and an empty ring are results, after
-//! which the caller may try again. [`Producer::send`] and [`Consumer::recv`] try until a deadline, `is_abandoned` says
-//! that the other side is gone, and a [`Doorbell`] wakes event loops.
+//! The calls of the proved library never wait. If the ring is full or empty, or if another producer was
+//! faster, the result of a call says so. The caller may then try again. Other calls wait or wake:
+//! - [`Producer::send`] and [`Consumer::recv`] try until a deadline.
+//! - `is_abandoned` returns whether the other side is gone.
+//! - A [`Doorbell`] wakes event loops.
 //!
-//! Capacities, lengths and positions are in bytes. Moments are in milliseconds, by a clock of the caller.
+//! Capacities, lengths and positions are in bytes. Moments are in milliseconds of a clock that the caller chooses.
 //!
 //! Each handle owns its endpoint together with its ring, board, counters or conductor. So handles have no lifetime
-//! parameter, and they may be dropped in any order. A handle may go to another thread. Each call takes its handle by
-//! `&mut`, so one thread at a time uses a handle:
+//! parameter, and can be dropped in any order. A handle may go to another thread. Each call takes its handle by `&mut`,
+//! so only one thread at a time uses a handle:
 //!
 //! ```compile_fail,E0596
 //! let (producer, _consumer) = felter::many_to_one(128).expect("a power of two");
@@ -32,16 +34,16 @@
 //!
 //! The proved library has rules for its callers. This crate keeps these rules, so its users need no `unsafe`:
 //!
-//! - A call takes its handles by `&mut`. So one call at a time uses a handle, and a call with two handles gets
-//!   different ones.
+//! - A call takes its handles by `&mut`. So one call at a time uses a handle, and the two handles of one call are
+//!   different.
 //! - Handles cannot be copied.
 //! - Buffers are slices.
 //! - If two handles of a call belong to different rings, boards, conductors or sets of counters, the call returns
-//!   [`Error::OtherRing`]. This crate gives each of them a number, from one count. Both the crate and the library
-//!   compare the numbers.
+//!   [`Error::OtherRing`]. This crate gives each of these structures a number, from one count. Both the crate and the
+//!   library compare the numbers.
 //!
-//! Users keep two rules: no call comes from a signal handler or a forked child, and the processor has x86-64-v2. This
-//! crate, with its declarations of the library, is tested and not proved.
+//! Users must keep two rules. No call may come from a signal handler or a forked child. The processor must have
+//! x86-64-v2. This crate and its declarations of the library are tested and not proved.
 
 mod board;
 mod claims;

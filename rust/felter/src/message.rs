@@ -5,13 +5,13 @@ use crate::handle::done;
 /// A message in a buffer of the caller.
 #[derive(Clone, Copy, Debug, PartialEq, Eq)]
 pub struct Message<'a> {
-    /// Its type id, at least 1.
+    /// The type id of the message, at least 1.
     pub type_id: i32,
-    /// Its bytes.
+    /// The bytes of the message.
     pub body: &'a [u8],
 }
 
-/// The result of a read of one message.
+/// Returns the result of a read of one message.
 pub(crate) fn message_of(code: i32, type_id: i32, len: usize, buffer: &[u8]) -> Result<Option<Message<'_>>, Error> {
     match done(code) {
         Ok(()) => Ok(Some(Message { type_id, body: &buffer[..len] })),

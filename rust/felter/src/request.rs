@@ -1,5 +1,5 @@
-//! Requests: commands together with their replies, until a deadline. They make proved calls, but are not proved
-//! themselves.
+//! Requests. A request sends a command, and waits for its reply until a deadline. Requests make proved calls, but are
+//! not proved themselves.
 use crate::client::{Client, Polled, Reply};
 use crate::error::Error;
 use crate::wait::Backoff;
@@ -10,46 +10,46 @@ use std::time::Instant;
 #[derive(Clone, Copy, Debug, PartialEq, Eq)]
 #[non_exhaustive]
 pub enum Command<'a> {
-    /// As [`Client::allocate`].
+    /// Allocates a counter, as [`Client::allocate`] does.
     Allocate {
-        /// The type of the counter.
+        /// The type id of the counter.
         type_id: i32,
-        /// Its key.
+        /// The key of the counter.
         key: &'a [u8],
-        /// Its label.
+        /// The label of the counter.
         label: &'a [u8],
     },
-    /// As [`Client::allocate_owned`].
+    /// Allocates a counter with an owner, as [`Client::allocate_owned`] does.
     AllocateOwned {
-        /// The type of the counter.
+        /// The type id of the counter.
         type_id: i32,
-        /// Its owner.
+        /// The owner of the counter.
         owner: u64,
-        /// Its key.
+        /// The key of the counter.
         key: &'a [u8],
-        /// Its label.
+        /// The label of the counter.
         label: &'a [u8],
     },
-    /// As [`Client::free`].
+    /// Frees a counter, as [`Client::free`] does.
     Free {
         /// The id of the counter.
         counter: u32,
     },
-    /// As [`Client::set`].
+    /// Sets a counter's value, as [`Client::set`] does.
     Set {
         /// The id of the counter.
         counter: u32,
         /// The new value.
         value: i64,
     },
-    /// As [`Client::close_owner`].
+    /// Frees each counter of an owner, as [`Client::close_owner`] does.
     CloseOwner {
         /// The owner of the counters to be freed.
         owner: u64,
     },
 }
 
-/// What is known of a command whose reply did not come.
+/// The states of a command whose reply did not come.
 #[derive(Clone, Copy, Debug, PartialEq, Eq)]
 #[non_exhaustive]
 pub enum RequestError {
@@ -57,22 +57,22 @@ pub enum RequestError {
     NotSent(Error),
     /// No reply came before the deadline. The command may still be applied: [`poll`](Client::poll) for the reply later.
     Pending {
-        /// Its correlation id.
+        /// The correlation id of the command.
         id: u64,
     },
     /// The command was applied or refused. The reply is lost, because the conductor overtook the client.
     Taken {
-        /// Its correlation id.
+        /// The correlation id of the command.
         id: u64,
     },
     /// No reply came before the deadline. The reply may be lost, because the conductor overtook the client.
     Unknown {
-        /// Its correlation id.
+        /// The correlation id of the command.
         id: u64,
     },
-    /// The conductor is gone. It is not known whether it took the command before.
+    /// The conductor is gone. The call does not know whether the conductor took the command before.
     Disconnected {
-        /// Its correlation id.
+        /// The correlation id of the command.
         id: u64,
     },
 }
@@ -107,16 +107,16 @@ impl std::error::Error for RequestError {
 /// An id that no counter has.
 const NO_COUNTER: u32 = u32::MAX;
 
-/// How often a client that was lapped looks for its reply before it sends another command.
+/// The number of times that a lapped client looks for its reply before it sends another command.
 const LOOKS: u32 = 16;
 
 impl Client {
     /// Sends a command, and waits for its reply. The call sends again while the ring is full or another client is
-    /// faster. It passes over the replies to other commands, so a client has one request at a time.
+    /// faster. The call passes over the replies to other commands. So a client has only one request at a time.
     ///
-    /// If the conductor overtakes the client, the reply may be lost. Then the call soon sends a command that changes
-    /// nothing: to free an id that no counter has. Replies to one client come in the order of its commands, so the
-    /// reply to the second command shows that the conductor took the first one before.
+    /// If the conductor overtakes the client, the reply may be lost. Then the call soon sends a second command, which
+    /// frees an id that no counter has, and so changes nothing. Replies to one client come in the order of its
+    /// commands. So the reply to the second command shows that the conductor took the first one before.
     ///
     /// Errors: see [`RequestError`]. Without a deadline the call waits for ever, and returns neither
     /// [`RequestError::Pending`] nor [`RequestError::Unknown`].

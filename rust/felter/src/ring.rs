@@ -1,4 +1,4 @@
-//! Rings: many-to-one and one-to-one.
+//! Rings, which are many-to-one or one-to-one.
 use crate::claims::Claim;
 use crate::ends::{Bed, End};
 use crate::error::{BatchRefused, Error, Refused};
@@ -6,14 +6,15 @@ use crate::handle::{done, Handle, Number, Sizes};
 use crate::message::{message_of, Batch, Message};
 use crate::raw::{self, Raw};
 
-/// Makes a ring for any number of producers: its first producer, which holds all 65,536 shares, and its consumer.
+/// Makes a ring for any number of producers, and returns its first producer and its consumer. A ring has 65,536 shares,
+/// and the first producer holds all of them.
 ///
 /// Errors: [`Error::BadCapacity`], [`Error::OutOfMemory`].
 pub fn many_to_one(capacity: u32) -> Result<(Producer, Consumer), Error> {
     many_to_one_at(capacity, 0)
 }
 
-/// Makes such a ring, with positions that begin at `start`.
+/// Makes a ring as [`many_to_one`] does, with positions that begin at `start`.
 ///
 /// Errors: [`Error::BadCapacity`], [`Error::BadStart`], [`Error::OutOfMemory`].
 pub fn many_to_one_at(capacity: u32, start: u64) -> Result<(Producer, Consumer), Error> {
@@ -27,21 +28,21 @@ pub fn one_to_one(capacity: u32) -> Result<(Producer, Consumer), Error> {
     one_to_one_at(capacity, 0)
 }
 
-/// Makes such a ring, with positions that begin at `start`.
+/// Makes a ring as [`one_to_one`] does, with positions that begin at `start`.
 ///
 /// Errors: [`Error::BadCapacity`], [`Error::BadStart`], [`Error::OutOfMemory`].
 pub fn one_to_one_at(capacity: u32, start: u64) -> Result<(Producer, Consumer), Error> {
     made_by(raw::felter_one_to_one_new_at_numbered, capacity, start)
 }
 
-/// Makes a ring of one kind, by the call that makes this kind.
+/// Makes a ring of one kind, by the call of the library for this kind.
 fn made_by(
     call: unsafe extern "C" fn(u64, u32, u64, *mut Raw, *mut Raw) -> i32,
     capacity: u32,
     start: u64,
 ) -> Result<(Producer, Consumer), Error> {
     let (ring, mut producer, mut consumer) = (Number::next(), Handle::empty(), Handle::empty());
-    // SAFETY: a number that nothing else has, and two empty handles.
+    // SAFETY: nothing else has this number, and both handles are empty.
     done(unsafe { call(ring.raw(), capacity, start, producer.raw(), consumer.raw()) })?;
     let (writes, reads) = End::pair();
     let sizes = producer.sizes()?;
@@ -49,7 +50,7 @@ fn made_by(
     Ok((producer, Consumer { handle: consumer, ring, end: reads, sizes }))
 }
 
-/// The head and the tail of a ring, in bytes. Both only rise.
+/// The head and the tail of a ring, in bytes. Both never fall.
 #[derive(Clone, Copy, Debug, PartialEq, Eq)]
 pub struct Positions {
     /// The position at which the next read begins.
@@ -58,10 +59,10 @@ pub struct Positions {
     pub tail: u64,
 }
 
-/// Writes into a ring.
+/// Writes messages into a ring.
 ///
-/// If a producer is dropped, its open claims are aborted, and the ring can end without the producer. But its shares are
-/// lost. A ring has 65,536 shares, and [`join`](Producer::join) gives those of a producer back.
+/// If a producer is dropped, its open claims are aborted, and the ring can end without this producer. But the shares of
+/// the producer are lost. A ring has 65,536 shares, and [`join`](Producer::join) gives the shares of a producer back.
 #[derive(Debug)]
 pub struct Producer {
     pub(crate) handle: Handle,
@@ -71,12 +72,12 @@ pub struct Producer {
 }
 
 impl Producer {
-    /// The capacity of the ring, and the length of its longest message.
+    /// Returns the capacity of the ring, and the length of its longest message.
     pub fn sizes(&self) -> Result<Sizes, Error> {
         Ok(self.sizes)
     }
 
-    /// Whether the consumer was dropped. Then nothing that is written will be read.
+    /// Returns whether the consumer was dropped. Messages that are written afterwards are never read.
     ///
     /// ```
     /// let (mut producer, consumer) = felter::many_to_one(128)?;
@@ -94,15 +95,15 @@ impl Producer {
     /// Errors: [`Error::BadType`], [`Error::TooLong`], [`Error::PositionLimit`], [`Error::InsufficientCapacity`], and
     /// for a many-to-one ring [`Error::Contended`].
     pub fn write(&mut self, type_id: i32, body: &[u8]) -> Result<(), Error> {
-        // SAFETY: our handle, and a slice's pointer and length.
+        // SAFETY: the handle is ours, and pointer and length are those of a slice.
         done(unsafe { raw::felter_write(self.handle.raw(), type_id, body.as_ptr(), body.len()) })?;
         self.end.wake();
         Ok(())
     }
 
-    /// Writes messages one after another, up to the first one that is refused. Returns how many were written.
+    /// Writes messages one after another, up to the first one that is refused. Returns how many messages were written.
     ///
-    /// Errors: those of [`write`](Producer::write), together with how many messages were written before.
+    /// Errors: those of [`write`](Producer::write), together with the number of messages that were written before.
     ///
     /// ```
     /// let (mut producer, _consumer) = felter::one_to_one(128)?;
@@ -124,10 +125,10 @@ impl Producer {
     }
 
     /// Tries once to claim room for a message of `len` bytes. Each byte is 0 until [`put`](Claim::put) stores it. The
-    /// consumer passes no open claim.
+    /// consumer does not pass an open claim.
     ///
-    /// Errors: those of [`write`](Producer::write). [`Error::OutOfMemory`] if there is no memory for one more claim. In
-    /// this case nothing was tried.
+    /// Errors: those of [`write`](Producer::write). The call also returns [`Error::OutOfMemory`] if there is no memory
+    /// for one more claim. In this case the call did not try to make the claim.
     ///
     /// ```
     /// let (mut producer, mut consumer) = felter::many_to_one(128)?;
@@ -142,8 +143,8 @@ impl Producer {
     /// # Ok::<(), felter::Error>(())
     /// ```
     ///
-    /// A claim borrows its producer, which can do nothing else meanwhile. To have several claims open at once,
-    /// [`keep`](Claim::keep) them. This does not compile:
+    /// A claim borrows its producer, so no other call can use the producer as long as the claim exists. To have several
+    /// claims open at once, [`keep`](Claim::keep) them. This does not compile:
     ///
     /// ```compile_fail,E0499
     /// let (mut producer, _consumer) = felter::many_to_one(128).expect("a power of two");
@@ -153,7 +154,7 @@ impl Producer {
     /// ```
     pub fn claim(&mut self, type_id: i32, len: usize) -> Result<Claim<'_>, Error> {
         let mut number = 0;
-        // SAFETY: our handle, and a number of ours.
+        // SAFETY: the handle and the number are ours.
         done(unsafe { raw::felter_claim(self.handle.raw(), type_id, len, &mut number) })?;
         Ok(Claim::of(self, number))
     }
@@ -161,35 +162,36 @@ impl Producer {
     /// Makes another producer of a many-to-one ring, with one share. Claims that were kept stay with the first
     /// producer.
     ///
-    /// Errors: [`Error::NoShares`], [`Error::OutOfMemory`], and for a one-to-one ring [`Error::WrongHandle`].
+    /// Errors: [`Error::NoShares`], [`Error::OutOfMemory`], and [`Error::WrongHandle`] if the ring is one-to-one.
     pub fn split(&mut self) -> Result<Producer, Error> {
         let mut other = Handle::empty();
-        // SAFETY: two handles, the second empty.
+        // SAFETY: both handles are ours, and the second one is empty.
         done(unsafe { raw::felter_split(self.handle.raw(), other.raw()) })?;
         Ok(Producer { handle: other, ring: self.ring, end: self.end.other(true), sizes: self.sizes })
     }
 
-    /// Joins another producer of the same ring to this one, with its shares and its claims that were kept.
+    /// Joins another producer of the same ring to this one. This producer gets the shares and the kept claims of the
+    /// other one.
     ///
-    /// Errors: [`Error::OtherRing`], [`Error::OutOfMemory`], and for a one-to-one ring [`Error::WrongHandle`]. After an
-    /// error both producers are as they were.
+    /// Errors: [`Error::OtherRing`], [`Error::OutOfMemory`], and [`Error::WrongHandle`] if the ring is one-to-one.
+    /// After an error both producers are as they were.
     pub fn join(&mut self, mut other: Producer) -> Result<(), Refused<Producer>> {
         let joined = self.ring.must_be(other.ring).and_then(|()| {
-            // SAFETY: two handles of one ring, as their numbers show.
+            // SAFETY: both handles are of one ring, as their numbers show.
             done(unsafe { raw::felter_join(self.handle.raw(), other.handle.raw()) })
         });
         joined.map_err(|reason| Refused { reason, back: other })
     }
 
-    /// Loads the head, and then the tail.
+    /// Loads the head of the ring, and then its tail.
     pub fn positions(&mut self) -> Result<Positions, Error> {
         let (mut head, mut tail) = (0, 0);
-        // SAFETY: our handle, and two numbers of ours.
+        // SAFETY: the handle and the numbers are ours.
         done(unsafe { raw::felter_positions(self.handle.raw(), &mut head, &mut tail) })?;
         Ok(Positions { head, tail })
     }
 
-    /// How many bytes of the ring are claimed and not yet read. The call loads the positions once.
+    /// Returns how many bytes of the ring are claimed and not yet read. The call loads the positions once.
     ///
     /// ```
     /// let (mut producer, mut consumer) = felter::one_to_one(128)?;
@@ -206,12 +208,13 @@ impl Producer {
         Ok((tail - head).min(u64::from(self.sizes.capacity)))
     }
 
-    /// How many bytes are free. A message also takes some of these bytes for its header, and for padding.
+    /// Returns how many bytes are free. A message also takes some of these bytes for its header, and possibly for
+    /// padding.
     pub fn available(&mut self) -> Result<u64, Error> {
         Ok(u64::from(self.sizes.capacity) - self.used()?)
     }
 
-    /// Whether everything that was claimed was read.
+    /// Returns whether everything that was claimed was read.
     pub fn is_empty(&mut self) -> Result<bool, Error> {
         Ok(self.used()? == 0)
     }
@@ -226,13 +229,13 @@ impl Producer {
         self.handle.said(raw::felter_heartbeat)
     }
 
-    /// How many of the ring's 65,536 shares this producer holds.
+    /// Returns how many of the ring's 65,536 shares this producer holds.
     pub fn shares(&mut self) -> Result<u32, Error> {
         self.handle.said(raw::felter_shares)
     }
 }
 
-/// Reads a ring.
+/// Reads messages from a ring.
 #[derive(Debug)]
 pub struct Consumer {
     pub(crate) handle: Handle,
@@ -242,25 +245,26 @@ pub struct Consumer {
 }
 
 impl Consumer {
-    /// The capacity of the ring, and the length of its longest message.
+    /// Returns the capacity of the ring, and the length of its longest message.
     pub fn sizes(&self) -> Result<Sizes, Error> {
         Ok(self.sizes)
     }
 
-    /// Whether every producer was dropped, or given to [`close`](Consumer::close). Then nothing more will be written,
-    /// but what was written before can still be read. So call this first, and then read until there is `None`.
+    /// Returns whether every producer was dropped, or given to [`close`](Consumer::close). Nothing more will then be
+    /// written, but messages that were written before can still be read. So call this first, and then read until a read
+    /// returns `None`.
     pub fn is_abandoned(&self) -> bool {
         self.end.is_abandoned()
     }
 
     /// Reads the next message into a buffer. Returns `None` if no message is there yet.
     ///
-    /// Errors: [`Error::ShortBuffer`], and then the message stays. A buffer of an eighth of the capacity is always long
-    /// enough.
+    /// Errors: [`Error::ShortBuffer`], after which the message stays in the ring. A buffer of an eighth of the capacity
+    /// is always long enough.
     pub fn read<'a>(&mut self, buffer: &'a mut [u8]) -> Result<Option<Message<'a>>, Error> {
         let (mut type_id, mut len) = (0, 0);
         let (at, room) = (buffer.as_mut_ptr(), buffer.len());
-        // SAFETY: our handle, two numbers of ours, and a slice's pointer and length.
+        // SAFETY: the handle and the numbers are ours, and pointer and length are those of a slice.
         let code = unsafe { raw::felter_read(self.handle.raw(), &mut type_id, &mut len, at, room) };
         message_of(code, type_id, len, buffer)
     }
@@ -268,11 +272,11 @@ impl Consumer {
     /// Reads up to `limit` messages into a buffer. The batch is empty if no message is there. The call can return fewer
     /// messages than are in the ring.
     ///
-    /// A message takes 16 bytes of the buffer, and the bytes of its body rounded up to a multiple of 8. A message that
-    /// has no room stays in the ring.
+    /// A message takes 16 bytes of the buffer, plus the bytes of its body, rounded up to a multiple of 8. A message for
+    /// which the buffer has no room stays in the ring.
     ///
-    /// Errors: [`Error::ShortBuffer`] if the first message has no room. Then `wanted` is 0, and
-    /// [`read`](Consumer::read) says the length of the message.
+    /// Errors: [`Error::ShortBuffer`] if the buffer has no room for the first message. The field `wanted` is then 0,
+    /// and [`read`](Consumer::read) returns the length of the message.
     ///
     /// ```
     /// let (mut producer, mut consumer) = felter::one_to_one(1024)?;
@@ -291,7 +295,7 @@ impl Consumer {
     pub fn read_batch<'a>(&mut self, limit: u32, buffer: &'a mut [u8]) -> Result<Batch<'a>, Error> {
         let (mut count, mut used) = (0, 0);
         let (at, room) = (buffer.as_mut_ptr(), buffer.len());
-        // SAFETY: our handle, two numbers of ours, and a slice's pointer and length.
+        // SAFETY: the handle and the numbers are ours, and pointer and length are those of a slice.
         let code = unsafe { raw::felter_read_batch(self.handle.raw(), limit, &mut count, &mut used, at, room) };
         match done(code) {
             Ok(()) | Err(Error::NoMessage) => Ok(Batch::new(count, &buffer[..used])),
@@ -299,22 +303,22 @@ impl Consumer {
         }
     }
 
-    /// The place at which it sleeps until a producer wakes it.
+    /// Returns the place at which the consumer sleeps until a producer wakes it.
     pub(crate) fn bed(&self) -> Bed {
         self.end.bed()
     }
 
     /// Stores the heartbeat that producers load.
     pub fn set_heartbeat(&mut self, value: u64) -> Result<(), Error> {
-        // SAFETY: our handle.
+        // SAFETY: the handle is ours.
         done(unsafe { raw::felter_set_heartbeat(self.handle.raw(), value) })
     }
 
-    /// Closes the ring with its last producer, which has no open claim. Nothing can be written afterwards. What is in
-    /// the ring can still be read. Before this call all other producers were joined, or dropped.
+    /// Closes the ring with its last producer, which must have no open claim. Nothing can be written afterwards. The
+    /// messages in the ring can still be read. Before this call, all other producers must have been joined or dropped.
     ///
-    /// Errors, in this order: [`Error::OtherRing`], [`Error::ClaimsOpen`], and [`Error::ProducersOut`] if there is
-    /// another producer. After an error consumer and producer are as they were.
+    /// Errors, in this order: [`Error::OtherRing`], [`Error::ClaimsOpen`], and [`Error::ProducersOut`] if another
+    /// producer exists. After an error the consumer and the producer are as they were.
     ///
     /// ```
     /// use felter::Error;
@@ -335,7 +339,7 @@ impl Consumer {
     /// ```
     pub fn close(&mut self, mut producer: Producer) -> Result<(), Refused<Producer>> {
         let closed = self.ring.must_be(producer.ring).and_then(|()| {
-            // SAFETY: two handles of one ring, as their numbers show.
+            // SAFETY: both handles are of one ring, as their numbers show.
             done(unsafe { raw::felter_close(self.handle.raw(), producer.handle.raw()) })
         });
         closed.map_err(|reason| Refused { reason, back: producer })
@@ -344,8 +348,8 @@ impl Consumer {
     /// Ends a ring that was [closed](Consumer::close), or whose producers were all dropped. Returns how many committed
     /// messages were left unread.
     ///
-    /// Errors: [`Error::ProducersOut`] if the ring was not closed and a producer is still there. The error gives the
-    /// consumer back, which can go on.
+    /// Errors: [`Error::ProducersOut`] if the ring was not closed and a producer still exists. The error gives the
+    /// consumer back, and the caller can go on using the consumer.
     ///
     /// ```
     /// let (producer, mut consumer) = felter::one_to_one(128)?;

@@ -1,4 +1,4 @@
-//! What a consumer finds next.
+//! The call that returns what a consumer finds next.
 use crate::error::Error;
 use crate::ring::{Consumer, Producer};
 
@@ -9,25 +9,26 @@ pub enum Found {
     Message,
     /// Nothing is claimed after the head.
     Nothing,
-    /// A claim that is not settled yet: its producer is slow, or lost.
+    /// A claim that is not settled yet. Its producer is slow, or lost.
     Claim,
-    /// Something changed during the call: call again.
+    /// Something changed during the call. Call again.
     Change,
 }
 
-/// What is next in a ring, and its position.
+/// What is next in a ring, and the head.
 #[derive(Clone, Copy, Debug, PartialEq, Eq)]
 pub struct Standing {
-    /// What is next.
+    /// The kind of thing that is next.
     pub found: Found,
-    /// The head, in bytes. If a claim is next, the head is its place.
+    /// The head, in bytes. If a claim is next, the head is the position of this claim.
     pub head: u64,
 }
 
 impl Consumer {
-    /// Returns what is next in the ring. The call needs a producer of the same ring. It loads the positions, reads into
-    /// a buffer of no bytes, and loads the positions again. The read passes padding and aborted claims before the next
-    /// message. If it passed any, the result is [`Found::Change`] unless a message is next.
+    /// Returns what is next in the ring. The call needs a producer of the same ring. The call loads the positions,
+    /// reads into a buffer of no bytes, and loads the positions again. The read passes padding and aborted claims
+    /// before the next message. If the read passed any of these, the result is [`Found::Change`] unless a message is
+    /// next.
     ///
     /// Errors: [`Error::OtherRing`].
     ///

@@ -4,13 +4,14 @@ use crate::ring::Consumer;
 /// A message that owns its bytes.
 #[derive(Clone, Debug, PartialEq, Eq)]
 pub struct OwnedMessage {
-    /// Its type id, at least 1.
+    /// The type id of the message, at least 1.
     pub type_id: i32,
-    /// Its bytes.
+    /// The bytes of the message.
     pub body: Vec<u8>,
 }
 
-/// An iterator over the messages that are there, which takes each message from the ring. See [`Consumer::try_iter`].
+/// An iterator over the messages that are in the ring, which takes each message from the ring. See
+/// [`Consumer::try_iter`].
 #[derive(Debug)]
 pub struct TryIter<'a> {
     consumer: &'a mut Consumer,
@@ -25,8 +26,8 @@ pub struct Iter<'a> {
 }
 
 impl Consumer {
-    /// Returns an iterator over the messages that are there. The iterator returns `None` if no message is there, and
-    /// may be asked again later.
+    /// Returns an iterator over the messages that are there. The iterator returns `None` if no message is there. A
+    /// later call may return a message again.
     ///
     /// ```
     /// let (mut producer, mut consumer) = felter::many_to_one(1024)?;
@@ -57,7 +58,7 @@ impl Consumer {
         Iter { consumer: self, room }
     }
 
-    /// A buffer for the longest message, so that no read is refused.
+    /// Returns a buffer for the longest message, so that no read is refused.
     fn longest(&self) -> Vec<u8> {
         vec![0; self.sizes().map_or(0, |it| it.max_message as usize)]
     }

@@ -1,4 +1,4 @@
-//! Calls that wait. They are not proved: the proved calls never wait.
+//! Calls that wait. These calls are not proved. The proved calls never wait.
 use crate::board::Receiver;
 use crate::ends::Bed;
 use crate::error::Error;
@@ -10,7 +10,7 @@ use std::task::Poll;
 use std::thread;
 use std::time::{Duration, Instant};
 
-/// Why a call that waits ended without a result.
+/// The reason why a call that waits ended without a result.
 #[derive(Clone, Copy, Debug, PartialEq, Eq)]
 #[non_exhaustive]
 pub enum WaitError {
@@ -41,7 +41,7 @@ impl std::error::Error for WaitError {
     }
 }
 
-/// Pauses that grow: first the thread spins, then it yields, and then it sleeps for up to a millisecond.
+/// Pauses that grow. First the thread spins, then it yields, and then it sleeps for up to a millisecond.
 pub(crate) struct Backoff {
     turns: u32,
     deadline: Option<Instant>,
@@ -57,12 +57,12 @@ impl Backoff {
         self.turns = 0;
     }
 
-    /// Whether the next pause spins or yields, and does not sleep.
+    /// Returns whether the next pause spins or yields, and does not sleep.
     fn is_awake(&self) -> bool {
         self.turns <= 10
     }
 
-    /// Pauses, and returns false, or returns true if the deadline has come.
+    /// Returns true if the deadline has come. Otherwise the call pauses, and returns false.
     pub(crate) fn is_over(&mut self) -> bool {
         let left = match self.deadline.map(|it| it.saturating_duration_since(Instant::now())) {
             Some(Duration::ZERO) => return true,
@@ -81,9 +81,12 @@ impl Backoff {
 impl Producer {
     /// Writes a message, and tries again while the ring is full or another producer is faster.
     ///
-    /// Errors: [`WaitError::Timeout`] at the deadline, [`WaitError::Disconnected`] if the consumer was dropped, and
-    /// [`WaitError::Refused`] for other errors of [`write`](Producer::write). Without a deadline the call waits for
-    /// ever.
+    /// These are the errors:
+    /// - [`WaitError::Timeout`] at the deadline;
+    /// - [`WaitError::Disconnected`] if the consumer was dropped;
+    /// - [`WaitError::Refused`] for other errors of [`write`](Producer::write).
+    ///
+    /// Without a deadline the call waits for ever.
     ///
     /// ```
     /// use std::time::{Duration, Instant};
@@ -114,9 +117,12 @@ impl Consumer {
     /// Waits for a message, and reads it into a buffer. The call looks a few times, and then sleeps until a producer
     /// wakes it.
     ///
-    /// Errors: [`WaitError::Timeout`] at the deadline, [`WaitError::Disconnected`] if every producer was dropped and
-    /// all messages were read, and [`WaitError::Refused`] for the errors of [`read`](Consumer::read). Without a
-    /// deadline the call waits for ever.
+    /// These are the errors:
+    /// - [`WaitError::Timeout`] at the deadline;
+    /// - [`WaitError::Disconnected`] if every producer was dropped and all messages were read;
+    /// - [`WaitError::Refused`] for the errors of [`read`](Consumer::read).
+    ///
+    /// Without a deadline the call waits for ever.
     ///
     /// ```
     /// let (mut producer, mut consumer) = felter::one_to_one(128)?;
@@ -130,7 +136,7 @@ impl Consumer {
     pub fn recv<'a>(&mut self, buffer: &'a mut [u8], deadline: Option<Instant>) -> Result<Message<'a>, WaitError> {
         let bed = self.bed();
         let (type_id, len) = until_found(&bed, deadline, || {
-            // (this comes first: so the last read finds what was written before the last producer was dropped)
+            // (this comes first, so the last read finds what was written before the last producer was dropped)
             let is_last = self.is_abandoned();
             tried(self.read(buffer), is_last)
         })?;
@@ -141,9 +147,11 @@ impl Consumer {
 impl Consumer {
     /// Waits for a message as a task, and reads it into a buffer. A write wakes the task.
     ///
-    /// Errors: [`WaitError::Disconnected`] if every producer was dropped and all messages were read, and
-    /// [`WaitError::Refused`] for the errors of [`read`](Consumer::read). If the future is dropped before it is ready,
-    /// it has taken no message.
+    /// These are the errors:
+    /// - [`WaitError::Disconnected`] if every producer was dropped and all messages were read;
+    /// - [`WaitError::Refused`] for the errors of [`read`](Consumer::read).
+    ///
+    /// If the future is dropped before it is ready, no message was taken.
     ///
     /// ```
     /// # use std::{future::Future, pin::pin, sync::Arc, task::{Context, Poll, Wake}, thread};
@@ -176,8 +184,8 @@ impl Consumer {
 }
 
 impl Receiver {
-    /// Waits for a message as a task, and copies it into a buffer. A transmission wakes the task. The rest is as for
-    /// [`recv`](Receiver::recv) without a deadline.
+    /// Waits for a message as a task, and copies it into a buffer. A transmission wakes the task. Otherwise the call is
+    /// the same as [`recv`](Receiver::recv) without a deadline.
     pub async fn recv_async<'a>(&mut self, buffer: &'a mut [u8]) -> Result<Message<'a>, WaitError> {
         let bed = self.bed();
         let (type_id, len) = until_woken(&bed, || {
@@ -190,9 +198,12 @@ impl Receiver {
 
     /// Waits for a message, and copies it into a buffer of at least an eighth of the capacity.
     ///
-    /// Errors: [`WaitError::Timeout`] at the deadline, [`WaitError::Disconnected`] if the transmitter or the conductor
-    /// was dropped and all messages were received, and [`WaitError::Refused`] for the errors of
-    /// [`receive`](Receiver::receive), also for a lap. Without a deadline the call waits for ever.
+    /// These are the errors:
+    /// - [`WaitError::Timeout`] at the deadline;
+    /// - [`WaitError::Disconnected`] if the transmitter or the conductor was dropped and all messages were received;
+    /// - [`WaitError::Refused`] for the errors of [`receive`](Receiver::receive), which include [`Error::Lapped`].
+    ///
+    /// Without a deadline the call waits for ever.
     ///
     /// ```
     /// let mut transmitter = felter::Transmitter::new(256)?;
@@ -214,7 +225,8 @@ impl Receiver {
     }
 }
 
-/// The result of a try: the type id and the length of a message, an error, or `None` if no message is there yet.
+/// Returns the result of a try. A result is the type id and the length of a message, or an error, or `None` if no
+/// message is there yet.
 fn tried(found: Result<Option<Message<'_>>, Error>, is_last: bool) -> Option<Result<(i32, usize), WaitError>> {
     match found {
         Ok(Some(message)) => Some(Ok((message.type_id, message.body.len()))),
@@ -224,7 +236,7 @@ fn tried(found: Result<Option<Message<'_>>, Error>, is_last: bool) -> Option<Res
     }
 }
 
-/// Looks each time that the task is polled, until something is found.
+/// Calls `look` each time that the task is polled, until `look` returns a result.
 async fn until_woken<T>(bed: &Bed, mut look: impl FnMut() -> Option<Result<T, WaitError>>) -> Result<T, WaitError> {
     future::poll_fn(|task| match look().or_else(|| bed.note(task.waker(), &mut look)) {
         Some(found) => Poll::Ready(found),
@@ -233,7 +245,8 @@ async fn until_woken<T>(bed: &Bed, mut look: impl FnMut() -> Option<Result<T, Wa
     .await
 }
 
-/// Looks until something is found: a few times with short pauses, and then each time that the thread was woken.
+/// Calls `look` until it returns a result. There are short pauses between the first calls of `look`. Each later call
+/// comes after the thread was woken.
 fn until_found<T>(
     bed: &Bed,
     deadline: Option<Instant>,

@@ -14,9 +14,9 @@ impl Board {
     ghost use Rattle.ring_board.specs.Board.{copied, heard_by, latest_of, subscribed_at, transmitted};
     ghost use Rattle.ring_board.specs.Seats.{view_of, shares_of, IsTransmitterOf, IsReceiverOf, receiver_view};
 
-    /// Makes a copying receiver, which starts with the record at latest. It takes one share of the transmitter's.
-    /// Returns, in this order: `NoShares` if the transmitter has one share; `OutOfMemory`. The transmitter is then
-    /// unchanged.
+    /// Makes a copying receiver, which starts with the record at latest. The receiver takes one share of the
+    /// transmitter. Returns `NoShares` if the transmitter has only one share, and otherwise `OutOfMemory` if there is
+    /// no memory. After an error the transmitter is unchanged.
     pub fn subscribe(
         &self,
         alloc: Global,
@@ -42,7 +42,7 @@ impl Board {
         Ok(CopyReceiver { receiver, scratch })
     }
 
-    /// Takes a copying receiver back, with its share. Its copies are runs of the transmitted list.
+    /// Takes a copying receiver back, with its share. The copies of the receiver are runs of the transmitted list.
     pub fn join(&self, transmitter: &mut Transmitter, receiver: CopyReceiver)
         requires transmitter { IsTransmitterOf self.now transmitter.old }
         requires receiver { IsReceiverOf self.now receiver }
@@ -69,8 +69,8 @@ impl CopyReceiver {
     ghost use Rattle.ring_board.specs.Seats.{IsReceiverOf, receiver_seat, Received};
     ghost use Rattle.ring_board.specs.Lending.{Rests};
 
-    /// Returns the position, in bytes, at which the next call looks for a record. After `Lapped` the bytes that it
-    /// passed over are this less `Lapped.place`, which is never 0.
+    /// Returns the position, in bytes, at which the next call looks for a record. After `Lapped`, this position is
+    /// above `Lapped.place` by the number of bytes that the receiver missed. This number is never 0.
     pub fn place(&self) -> u64
         ensures { result ≡ place_in self.now }
     {
@@ -84,7 +84,7 @@ impl CopyReceiver {
         self.receiver.count
     }
 
-    /// Copies the next message to the front of its own scratch.
+    /// Copies the next message to the front of the receiver's scratch.
     fn copy_next(&mut self, board: &Board) -> Result<Option<CopiedMessage>, Lapped>
         requires { IsReceiverOf board.now self.old }
         ensures board { IsReceiverOf board.now self.new }
@@ -99,7 +99,7 @@ impl CopyReceiver {
         self.receiver.copy_next(board, self.scratch.as_mut_slice())
     }
 
-    /// The copy at the front of the scratch.
+    /// Returns the copy at the front of the scratch.
     fn front(&self, front: CopiedMessage) -> Copied<'_>
         requires { front.len ≤ vec_len self.now.scratch }
         ensures { (result.place ≡ front.place) × (result.type_id ≡ front.type_id)
@@ -113,7 +113,7 @@ impl CopyReceiver {
     }
 
     /// Copies the next message, if there is one, and validates the copy. Returns `Lapped` if the transmitter overtook
-    /// the receiver: the count has risen by one, and the next call starts with the record at latest.
+    /// the receiver. The count has then risen by one, and the next call starts with the record at latest.
     pub fn receive(&mut self, board: &Board) -> Result<Option<Copied<'_>>, Lapped>
         requires { IsReceiverOf board.now self.old }
         ensures* after { sem 𝓛 (Rests self.entry (λ new. CopiesNext self.old new result

@@ -1,11 +1,11 @@
-//! What a receiver finds.
+//! The types for what a receiver finds.
 
-/// What a receiver finds at its place.
+/// The result of a look at the receiver's place.
 #[derive(Clone, Copy)]
 pub(crate) enum Found {
-    /// This tail is not beyond it.
+    /// The tail that was loaded is not beyond the place.
     Nothing(u64),
-    /// An entry at this place, with this header.
+    /// There is an entry at this place, with this header.
     Entry(u64, u64),
     /// The validation at this place failed, at this intent.
     Missed(u64, u64),

@@ -1,4 +1,4 @@
-//! How a receiver finds the next record and copies it.
+//! The search of a receiver for the next record, and its copy.
 ghost use Rattle.std.specs.Prelude.{◌≡◌, ℕ, ◌+◌, ◌-◌, ◌*◌, ◌/◌, ◌%◌, ◌^◌, ◌<◌, ◌≤◌, [], length, take, nat_le, MatchResult, MatchOption};
 ghost use Rattle.std.specs.Int.{cast_signed, w32};
 ghost use Rattle.ring_layout.specs.History.{span};
@@ -17,21 +17,21 @@ use crate::shared::steps::BoardSeat;
 use ring_layout::put_word;
 use ring_layout::record_descriptor::{HEADER_LENGTH, unpack_header};
 
-/// The bytes that a header announces, its own among them.
+/// Returns the number of bytes that a header announces, the header included.
 fn announced(header: u64) -> u64
     ensures { (result ≡ announced header) × (result < 2 ^ 32) }
 {
     header & 0xffff_ffff
 }
 
-/// The type id that a header announces.
+/// Returns the type id that a header announces.
 fn announced_type(header: u64) -> i32
     ensures { result ≡ cast_signed w32 (header / 2 ^ 32) }
 {
     unpack_header(header).1
 }
 
-/// Tests whether a header is of padding.
+/// Tests whether a header is one of padding.
 fn is_padding(header: u64) -> bool
     ensures { result ≡ is_padding header }
 {
@@ -39,7 +39,8 @@ fn is_padding(header: u64) -> bool
 }
 
 impl Board {
-    /// Tests whether an intent has reached a place plus the capacity, so that what was loaded there may be overwritten.
+    /// Tests whether an intent has reached a place plus the capacity. If so, the words that were loaded at that place
+    /// may be overwritten.
     pub(crate) fn is_lapped(&self, place: u64, intent: u64) -> bool
         requires { place ≤ max_position }
         ensures { result ≡ nat_le (place + self.now.capacity) intent }
@@ -47,7 +48,8 @@ impl Board {
         intent >= place + u64::from(self.capacity)
     }
 
-    /// Goes to the next entry, past padding if there is some, and loads its header, which is not yet validated.
+    /// Goes to the next entry, and past padding if there is some. Loads the header of the entry, which is not yet
+    /// validated.
     fn load_next_header(&self, seat: &mut BoardSeat, place: u64) -> Found
         requires seat { IsSeatOf self.now seat.old }
         requires stage { RestsAt self.now.capacity place seat.old.me }
@@ -91,8 +93,8 @@ impl Board {
         }
     }
 
-    /// Returns the next record unread, if there is one. Otherwise returns the place and the intent of a failed
-    /// validation.
+    /// Returns the next record without its body, if there is a record. Otherwise returns the place and the intent of a
+    /// failed validation.
     pub(crate) fn next_raw(
         &self,
         seat: &mut BoardSeat,
@@ -122,7 +124,7 @@ impl Board {
         }
     }
 
-    /// Copies the words of the body after a validated header to the front of the scratch.
+    /// Copies the words of a body to the front of the scratch, after its header was validated.
     fn copy_body(&self, seat: &mut BoardSeat, place: u64, words: usize, scratch: &mut [u8])
         requires seat { IsSeatOf self.now seat.old }
         requires stage { (w : ℕ) × (seat.old.me.0.stage ≡ Reading w []) × (words ≡ word_count (body_len w))
@@ -140,8 +142,8 @@ impl Board {
         }
     }
 
-    /// Copies the body after a validated header to the front of the scratch and validates again. Otherwise returns the
-    /// intent that showed that the receiver was lapped.
+    /// Copies a body to the front of the scratch after its header was validated, and validates again. Otherwise returns
+    /// the intent that showed that the receiver was lapped.
     fn take(
         &self,
         seat: &mut BoardSeat,
@@ -168,8 +170,8 @@ impl Board {
         }
     }
 
-    /// Goes to the record at latest, after a failed validation, and returns where that is. The lap is reported with its
-    /// number, one more than before.
+    /// Goes to the record at latest, after a failed validation, and returns its place. The count that is reported is
+    /// one more than before.
     pub(crate) fn go_to_latest(
         &self,
         seat: &mut BoardSeat,

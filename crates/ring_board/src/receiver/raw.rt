@@ -15,8 +15,8 @@ impl Board {
     ghost use Rattle.ring_board.specs.Board.{heard_by, latest_of, raw_subscribed_at, returned, transmitted};
     ghost use Rattle.ring_board.specs.Seats.{view_of, shares_of, IsTransmitterOf, IsRawOf, raw_view};
 
-    /// Makes a raw receiver, which starts with the record at latest. It takes one share of the transmitter's and no
-    /// memory. Returns `NoShares` if the transmitter has one share, which is then unchanged.
+    /// Makes a raw receiver, which starts with the record at latest. The receiver takes one share of the transmitter,
+    /// and no memory. Returns `NoShares` if the transmitter has only one share. The transmitter is then unchanged.
     pub fn subscribe_raw(&self, transmitter: &mut Transmitter) -> Result<Receiver, NoShares>
         requires { IsTransmitterOf self.now transmitter.old }
         ensures transmitted { transmitted transmitter.new ≡ transmitted transmitter.old }
@@ -61,8 +61,8 @@ impl Receiver {
     ghost use Rattle.ring_board.specs.Board.{raw_lapped_count_of, raw_place_in, ReturnsNext};
     ghost use Rattle.ring_board.specs.Seats.{IsRawOf, IsAnsweredRecord, raw_seat, raw_view, ReceivedNext, StaysAnswered, place_of, len_of};
 
-    /// Returns the position, in bytes, at which the next call looks for a record. After `Lapped` the bytes that it
-    /// passed over are this less `Lapped.place`, which is never 0.
+    /// Returns the position, in bytes, at which the next call looks for a record. After `Lapped`, this position is
+    /// above `Lapped.place` by the number of bytes that the receiver missed. This number is never 0.
     pub fn place(&self) -> u64
         ensures { result ≡ raw_place_in self.now }
     {
@@ -76,8 +76,9 @@ impl Receiver {
         self.count
     }
 
-    /// Returns the next record unread, if there is one, and goes past it. Returns `Lapped` if the transmitter overtook
-    /// the receiver: the count has risen by one, and the next call starts with the record at latest.
+    /// Returns the next record without its body, if there is a record, and goes past it. Returns `Lapped` if the
+    /// transmitter overtook the receiver. The count has then risen by one, and the next call starts with the record at
+    /// latest.
     pub fn receive_next(&mut self, board: &Board) -> Result<Option<RawRecord>, Lapped>
         requires { IsRawOf board.now self.old }
         ensures returned { ReturnsNext self.old self.new result }
@@ -100,7 +101,8 @@ impl Receiver {
         }
     }
 
-    /// Copies the next message to the front of a scratch, if there is one, validates the copy, and goes past it.
+    /// Copies the next message to the front of a scratch, if there is a message. Validates the copy, and goes past the
+    /// message.
     pub(crate) fn copy_next(
         &mut self,
         board: &Board,
@@ -130,7 +132,7 @@ impl Receiver {
         }
     }
 
-    /// Copies the body of a record that this receiver returned to the front of `out`, without validation: the bytes may
+    /// Copies the body of a record that this receiver returned to the front of `out`, without validation. The bytes may
     /// be those of another record, unless `validate` returns true afterwards. The rest of `out` is unchanged.
     pub fn load_body(&mut self, board: &Board, raw: &RawRecord, out: &mut [u8])
         requires board { IsRawOf board.now self.old }
@@ -146,8 +148,9 @@ impl Receiver {
         board.load_answered(&mut self.seat, raw, &mut out[..raw.len]);
     }
 
-    /// Tests whether a record that this receiver returned has not been overwritten yet, by one load of the intent. If
-    /// so, each body of it that `load_body` returned before is the one that was transmitted.
+    /// Tests whether a record that this receiver returned is not overwritten yet. The test is one load of the intent.
+    /// If the result is true, each body of the record that `load_body` returned before is the body that was
+    /// transmitted.
     pub fn validate(&mut self, board: &Board, raw: &RawRecord) -> bool
         requires board { IsRawOf board.now self.old }
         requires raw { IsAnsweredRecord (raw_view self.old) raw.now }
@@ -166,7 +169,7 @@ impl Board {
     ghost use Rattle.ring_board.specs.Bodies.{GaveBody};
     ghost use Rattle.ring_board.specs.Seats.{IsAnsweredRecord, place_of, len_of};
 
-    /// Loads the body of a record that was returned unread, which is as long as `out`.
+    /// Loads the body of a record that was returned without its body. The body is as long as `out`.
     fn load_answered(&self, seat: &mut BoardSeat, raw: &RawRecord, out: &mut [u8])
         requires seat { IsSeatOf self.now seat.old }
         requires stage { (seat.old.me.0.stage ≡ Resting) × (seat.old.me.0.capacity ≡ self.now.capacity) }
@@ -185,28 +188,28 @@ impl Board {
 impl RawRecord {
     ghost use Rattle.ring_board.specs.Seats.{place_of, type_id_of, len_of};
 
-    /// Returns its position in bytes.
+    /// Returns the position of the record, in bytes.
     pub fn place(&self) -> u64
         ensures { result ≡ place_of self.now }
     {
         self.place
     }
 
-    /// Returns the type id that its header announces.
+    /// Returns the type id that the record's header announces.
     pub fn type_id(&self) -> i32
         ensures { result ≡ type_id_of self.now }
     {
         self.type_id
     }
 
-    /// Returns the length in bytes of the body that its header announces.
+    /// Returns the length of the body that the record's header announces, in bytes.
     pub fn len(&self) -> usize
         ensures { result ≡ len_of self.now }
     {
         self.len
     }
 
-    /// Tests whether its header announces an empty body.
+    /// Tests whether the record's header announces an empty body.
     pub fn is_empty(&self) -> bool
         ensures { result ≡ (len_of self.now == 0) }
     {

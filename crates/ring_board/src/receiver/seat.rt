@@ -1,4 +1,4 @@
-//! How a receiver of either kind gets its seat.
+//! The step that gives a receiver of either kind its seat.
 ghost use Rattle.std.specs.Prelude.{◌≡◌, ◌<◌};
 ghost use Rattle.ring_board.specs.Views.{fewer, newcomer};
 ghost use Rattle.ring_board.specs.Seats.{IsRawOf, IsTransmitterOf, raw_view, shares_of, view_of};

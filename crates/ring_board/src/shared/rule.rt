@@ -2,7 +2,7 @@
 use crate::shared::view::{Shape, View};
 use atomic_table::TableRule;
 
-/// What holds between any two steps.
+/// The rule that holds between any two steps.
 pub struct BoardRule;
 
 impl TableRule<(), View, Shape> for BoardRule {

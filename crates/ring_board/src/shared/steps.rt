@@ -1,4 +1,4 @@
-//! One small function for each kind of step of receivers and seats. Each is one load or store of one word.
+//! One small function for each kind of step of receivers and of seats. Each step is one load or one store of one word.
 pub(crate) mod receiver;
 pub(crate) mod seats;
 
@@ -15,18 +15,18 @@ use std::alloc::Global;
 /// The words of a broadcast buffer, as threads share them.
 pub type BoardTable = Table<(), View, Shape, BoardRule, Global>;
 
-/// A seat at the table: the transmitter's or a receiver's. It has no bytes.
+/// A seat at the table, of the transmitter or of a receiver. A seat has no bytes.
 pub type BoardSeat = Seat<(), View>;
 
 impl Board {
-    /// The index of the word at a position.
+    /// Returns the index of the word at a position.
     pub(crate) fn index(&self, position: u64) -> usize
         ensures { (result ≡ index self.now.capacity position) × (result < self.now.capacity / 8) }
     {
         word_index(self.capacity, position)
     }
 
-    /// The index of a word of the trailer.
+    /// Returns the index of a word of the trailer.
     pub(crate) fn trailer_index(&self, word: usize) -> usize
         requires { word < 16 }
         ensures lies { result ≡ self.now.table.shared.key.capacity / 8 + word }

@@ -1,15 +1,15 @@
-//! What a seat at the table knows. No value of these types is made, except of the shape.
+//! The types of what a seat at the table knows. No value of these types is made, except of `Shape`.
 use ring_layout::Message;
 use std::collections::LinkedList;
 
-/// A transmitted message. Its transmission began at `before`, with padding up to `place`, where its record is.
+/// A transmitted message. The transmission began at `before`. It has padding up to `place`, and the record at `place`.
 pub struct Record {
     pub before: u64,
     pub place: u64,
     pub message: Message,
 }
 
-/// A transmission that is being made, which will end at `end`, with the words of the body that are stored.
+/// A transmission that is being made and will end at `end`, with the words of the body that are stored.
 pub struct Draft {
     pub before: u64,
     pub place: u64,
@@ -17,21 +17,23 @@ pub struct Draft {
     pub words: LinkedList<u64>,
 }
 
-/// What a receiver copied, or returned unread, and the number of times it had been lapped before.
+/// A message that a receiver copied, or returned without its body, and the number of times that it had been lapped
+/// before.
 pub struct Taken {
     pub place: u64,
     pub message: Message,
     pub count: u64,
 }
 
-/// The place at which a joined receiver had subscribed, and what it copied.
+/// The place at which a joined receiver had subscribed, and its copies.
 pub struct Joined {
     pub from: u64,
     pub copies: LinkedList<Taken>,
 }
 
-/// A load of the buffer, with its index, a tail that was there before it and the word, or of one of the three counters.
-/// The tail is the last one seen; for the body of a record that was returned unread, it is the tail at that moment.
+/// A load of a word. A load of the buffer has its index, a tail that was stored before the load, and the word. The
+/// other loads are of one of the three counters. The tail is the last one that was seen. For the body of a record that
+/// was returned without its body, it is the tail at the moment of the return.
 pub enum Load {
     Word(u64, u64, u64),
     Intent(u64),
@@ -39,13 +41,13 @@ pub enum Load {
     Latest(u64),
 }
 
-/// How far a call has come.
+/// The point that a call has reached.
 pub enum Stage {
-    /// The seat was joined into another.
+    /// The seat was joined to another seat.
     Spent,
-    /// The transmitter, between two transmissions.
+    /// The transmitter is between two transmissions.
     Idle,
-    /// The intent is stored, and the padding header not yet.
+    /// The intent is stored, but the padding header is not stored yet.
     Begun(Draft),
     /// The intent and the padding header, if there is one, are stored.
     Storing(Draft),
@@ -53,25 +55,25 @@ pub enum Stage {
     Written(Record),
     /// Latest is stored.
     Shown(Record),
-    /// A receiver between two calls.
+    /// The receiver is between two calls.
     Resting,
-    /// It loaded a tail beyond its place.
+    /// The receiver loaded a tail beyond its place.
     Sure,
-    /// It loaded this header.
+    /// The receiver loaded this header.
     Headed(u64),
-    /// It loaded this header of a padding, and validated.
+    /// The receiver loaded this header of padding, and validated it.
     Padded(u64),
-    /// It loaded this header after a padding.
+    /// The receiver loaded this header after padding.
     Again(u64),
-    /// It loaded these words after a validated header.
+    /// The receiver loaded these words after a validated header.
     Reading(u64, LinkedList<u64>),
     /// A validation failed.
     Behind,
 }
 
-/// What a seat knows. The transmitter has the list `sent`, and the receivers that were joined into it (`heard`). A
-/// receiver subscribed at `from`, is at `at`, before the entry `next` of that list, was lapped `count` times, and has
-/// its copies. Each has a log of its loads.
+/// The knowledge of a seat. The transmitter knows the list `sent`, and the receivers that were joined to it (`heard`).
+/// A receiver subscribed at `from`, and is now at `at`, before the entry `next` of the list. It was lapped `count`
+/// times, and has its copies. Each seat has a log of its loads.
 pub struct View {
     pub stage: Stage,
     pub shares: u64,

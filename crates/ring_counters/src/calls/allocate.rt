@@ -1,4 +1,4 @@
-//! Making, allocating and freeing counters.
+//! The calls that make, allocate and free counters.
 ghost use Rattle.std.specs.Prelude.{◌≡◌, ◌^◌, ◌≤◌, ◌↔◌, pos, [], ◌∷◌, ◌++◌, length, nat_lt};
 ghost use Rattle.std.specs.Prelude.{Err, IfOk, IsErr, IsOkUnless, MatchOption, OnErr, OnOk};
 ghost use Rattle.std.specs.List.{list_all};
@@ -18,12 +18,12 @@ use crate::values::seats::CounterValues;
 use ring_layout::counter_descriptor::{MAX_COUNTERS, MAX_KEY_LENGTH, MAX_LABEL_LENGTH};
 use std::alloc::Global;
 
-/// Whether each byte is below 128.
+/// Returns whether each byte is below 128.
 fn is_ascii(label: &[u8]) -> bool
     ensures { result ≡ list_all (λ b. nat_lt b 128) label.now }
 {
-    // No early return, so that many bytes are tested in one instruction: the union has its highest bit set if any byte
-    // has.
+    // The loop has no early return, so that many bytes are tested in one instruction. The union has its highest bit set
+    // if any byte has it set.
     let mut union = 0;
     for byte in label {
         union |= *byte;
@@ -49,11 +49,11 @@ fn check_texts(key: &[u8], label: &[u8]) -> Result<(), AllocateRefused>
 }
 
 impl CountersManager {
-    /// Makes `count` counters, all unused, and the values that readers load. A freed id may be allocated again
-    /// `reuse_ms` milliseconds after it was freed.
+    /// Makes `count` unused counters, and the values that readers load. A freed id may be allocated again `reuse_ms`
+    /// milliseconds after it was freed.
     ///
-    /// Returns, in this order: `BadCount` if the count is 0 or above 4,096; `OutOfMemory`. This takes all the memory
-    /// that the counters ever need.
+    /// Returns `BadCount` if the count is 0 or above 4,096, and otherwise `OutOfMemory` if there is no memory. The call
+    /// takes all the memory that the counters ever need.
     pub fn new(
         alloc: Global,
         count: u32,
@@ -101,12 +101,17 @@ impl CountersManager {
         self.allocate_owned(values, now, type_id, key, label, registration, 0)
     }
 
-    /// Allocates a counter for an owner and returns its id: the first freed id, in order of freeing, whose deadline is
-    /// at most `now`, otherwise the lowest id that was never used. The value is 0; a short key is followed by zeros.
+    /// Allocates a counter for an owner, and returns its id. The id is the first freed id, in order of freeing, whose
+    /// deadline is at most `now`. If there is none, the id is the lowest one that was never used. The value is 0. A
+    /// short key is followed by zeros.
     ///
-    /// Returns, in this order: `KeyTooLong` if the key has more than 112 bytes; `LabelTooLong` if the label has more
-    /// than 380; `LabelNotAscii` if it has a byte of 128 or more; `NoFreeCounter` if no id is free. After an error
-    /// nothing has changed. A key or a label is never cut.
+    /// These are the errors, in this order:
+    /// - `KeyTooLong` if the key has more than 112 bytes;
+    /// - `LabelTooLong` if the label has more than 380 bytes;
+    /// - `LabelNotAscii` if the label has a byte of 128 or more;
+    /// - `NoFreeCounter` if no id is free.
+    ///
+    /// After an error nothing has changed. A key or a label is never cut.
     pub fn allocate_owned(
         &mut self,
         values: &CounterValues,
@@ -143,8 +148,8 @@ impl CountersManager {
         }
     }
 
-    /// Frees a counter at the moment `now`, at most 2^62 milliseconds: its id may be allocated again `reuse_ms` later.
-    /// Its other words stay until then.
+    /// Frees a counter at the moment `now`, which is at most 2^62 milliseconds. Its id may be allocated again
+    /// `reuse_ms` milliseconds later. The other words of the counter stay until then.
     ///
     /// Returns `BadId` and `NotAllocated` as `set` does. After an error nothing has changed.
     pub fn free(&mut self, now: u64, id: u32) -> Result<(), IdFault>
@@ -159,10 +164,10 @@ impl CountersManager {
         Ok(())
     }
 
-    /// Frees every counter in use of an owner at the moment `now`, at most 2^62 milliseconds, by rising id and each as
-    /// `free` does, and returns their number. It looks at every id that was ever used.
+    /// Frees every counter in use of an owner, and returns their number. The moment `now` is at most 2^62 milliseconds.
+    /// The counters are freed by rising id, each as `free` does. The call looks at every id that was ever used.
     ///
-    /// Returns `BadOwner` if the owner is 0, which means none; nothing has changed then.
+    /// Returns `BadOwner` if the owner is 0, which means that there is no owner. Nothing has then changed.
     pub fn close_owner(&mut self, now: u64, owner: u64) -> Result<u32, BadOwner>
         requires { now ≤ 2 ^ 62 }
         ensures refusal { IsErr result ↔ (owner ≡ 0) }

@@ -30,49 +30,49 @@ impl<'a> Model for LiveCounter<'a> {
 }
 
 impl<'a> LiveCounter<'a> {
-    /// The counter's id.
+    /// Returns the counter's id.
     pub fn id(&self) -> u32
         ensures { result ≡ self.now.0 }
     {
         self.id
     }
 
-    /// The type that it was allocated with.
+    /// Returns the type that the counter was allocated with.
     pub fn type_id(&self) -> i32
         ensures { result ≡ self.now.1.metadata.type_id }
     {
         self.metadata.type_id()
     }
 
-    /// Its value.
+    /// Returns the counter's value.
     pub fn value(&self) -> i64
         ensures { result ≡ self.now.1.values.value }
     {
         self.values.value()
     }
 
-    /// The registration id that it was allocated with.
+    /// Returns the registration id that the counter was allocated with.
     pub fn registration(&self) -> u64
         ensures { result ≡ self.now.1.values.registration }
     {
         self.values.registration()
     }
 
-    /// Its owner, 0 if it has none.
+    /// Returns the counter's owner, or 0 if the counter has no owner.
     pub fn owner(&self) -> u64
         ensures { result ≡ self.now.1.values.owner }
     {
         self.values.owner()
     }
 
-    /// Copies its key of 112 bytes, with zeros after a short one.
+    /// Copies the counter's key of 112 bytes. A short key is followed by zeros.
     pub fn key_into(&self, key: &mut [u8; MAX_KEY_LENGTH])
         ensures { key.new ≡ self.now.1.metadata.key }
     {
         self.metadata.key_into(key);
     }
 
-    /// Copies its label, with zeros after it, and returns its length in bytes.
+    /// Copies the counter's label, with zeros after it, and returns the label's length in bytes.
     pub fn label_into(&self, label: &mut [u8; MAX_LABEL_LENGTH]) -> usize
         ensures len { result ≡ length self.now.1.metadata.label }
         ensures label { label.new ≡ zero_padded 380 self.now.1.metadata.label }
@@ -81,11 +81,12 @@ impl<'a> LiveCounter<'a> {
     }
 }
 
-/// The counters in use by rising id, seen as the list of those that are left. It takes no memory.
+/// An iterator over the counters in use, by rising id. Contracts see it as the list of the counters that are left. The
+/// iterator takes no memory.
 #[derive(Drop)]
 pub struct LiveCounters<'a> {
     records: &'a Records,
-    /// The lowest id that was not looked at.
+    /// The lowest id that the iterator has not looked at.
     next: u32,
 }
 
@@ -125,9 +126,9 @@ impl<'a> Iterator for LiveCounters<'a> {
 impl<'a> FusedIterator for LiveCounters<'a> {}
 
 impl CountersManager {
-    /// Iterates over the counters in use, by rising id: those that `live` lists. It takes no memory, and looks at every
-    /// id that was ever used. Keys and labels are copied into the caller's buffers, and only if the caller asks for
-    /// them.
+    /// Iterates over the counters in use, by rising id. These are the counters that `live` lists. The call takes no
+    /// memory. The iterator looks at every id that was ever used. Keys and labels are copied into the caller's buffers,
+    /// and only if the caller asks for them.
     pub fn iter(&self) -> LiveCounters<'_>
         ensures { result ≡ live_of (registry_of self.now) }
     {

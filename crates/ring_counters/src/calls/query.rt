@@ -1,4 +1,4 @@
-//! Reading counters, and readers for other threads.
+//! The calls that read counters, and that make readers for other threads.
 ghost use Rattle.std.specs.Prelude.{◌≡◌, ℕ, ◌+◌, ◌<◌, ◌↔◌, length, IfOk, IfErr, OnOk, OnErr, IsOk};
 ghost use Rattle.ring_counters.specs.Counter.{zero_padded, state_of, deadline_of};
 ghost use Rattle.ring_counters.specs.Counter.{metadata_word as metadata_word_of, value_word as value_word_of};
@@ -19,7 +19,7 @@ use ring_layout::counter_descriptor::{MAX_KEY_LENGTH, MAX_LABEL_LENGTH};
 use std::alloc::Global;
 
 impl CountersManager {
-    /// The number of counters that it was made with. An id is in range if it is below this.
+    /// Returns the number of counters of this manager. An id is in range if it is below this number.
     pub fn count(&self) -> u32
         ensures { result ≡ count_of (registry_of self.now) }
     {
@@ -28,7 +28,8 @@ impl CountersManager {
 
     /// Returns the value of a counter in use.
     ///
-    /// Returns `BadId` if the id is not below the number of counters, `NotAllocated` if no counter in use has it.
+    /// Returns `BadId` if the id is not below the number of counters, and `NotAllocated` if no counter in use has the
+    /// id.
     pub fn value(&self, id: u32) -> Result<i64, IdFault>
         ensures { result ≡ answer (refusal_at self.now id) (counter_in self.now id).values.value }
     {
@@ -36,7 +37,7 @@ impl CountersManager {
         Ok(self.records.values(id).value())
     }
 
-    /// Returns the owner of a counter in use, 0 if it has none. Errors as for `value`.
+    /// Returns the owner of a counter in use, or 0 if the counter has no owner. The errors are those of `value`.
     pub fn owner(&self, id: u32) -> Result<u64, IdFault>
         ensures { result ≡ answer (refusal_at self.now id) (counter_in self.now id).values.owner }
     {
@@ -44,7 +45,7 @@ impl CountersManager {
         Ok(self.records.values(id).owner())
     }
 
-    /// Returns the type that a counter in use was allocated with. Errors as for `value`.
+    /// Returns the type that a counter in use was allocated with. The errors are those of `value`.
     pub fn type_id(&self, id: u32) -> Result<i32, IdFault>
         ensures { result ≡ answer (refusal_at self.now id) (counter_in self.now id).metadata.type_id }
     {
@@ -52,7 +53,7 @@ impl CountersManager {
         Ok(self.records.metadata(id).type_id())
     }
 
-    /// Returns the registration id that a counter in use was allocated with. Errors as for `value`.
+    /// Returns the registration id that a counter in use was allocated with. The errors are those of `value`.
     pub fn registration(&self, id: u32) -> Result<u64, IdFault>
         ensures { result ≡ answer (refusal_at self.now id) (counter_in self.now id).values.registration }
     {
@@ -60,16 +61,16 @@ impl CountersManager {
         Ok(self.records.values(id).registration())
     }
 
-    /// Returns the lowest id in use with this type and registration id, `None` if there is none. It looks at every id
-    /// that was ever used.
+    /// Returns the lowest id in use with this type and registration id, or `None` if there is no such id. The call
+    /// looks at every id that was ever used.
     pub fn find(&self, type_id: i32, registration: u64) -> Option<u32>
         ensures { result ≡ registered_id (registry_of self.now) type_id registration }
     {
         self.records.find(type_id, registration)
     }
 
-    /// Copies the label of a counter in use, with zeros after it, and returns its length in bytes. Errors as for
-    /// `value`; `label` is then unchanged.
+    /// Copies the label of a counter in use, with zeros after it, and returns its length in bytes. The errors are those
+    /// of `value`. After an error `label` is unchanged.
     pub fn label_into(&self, id: u32, label: &mut [u8; MAX_LABEL_LENGTH]) -> Result<usize, IdFault>
         ensures result { result ≡ answer (refusal_at self.now id) (length (counter_in self.now id).metadata.label) }
         ensures label { OnOk result (label.new ≡ zero_padded 380 (counter_in self.now id).metadata.label) }
@@ -79,8 +80,8 @@ impl CountersManager {
         Ok(self.records.metadata(id).label_into(label))
     }
 
-    /// Copies the key of a counter in use, with zeros after a short one. Errors as for `value`; `key` is then
-    /// unchanged.
+    /// Copies the key of a counter in use. A short key is followed by zeros. The errors are those of `value`. After an
+    /// error `key` is unchanged.
     pub fn key_into(&self, id: u32, key: &mut [u8; MAX_KEY_LENGTH]) -> Result<(), IdFault>
         ensures result { result ≡ answer (refusal_at self.now id) tt }
         ensures key { OnOk result (key.new ≡ (counter_in self.now id).metadata.key) }
@@ -91,7 +92,8 @@ impl CountersManager {
         Ok(())
     }
 
-    /// Returns the state of a record: 0 if it was never used, 1 if the counter is in use, -1 if it was freed.
+    /// Returns the state of an id. The state is 0 if the id was never used, 1 if its counter is in use, and -1 if its
+    /// counter was freed.
     ///
     /// Returns `BadId` if the id is not below the number of counters.
     pub fn state(&self, id: u32) -> Result<i32, IdFault>
@@ -101,8 +103,8 @@ impl CountersManager {
         Ok(self.records.metadata(id).state())
     }
 
-    /// Returns the moment from which an id may be allocated again, in milliseconds: 0 if it was never used, 2^63 - 1 if
-    /// the counter is in use. Returns `BadId` as `state` does.
+    /// Returns the moment from which an id may be allocated again, in milliseconds. This moment is 0 if the id was
+    /// never used, and 2^63 - 1 if its counter is in use. Returns `BadId` as `state` does.
     pub fn deadline(&self, id: u32) -> Result<u64, IdFault>
         ensures { result
             ≡ answer (range_refusal_at self.now id) (deadline_of (counter_in self.now id).metadata.status) }
@@ -111,7 +113,7 @@ impl CountersManager {
         Ok(self.records.metadata(id).deadline())
     }
 
-    /// Lists the counters in use, by rising id. It looks at every id that was ever used.
+    /// Lists the counters in use, by rising id. The call looks at every id that was ever used.
     ///
     /// Returns `OutOfMemory` if memory runs out.
     pub fn live(&self, alloc: Global) -> Result<Vec<CounterInfo>, OutOfMemory>
@@ -123,7 +125,7 @@ impl CountersManager {
         }
     }
 
-    /// Returns word `k` of an id's metadata record.
+    /// Returns the word `k` of an id's metadata record.
     pub fn metadata_word(&self, id: u32, k: usize) -> u64
         requires id { id < count_of (registry_of self.now) }
         requires k { k < 64 }
@@ -132,7 +134,7 @@ impl CountersManager {
         self.records.metadata(id).word(k)
     }
 
-    /// Returns word `k` of an id's value record.
+    /// Returns the word `k` of an id's value record.
     pub fn value_word(&self, id: u32, k: usize) -> u64
         requires id { id < count_of (registry_of self.now) }
         requires k { k < 16 }
@@ -141,9 +143,9 @@ impl CountersManager {
         self.records.values(id).word(k)
     }
 
-    /// Makes a reader of the values, for another thread. It takes one share.
+    /// Makes a reader of the values, for another thread. The reader takes one share.
     ///
-    /// Returns `NoShares` if one share is left; nothing has changed then.
+    /// Returns `NoShares` if only one share is left. Nothing has then changed.
     pub fn reader(&mut self, values: &CounterValues) -> Result<ValueReader, NoShares>
         requires { IsManagerOf values.now self.old }
         ensures enough { IsOk result ↔ (1 < shares_of self.old) }
@@ -160,8 +162,8 @@ impl CountersManager {
         requires manager { IsManagerOf values.now self.old }
         requires reader { IsReaderOf values.now reader }
 
-        // What the reader loaded are values after prefixes of the writes; after all of them the values are the
-        // registry's.
+        // The values that the reader loaded are values after prefixes of the writes. After all of the writes the values
+        // are the registry's.
         ensures loads { AreLoads (made_of reader) (loads_of reader) (writes_of self.new) }
         ensures agree { Agree (registry_of self.new) (writes_of self.new) }
         ensures shares { shares_of self.new ≡ shares_of self.old + 1 }
@@ -170,7 +172,7 @@ impl CountersManager {
         values.join(&mut self.writer, reader);
     }
 
-    /// The shares that are not with readers: 65,536 at first.
+    /// Returns the number of shares that are not with readers. This number is 65,536 at first.
     pub fn value_shares(&self) -> u32
         ensures { result ≡ shares_of self.now }
     {

@@ -1,11 +1,11 @@
-//! How many ids can be given.
+//! The count of the ids that can be given.
 ghost use Rattle.std.specs.Prelude.{◌≡◌, ◌≤◌};
 ghost use Rattle.ring_counters.specs.Available.{available_in, due_count, unused_count};
 
 use crate::records::Records;
 
 impl Records {
-    /// The number of freed ids that are due. It looks at each freed id.
+    /// Returns the number of freed ids whose deadline has passed. The function looks at each freed id.
     fn due_count(&self, now: u64) -> u32
         ensures count { result ≡ due_count self.now now }
         ensures most { result ≤ 4096 }
@@ -19,7 +19,7 @@ impl Records {
         due
     }
 
-    /// The number of ids that were never used.
+    /// Returns the number of ids that were never used.
     fn unused_count(&self) -> u32
         ensures count { result ≡ unused_count self.now }
         ensures most { result ≤ 4096 }
@@ -27,7 +27,7 @@ impl Records {
         self.count() - self.used
     }
 
-    /// The number of ids that can be given at this moment.
+    /// Returns the number of ids that can be given at this moment.
     pub(crate) fn available(&self, now: u64) -> u32
         ensures { result ≡ available_in self.now now }
     {

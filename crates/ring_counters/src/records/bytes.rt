@@ -2,7 +2,7 @@
 ghost use Rattle.std.specs.Prelude.{◌≡◌, ℕ, ◌+◌, ◌*◌, ◌/◌, ◌<◌, ◌≤◌, length, slice_index};
 ghost use Rattle.ring_counters.specs.Records.{byte_at};
 
-/// Copies bytes out of the words, from the byte `from` on.
+/// Copies bytes from the words, from the byte `from` on.
 pub(crate) fn load_bytes(words: &[u64], from: usize, bytes: &mut [u8])
     requires { from + length bytes.old ≤ 8 * length words.now }
     ensures { (k : ℕ) → k < length bytes.new → slice_index bytes.new k ≡ byte_at words.now (from + k) }

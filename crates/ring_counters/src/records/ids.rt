@@ -1,4 +1,4 @@
-//! Ids: how they are given to counters and freed, and the queue of freed ids.
+//! The functions that give ids to counters and free them, and the queue of freed ids.
 ghost use Rattle.std.specs.Prelude.{◌≡◌, ℕ, ◌^◌, ◌<◌, ◌≤◌, ◌↔◌, true, IfNone, IfSome};
 ghost use Rattle.std.specs.Prelude.{length, position, remove, slice_index, slice_set};
 ghost use Rattle.std.specs.VecDeque.{deque_capacity};
@@ -13,8 +13,8 @@ use crate::records::wanted::Wanted;
 use crate::records::{Records, ValueRecord};
 use std::collections::VecDeque;
 
-/// Takes the id at this place out of the queue. The first one, which it mostly is, leaves without a look at which way
-/// is shorter.
+/// Takes the id at this place from the queue. The id is mostly the first one. The first id is taken without a test of
+/// which end of the queue is nearer.
 fn take_freed(freed: &mut VecDeque<u32>, at: usize) -> u32
     requires { at < length freed.old.items }
     ensures id { result ≡ slice_index freed.old.items at }
@@ -33,7 +33,7 @@ fn take_freed(freed: &mut VecDeque<u32>, at: usize) -> u32
     id
 }
 
-/// Whether the deadlines along the queue still never fall after one more with this deadline.
+/// Returns whether the deadlines along the queue still never fall after an id with this deadline is added.
 fn stays_in_order(
     in_order: bool,
     freed: &VecDeque<u32>,
@@ -68,8 +68,8 @@ fn fill(metadata: &mut MetadataRecord, values: &mut ValueRecord, wanted: Wanted<
 }
 
 impl Records {
-    /// How far the queue must be searched for an id that is due: if the deadlines never fall, no further than its
-    /// first.
+    /// Returns how many ids of the queue must be searched for one whose deadline has passed. If the deadlines never
+    /// fall, this is at most the first id.
     fn reach(&self) -> usize
         ensures most { result ≤ length self.now.freed }
         ensures some { 0 < length self.now.freed → 0 < result }
@@ -84,7 +84,7 @@ impl Records {
         }
     }
 
-    /// The index in the queue of the first freed id that is due.
+    /// Returns the index in the queue of the first freed id whose deadline has passed.
     fn first_due(&self, now: u64) -> Option<usize>
         ensures { result ≡ position (λ id. is_due now (status_at self.now id)) self.now.freed }
     {
@@ -96,7 +96,7 @@ impl Records {
         None
     }
 
-    /// The lowest id that was never used.
+    /// Returns the lowest id that was never used.
     fn first_unused(&self) -> Option<u32>
         ensures id { result ≡ unused_id self.now }
         ensures inside { IfSome result (λ id. id < count_of self.now) }
@@ -108,7 +108,7 @@ impl Records {
         }
     }
 
-    /// Gives the freed id at this place of the queue again.
+    /// Gives the freed id at this place of the queue to a counter.
     fn reuse(&mut self, at: usize, wanted: Wanted<'_>) -> u32
         requires at { at < length self.old.freed }
         requires short { HasShortTexts wanted }
@@ -126,7 +126,7 @@ impl Records {
         id
     }
 
-    /// Gives an id for the first time.
+    /// Gives an id to a counter for the first time.
     fn begin(&mut self, id: u32, wanted: Wanted<'_>)
         requires id { unused_id self.old ≡ Some id }
         requires short { HasShortTexts wanted }
@@ -139,7 +139,7 @@ impl Records {
         self.used = id + 1;
     }
 
-    /// Gives an id to a counter, if there is one.
+    /// Gives an id to a counter, if an id is free.
     pub(crate) fn allocate(&mut self, now: u64, wanted: Wanted<'_>) -> Option<u32>
         requires { HasShortTexts wanted }
         ensures id { result ≡ next_id self.old now }
@@ -173,7 +173,7 @@ impl Records {
         self.freed.push_back_reserved(id);
     }
 
-    /// Whether the counter is in use and has this owner.
+    /// Returns whether the counter is in use and has this owner.
     fn is_owned(&self, id: u32, owner: u64) -> bool
         requires { id < count_of self.now }
         ensures { result ≡ is_owned owner (counter_at self.now id) }

@@ -29,14 +29,14 @@ impl Model for MetadataRecord {
     ghost invariant = { λ r. SomeMetadata r.words };
 }
 
-/// The word of a state, its low half, and a type id, its high half.
+/// Returns the word that has a state in its low half and a type id in its high half.
 fn pack_state(state: i32, type_id: i32) -> u64
     ensures { result ≡ state_word state type_id }
 {
     u64::from(type_id.cast_unsigned()) << 32 | u64::from(state.cast_unsigned())
 }
 
-/// Stores a label's length and the label from the word `at` on, with zeros up to the end of their last word.
+/// Stores a label's length and the label, from the word `at` on. Zeros follow the label up to the end of its last word.
 fn store_label(words: &mut [u64], at: usize, label: &[u8])
     requires short { length label.now ≤ 380 }
     requires room { at + (length label.now + 11) / 8 ≤ length words.old }
@@ -45,7 +45,7 @@ fn store_label(words: &mut [u64], at: usize, label: &[u8])
     ensures below { (i : ℕ) → i < at → slice_index words.new i ≡ slice_index words.old i }
     ensures above { (i : ℕ) → at + (length label.now + 11) / 8 ≤ i → slice_index words.new i ≡ slice_index words.old i }
 {
-    // The label's first 4 bytes are in one word with its length.
+    // The first 4 bytes of the label are in one word with its length.
     words[at] = first_word(label) << 32 | label.len() as u64;
     store_bytes(words, at + 1, &label[label.len().min(LABEL_LENGTH_BYTES)..]);
 }
@@ -59,7 +59,7 @@ impl MetadataRecord {
         }
     }
 
-    /// Makes the record that of a counter in use, with all its words.
+    /// Makes all words of the record those of a counter in use.
     pub(crate) fn allocate(&mut self, type_id: i32, key: &[u8], label: &[u8])
         requires key { length key.now ≤ 112 }
         requires label { length label.now ≤ 380 }
@@ -73,7 +73,7 @@ impl MetadataRecord {
         store_label(&mut self.words, LABEL_WORD, label);
     }
 
-    /// Marks the record as reclaimed. Everything else stays until the id is allocated again.
+    /// Marks the record as reclaimed. The other words stay until the id is allocated again.
     pub(crate) fn reclaim(&mut self, deadline: u64)
         ensures { self.new ≡ record self.old { status = Reclaimed deadline } }
     {
@@ -105,7 +105,7 @@ impl MetadataRecord {
         load_bytes(&self.words, KEY_OFFSET, key);
     }
 
-    /// Copies the label, with zeros after it, and gives its length.
+    /// Copies the label, with zeros after it, and returns its length.
     pub(crate) fn label_into(&self, label: &mut [u8; MAX_LABEL_LENGTH]) -> usize
         ensures len { result ≡ length self.now.label }
         ensures most { result ≤ 380 }

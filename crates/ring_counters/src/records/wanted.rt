@@ -1,6 +1,6 @@
-//! What a counter is allocated with.
+//! The parameters with which a counter is allocated.
 
-/// What a counter is allocated with. Key and label keep their limits.
+/// The parameters with which a counter is allocated. The key and the label keep their limits.
 #[derive(Clone, Copy)]
 pub(crate) struct Wanted<'a> {
     pub(crate) type_id: i32,

@@ -1,5 +1,5 @@
-//! The calls on values, and the steps that they are made of: the writer stores, readers load, and two steps cut a seat in
-//! two or put two together.
+//! The calls on values, and the steps of these calls. The writer stores, and readers load. Two more steps split a seat
+//! and join two seats.
 ghost use Rattle.std.specs.Prelude.{◌≡◌, ℕ, ◌+◌, ◌<◌, ◌≤◌, ◌↔◌, List, [], ◌∷◌, ◌++◌, true, false, IfOk, IfErr, IsOk};
 ghost use Rattle.std.specs.Prelude.{OnOk, OnErr};
 ghost use Rattle.ring_layout.specs.Refusals.{all_shares};
@@ -20,7 +20,7 @@ use ring_layout::{ALL_SHARES, NoShares, has_spare_share};
 use std::alloc::{AllocError, Global};
 
 impl CounterValues {
-    /// The values of `count` ids, all 0, and their writer.
+    /// Returns the values of `count` ids, which are all 0, and their writer.
     pub(crate) fn new(
         alloc: Global,
         count: usize,
@@ -54,16 +54,17 @@ impl CounterValues {
             .store::<StoreValue>(&mut writer.seat, id as usize, value.cast_unsigned());
     }
 
-    /// Loads the value of an id: 0 if it was never used, the last value if it was freed. It takes one step and no
-    /// memory.
+    /// Loads the value of an id. The value is 0 if the id was never used, and the last value if its counter was freed.
+    /// The call takes one step and no memory.
     ///
-    /// Returns `BadId` if the id is not below the number of counters; the reader is then unchanged.
+    /// Returns `BadId` if the id is not below the number of counters. The reader is then unchanged.
     pub fn load(&self, reader: &mut ValueReader, id: u32) -> Result<i64, BadId>
         requires { IsReaderOf self.now reader.old }
         ensures reader { IsReaderOf self.now reader.new }
         ensures in_range { IsOk result ↔ (id < values_count self.now) }
 
-        // The value is the id's after some writes, loaded in this call, and none that the reader has seen is missing.
+        // The value is the id's value after some writes, and was loaded in this call. These writes include all writes
+        // that the reader has seen.
         ensures loads { IfOk result (λ value. LoadsValue id value reader.old reader.new) }
         ensures made { made_of reader.new ≡ made_of reader.old }
         ensures err { IfErr result (λ _. reader.new ≡ reader.old) }
@@ -78,7 +79,7 @@ impl CounterValues {
         Ok(word.cast_signed())
     }
 
-    /// Makes a reader, which takes one share of the writer's.
+    /// Makes a reader, which takes one share of the writer.
     pub(crate) fn split(&self, writer: &mut ValueWriter) -> Result<ValueReader, NoShares>
         requires { IsWriterOf self.now writer.old }
         ensures writer { IsWriterOf self.now writer.new }
@@ -119,8 +120,8 @@ impl CounterValues {
 impl CountersManager {
     /// Sets the value of a counter in use.
     ///
-    /// Returns `BadId` if the id is not below the number of counters, `NotAllocated` if no counter in use has it. After
-    /// an error nothing has changed.
+    /// Returns `BadId` if the id is not below the number of counters, and `NotAllocated` if no counter in use has the
+    /// id. After an error nothing has changed.
     pub fn set(&mut self, values: &CounterValues, id: u32, value: i64) -> Result<(), IdFault>
         requires { IsManagerOf values.now self.old }
         ensures result { result ≡ answer (refusal_at self.old id) tt }
@@ -135,10 +136,10 @@ impl CountersManager {
         Ok(())
     }
 
-    /// Adds to the value of a counter in use, and returns the value before. It is one `set`.
+    /// Adds to the value of a counter in use, and returns the value before the addition. The call makes one `set`.
     ///
-    /// The sum is taken modulo 2^64: above 2^63 - 1 it wraps to -2^63, below -2^63 to 2^63 - 1. Errors as for `set`;
-    /// nothing has changed then.
+    /// The sum is taken modulo 2^64. Above 2^63 - 1 it wraps to -2^63, and below -2^63 it wraps to 2^63 - 1. The errors
+    /// are those of `set`. After an error nothing has changed.
     pub fn add(&mut self, values: &CounterValues, id: u32, delta: i64) -> Result<i64, IdFault>
         requires { IsManagerOf values.now self.old }
         ensures before { result ≡ answer (refusal_at self.old id) (value_at (registry_of self.old) id) }
@@ -152,10 +153,10 @@ impl CountersManager {
         Ok(before)
     }
 
-    /// Sets the value of a counter in use if it is below this one, and returns whether it was. It is one `set`, or
-    /// nothing.
+    /// Sets the value of a counter in use if the value was less. Returns whether the value was set. The call makes one
+    /// `set`, or does nothing.
     ///
-    /// Errors as for `set`; nothing has changed then.
+    /// The errors are those of `set`. After an error nothing has changed.
     pub fn propose_max(
         &mut self,
         values: &CounterValues,

@@ -1,4 +1,4 @@
-//! Calls that change a value and return what it was.
+//! Calls that change a value and return the value before the change.
 ghost use Rattle.std.specs.Prelude.{◌≡◌, pos, negsuc, true, false, IfOk, OnOk, OnErr};
 ghost use Rattle.ring_counters.specs.Available.{has_value};
 ghost use Rattle.ring_counters.specs.Registry.{answer, value_at, value_plus};
@@ -9,9 +9,9 @@ use crate::manager::CountersManager;
 use crate::values::seats::CounterValues;
 
 impl CountersManager {
-    /// Adds 1 to the value of a counter in use, and returns the value before. It is one `set`.
+    /// Adds 1 to the value of a counter in use, and returns the value before the addition. The call makes one `set`.
     ///
-    /// 2^63 - 1 wraps to -2^63. Errors as for `set`; nothing has changed then.
+    /// The value 2^63 - 1 wraps to -2^63. The errors are those of `set`. After an error nothing has changed.
     pub fn increment(&mut self, values: &CounterValues, id: u32) -> Result<i64, IdFault>
         requires { IsManagerOf values.now self.old }
         ensures before { result ≡ answer (refusal_at self.old id) (value_at (registry_of self.old) id) }
@@ -23,9 +23,10 @@ impl CountersManager {
         self.add(values, id, 1)
     }
 
-    /// Subtracts 1 from the value of a counter in use, and returns the value before. It is one `set`.
+    /// Subtracts 1 from the value of a counter in use, and returns the value before the subtraction. The call makes one
+    /// `set`.
     ///
-    /// -2^63 wraps to 2^63 - 1. Errors as for `set`; nothing has changed then.
+    /// The value -2^63 wraps to 2^63 - 1. The errors are those of `set`. After an error nothing has changed.
     pub fn decrement(&mut self, values: &CounterValues, id: u32) -> Result<i64, IdFault>
         requires { IsManagerOf values.now self.old }
         ensures before { result ≡ answer (refusal_at self.old id) (value_at (registry_of self.old) id) }
@@ -37,9 +38,9 @@ impl CountersManager {
         self.add(values, id, -1)
     }
 
-    /// Sets the value of a counter in use, and returns the value before. It is one `set`.
+    /// Sets the value of a counter in use, and returns the value that it had before. The call makes one `set`.
     ///
-    /// Errors as for `set`; nothing has changed then.
+    /// The errors are those of `set`. After an error nothing has changed.
     pub fn get_and_set(
         &mut self,
         values: &CounterValues,
@@ -58,9 +59,10 @@ impl CountersManager {
         Ok(before)
     }
 
-    /// Sets the value of a counter in use if it is `expected`, and returns whether it was. It is one `set`, or nothing.
+    /// Sets the value of a counter in use if the value before is `expected`. Returns whether the value was set. The
+    /// call makes one `set`, or does nothing.
     ///
-    /// Errors as for `set`; nothing has changed then.
+    /// The errors are those of `set`. After an error nothing has changed.
     pub fn compare_and_set(
         &mut self,
         values: &CounterValues,

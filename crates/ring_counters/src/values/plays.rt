@@ -1,4 +1,4 @@
-//! What each kind of step says. These types are for the proofs alone: no value of them is made.
+//! The types of what each kind of step says. These types are for the proofs alone, and no value of them is made.
 ghost use Rattle.std.specs.Prelude.{◌≡◌, ◌+◌, ◌-◌, false, []};
 ghost use Rattle.ring_counters.specs.Views.{values_view};
 ghost use Rattle.ring_counters.specs.ValueSteps.{Loads, LearnsLoads, WritesValue};
@@ -27,7 +27,7 @@ impl Play<(), ValuesView> for StoreValue {
     ghost then = { λ s m n w. WritesValue s.word s.first m.0 w.0 × (w.1 ≡ m.1) };
 }
 
-/// A reader gets one share of the writer's.
+/// A reader gets one share of the writer.
 pub struct CutReader;
 
 impl Split<ValuesView> for CutReader {
@@ -36,7 +36,7 @@ impl Split<ValuesView> for CutReader {
     ghost right = { λ v. values_view false 1 v.seen v.seen [] };
 }
 
-/// A reader's share goes back.
+/// A reader gives its share back.
 pub struct JoinReader;
 
 impl Join<ValuesView> for JoinReader {

@@ -7,7 +7,7 @@ ghost use Rattle.ring_counters.specs.ValuesRule.{ValuesRule};
 use crate::values::view::ValuesView;
 use atomic_table::TableRule;
 
-/// One seat writes. Each word is its id's value after all writes, and each seat's view is its part of them.
+/// Only one seat writes. Each word is the value of its id after all writes. Each seat's view is its part of the writes.
 pub struct OneWriter;
 
 impl TableRule<(), ValuesView, usize> for OneWriter {

@@ -26,8 +26,8 @@ pub(crate) struct ValueWriter {
     ghost some: { (0 < shares) × (shares ≤ all_shares) },
 }
 
-/// Loads values by id. It is used by one thread at a time, and may move between threads. A reader may be dropped:
-/// nothing waits for it.
+/// Loads values by id. One thread at a time uses a reader. A reader may move between threads. A reader may be dropped,
+/// since nothing waits for it.
 #[derive(Drop)]
 pub struct ValueReader {
     pub(crate) seat: Seat<(), ValuesView>,

@@ -1,4 +1,4 @@
-//! What each seat of the values knows. No value of these types is made.
+//! The types of what each seat of the values knows. No value of these types is made.
 use std::collections::LinkedList;
 
 /// A value that the writer stored.
@@ -14,15 +14,16 @@ pub struct ValueLoad {
     pub after: LinkedList<ValueWrite>,
 }
 
-/// What a seat knows.
+/// The knowledge of a seat.
 pub struct ValuesView {
-    /// Whether it is the writer's.
+    /// Whether the seat is the writer's.
     pub writes: bool,
     pub shares: u32,
-    /// The writer's writes, or those of them that a reader has seen.
+    /// All writes of the writer, or the writes that a reader has seen.
     pub seen: LinkedList<ValueWrite>,
-    /// The writes at the making of a reader: of this one, or of the one that the writer took back last.
+    /// The writes that there were when a reader was made. This is the reader of the seat, or the reader that the writer
+    /// took back last.
     pub made: LinkedList<ValueWrite>,
-    /// What that reader loaded.
+    /// The loads of that reader.
     pub loads: LinkedList<ValueLoad>,
 }

@@ -1,4 +1,4 @@
-//! Commands from bytes.
+//! The decoder of commands.
 
 ghost use Rattle.std.specs.Prelude.{◌≡◌, IfOk, IsOkAnd, IfErr};
 ghost use Rattle.std.specs.Option.{option_map};
@@ -96,17 +96,17 @@ fn command_in(type_id: i32, body: &[u8]) -> Result<Command<'_>, Bad>
 
 /// Decodes the command that the type id and the body encode. The command borrows its key and its label from the body.
 ///
-/// Returns `UnknownType` if no command has the type id, and otherwise `Malformed` if the body is not an encoding of
-/// one.
+/// Returns `UnknownType` if no command has the type id. Otherwise returns `Malformed` if the body is not an encoding of
+/// such a command.
 pub fn decode_command(type_id: i32, body: &[u8]) -> Result<Command<'_>, Bad>
-    // A command exactly if the bytes are its encoding.
+    // The result is a command exactly if the bytes are its encoding.
     ensures found { IfOk result (λ c. Spells type_id body.now (content_of c)) }
     ensures only { (c : Instruction) → Spells type_id body.now c → IsOkAnd result (λ d. content_of d ≡ c) }
 
-    // Otherwise the fault, with the correlation that the reply has.
+    // Otherwise the result is the fault, with the correlation id that the reply has.
     ensures bad { IfErr result (IsFaultOf (IsCommandType type_id) body.now) }
 
-    // All of that as one function of the type id and the body.
+    // This clause states the same as one function of the type id and the body.
     ensures exact { result_map_both content_of (λ e. e) result ≡ command_of type_id body.now }
 {
     command_in(type_id, body)

@@ -1,4 +1,4 @@
-//! Replies from bytes.
+//! The decoder of replies.
 
 ghost use Rattle.std.specs.Prelude.{◌≡◌, IfOk, IfErr};
 ghost use Rattle.ring_protocol.specs.Bad.{IsFaultOf};
@@ -64,16 +64,17 @@ fn reply_in(type_id: i32, body: &[u8]) -> Result<Reply, Bad>
 
 /// Decodes the reply that the type id and the body encode.
 ///
-/// Returns `UnknownType` if no reply has the type id, and otherwise `Malformed` if the body is not an encoding of one.
+/// Returns `UnknownType` if no reply has the type id. Otherwise returns `Malformed` if the body is not an encoding of
+/// such a reply.
 pub fn decode_reply(type_id: i32, body: &[u8]) -> Result<Reply, Bad>
-    // A reply exactly if the bytes are its encoding.
+    // The result is a reply exactly if the bytes are its encoding.
     ensures found { IfOk result (Spells type_id body.now) }
     ensures only { (reply : Reply) → Spells type_id body.now reply → result ≡ Ok reply }
 
-    // Otherwise the fault, with the correlation in the body.
+    // Otherwise the result is the fault, with the correlation id in the body.
     ensures bad { IfErr result (IsFaultOf (IsReplyType type_id) body.now) }
 
-    // All of that as one function of the type id and the body.
+    // This clause states the same as one function of the type id and the body.
     ensures exact { result ≡ reply_of type_id body.now }
 {
     reply_in(type_id, body)

@@ -9,7 +9,7 @@ use crate::ring::{Consumer, Ring};
 use ring_table::store_heartbeat;
 
 impl<K, B: Bodies> Ring<K, B> {
-    /// Stores the consumer's heartbeat, which producers load. It is 0 until the first is stored.
+    /// Stores the consumer's heartbeat, which producers load. The heartbeat is 0 before the first one is stored.
     pub fn set_heartbeat(&self, consumer: &mut Consumer, value: u64)
         requires { IsConsumerOf self.now consumer.old }
         ensures consumer { IsConsumerOf self.now consumer.new }

@@ -1,4 +1,5 @@
-//! How a read gives the producers room: it clears what it has passed, and then stores the head.
+//! The end of a read, which gives the producers room. It clears the words that the read has passed, and then stores the
+//! head.
 ghost use Rattle.std.specs.Prelude.{List};
 ghost use Rattle.ring_table.specs.declared.claim.PlacedMessage.{PlacedMessage};
 ghost use Rattle.ring_rings.specs.Seats.{IsConsumerOf, capacity_of, head_of, seat_view, IsSameConsumer};
@@ -10,7 +11,8 @@ use crate::ring::{Consumer, Ring};
 use ring_table::{store_head, store_head_before};
 
 impl<K, B: Bodies> Ring<K, B> {
-    /// Clears all that the read has passed, up to `scan`, and stores the head there. Does nothing if the head is there.
+    /// Clears all words that the read has passed, up to `scan`, and stores the head there. Does nothing if the head is
+    /// at `scan`.
     #[inline(always)]
     pub(super) fn move_head(&self, consumer: &mut Consumer, scan: u64)
         requires consumer { IsConsumerOf self.now consumer.old }
@@ -28,7 +30,7 @@ impl<K, B: Bodies> Ring<K, B> {
         }
     }
 
-    /// The same up to the place of the message that the read got last, which stays in the ring.
+    /// Does the same up to the place of the message that the read found last. This message stays in the ring.
     #[inline(always)]
     pub(super) fn move_head_before(&self, consumer: &mut Consumer, place: u64)
         requires consumer { IsConsumerOf self.now consumer.old }

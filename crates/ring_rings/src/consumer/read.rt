@@ -22,7 +22,8 @@ impl<K, B: Bodies> Ring<K, B> {
         start < scan && byte_index(self.capacity, scan) == 0
     }
 
-    /// Ends a read that began at the head `start` and has come to `scan`: clears what it passed, and stores the head.
+    /// Ends a read that began at the head `start` and has come to `scan`. Clears what the read passed, and stores the
+    /// head.
     #[inline(always)]
     fn finish(
         &self,
@@ -49,7 +50,7 @@ impl<K, B: Bodies> Ring<K, B> {
         }
     }
 
-    /// Reads at most `limit` messages. It heeds the handler's actions, or takes each as `Continue`.
+    /// Reads at most `limit` messages. Follows the handler's actions, or takes each of them as `Continue`.
     fn run<H: Handler>(
         &self,
         consumer: &mut Consumer,
@@ -108,8 +109,8 @@ impl<K, B: Bodies> Ring<K, B> {
     /// Reads at most `limit` messages, and takes every action of the handler as `Continue`. The handler is shown a copy
     /// of each message. No memory is taken.
     ///
-    /// Stops with `Limit` after `limit` messages, otherwise with `Block` at the end of the buffer, otherwise with
-    /// `Unpublished` if no settled record was at the head. What it passes is set to 0, and then the head moves.
+    /// Stops with `Limit` after `limit` messages. Otherwise stops with `Block` at the end of the buffer, or with
+    /// `Unpublished` if no settled record was at the head. The read sets what it passes to 0, and then moves the head.
     pub fn read<H: Handler>(&self, consumer: &mut Consumer, limit: u32, handler: &mut H) -> ReadEnd
         requires consumer { IsConsumerOf self.now consumer.old }
         requires ready { H.ready handler.old }
@@ -124,9 +125,9 @@ impl<K, B: Bodies> Ring<K, B> {
         self.run(consumer, limit, false, handler)
     }
 
-    /// Reads as `read` does, and goes on past the end of the buffer: if the first read stops with `Block`, a second one
-    /// follows, and no third. So `Unpublished` says that no settled record was at the head, and `Block` only that the
-    /// read went from one end of the buffer to the next.
+    /// Reads as `read` does, and goes on past the end of the buffer. If the first read stops with `Block`, a second
+    /// read follows, and no third one. So `Unpublished` means that no settled record was at the head. `Block` means
+    /// only that the read went from one end of the buffer to the next.
     pub fn read_across<H: Handler>(
         &self,
         consumer: &mut Consumer,
@@ -155,9 +156,13 @@ impl<K, B: Bodies> Ring<K, B> {
         }
     }
 
-    /// Reads as `read` does, and heeds the handler's actions: `Abort` leaves the message and stops, `Break` takes it
-    /// and stops, both with `Action`; `Commit` clears what was passed, moves the head, and goes on; `Continue` goes on.
-    /// Padding and aborted records passed before a message that is left stay passed.
+    /// Reads as `read` does, and follows the handler's actions:
+    /// - `Abort` leaves the message, and stops with `Action`.
+    /// - `Break` takes the message, and stops with `Action`.
+    /// - `Commit` clears what was passed, moves the head, and goes on.
+    /// - `Continue` goes on.
+    ///
+    /// If a message is left, the padding and the aborted records before it stay passed.
     pub fn controlled_read<H: Handler>(
         &self,
         consumer: &mut Consumer,

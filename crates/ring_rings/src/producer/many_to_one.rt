@@ -16,14 +16,19 @@ use ring_layout::{NoShares, has_spare_share};
 use ring_table::{join_producer, load_tail, split_producer};
 
 impl<B: Bodies> Ring<ManyToOne, B> {
-    /// Makes one try to claim room for a message of `len` bytes, which are 0 until they are `put`. Several claims may
-    /// be open at once. It never waits.
+    /// Makes one try to claim room for a message of `len` bytes. The bytes are 0 until they are `put`. Several claims
+    /// may be open at once. The call never waits.
     ///
-    /// Returns, in this order: `BadType` if the type id is below 1; `TooLong` if the body would have more than an
-    /// eighth of the capacity in bytes; `PositionLimit` if the record would end above 2^62; `Contended` if another
-    /// producer was faster, so that the head is beyond the tail that this try loaded, or the exchange found a later
-    /// tail; `InsufficientCapacity` if the record fits after neither the cached head nor the head, which it loaded
-    /// after the tail. After an error no claim was made.
+    /// These are the errors, in this order:
+    /// - `BadType` if the type id is below 1;
+    /// - `TooLong` if the body would have more bytes than an eighth of the capacity;
+    /// - `PositionLimit` if the record would end above 2^62;
+    /// - `Contended` if another producer was faster. Then the head is beyond the tail that this try loaded, or the
+    ///   exchange found a later tail;
+    /// - `InsufficientCapacity` if the record fits neither after the cached head nor after the head. The head was
+    ///   loaded after the tail.
+    ///
+    /// After an error no claim was made.
     pub fn claim_once(
         &self,
         producer: &mut Producer,
@@ -44,7 +49,8 @@ impl<B: Bodies> Ring<ManyToOne, B> {
         self.try_claim(producer, type_id, len)
     }
 
-    /// Makes one try to write a message: it is claimed, stored and committed. The refusals are those of `claim_once`.
+    /// Makes one try to write a message. The call claims room, stores the message, and commits it. The refusals are
+    /// those of `claim_once`.
     #[inline(always)]
     pub fn write_once(
         &self,
@@ -66,8 +72,9 @@ impl<B: Bodies> Ring<ManyToOne, B> {
         self.try_write(producer, type_id, body)
     }
 
-    /// Makes another producer with one share of this one's, without claims, draws or heartbeats read. Returns
-    /// `NoShares` if this one holds a single share; it is unchanged then.
+    /// Makes another producer, which gets one share of this one. The new producer has no claims, no draws, and no
+    /// heartbeats that it read. Returns `NoShares` if this producer holds a single share. This producer is then
+    /// unchanged.
     pub fn split(&self, producer: &mut Producer) -> Result<Producer, NoShares>
         requires { IsProducerOf self.now producer.old }
         ensures producer { IsProducerOf self.now producer.new }
@@ -92,9 +99,9 @@ impl<B: Bodies> Ring<ManyToOne, B> {
         })
     }
 
-    /// Takes another producer in, with its shares and its claims. Afterwards the tail is loaded.
+    /// Joins another producer to this one, with its shares and its claims. After that the tail is loaded.
     ///
-    /// Open claims of both stay open; from then on this producer settles them.
+    /// Open claims of both producers stay open. From then on this producer settles them.
     pub fn join(&self, producer: &mut Producer, other: Producer)
         requires producer { IsProducerOf self.now producer.old }
         requires other { IsProducerOf self.now other }

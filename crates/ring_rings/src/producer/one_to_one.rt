@@ -13,11 +13,14 @@ use crate::ring::{OneToOne, Producer, Ring};
 use ring_words::ClaimFault;
 
 impl<B: Bodies> Ring<OneToOne, B> {
-    /// Claims room for a message of `len` bytes, which are 0 until they are `put`. Several claims may be open at once.
+    /// Claims room for a message of `len` bytes. The bytes are 0 until they are `put`. Several claims may be open at
+    /// once.
     ///
-    /// Returns, in this order: `BadType` if the type id is below 1; `TooLong` if the body would have more than an
-    /// eighth of the capacity in bytes; `PositionLimit` if the record would end above 2^62; `InsufficientCapacity` if
-    /// it does not fit after the head, which this call then loaded.
+    /// These are the errors, in this order:
+    /// - `BadType` if the type id is below 1;
+    /// - `TooLong` if the body would have more bytes than an eighth of the capacity;
+    /// - `PositionLimit` if the record would end above 2^62;
+    /// - `InsufficientCapacity` if the record does not fit after the head, which this call then loaded.
     pub fn claim(
         &self,
         producer: &mut Producer,
@@ -43,7 +46,7 @@ impl<B: Bodies> Ring<OneToOne, B> {
         }
     }
 
-    /// Writes a message: it is claimed, stored and committed. The refusals are those of `claim`.
+    /// Writes a message. The call claims room, stores the message, and commits it. The refusals are those of `claim`.
     #[inline(always)]
     pub fn write(
         &self,

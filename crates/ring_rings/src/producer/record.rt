@@ -1,4 +1,4 @@
-//! The headers of a claim.
+//! Stores of the headers of a claim.
 ghost use Rattle.ring_layout.specs.History.{IsMessage};
 ghost use Rattle.ring_rings.specs.Making.{HasNewest, IsNewest};
 ghost use Rattle.ring_table.specs.Changes.{blank, staged, with_header};
@@ -12,7 +12,7 @@ use crate::bodies::Bodies;
 use ring_layout::Admission;
 use ring_table::{Mode, RingSeat, SharedRing, Wanted, store_padding_header};
 
-/// Stores the header of the padding before the newest claim, if there is any.
+/// Stores the header of the padding before the newest claim, if there is padding.
 #[inline(always)]
 pub(crate) fn store_padding<M: Mode>(
     words: &SharedRing<M>,
@@ -34,7 +34,7 @@ pub(crate) fn store_padding<M: Mode>(
     }
 }
 
-/// Stores the headers of the newest claim, which is open from then on.
+/// Stores the headers of the newest claim, which is then open.
 pub(crate) fn store_headers<B: Bodies>(
     words: &SharedRing<B>,
     seat: &mut RingSeat,

@@ -1,4 +1,4 @@
-//! Whether a claim may go, its place, and whether a ring has room for it.
+//! Tests of a claim, its place, and the search for room in the ring.
 ghost use Rattle.ring_layout.specs.Places.{IsCapacity, max_position};
 ghost use Rattle.ring_rings.specs.Claiming.{IsRefusedBy, request_refusal_of, tail_refusal_of};
 ghost use Rattle.ring_rings.specs.Making.{FindsRoom, FindsShortage, GoesBehind};
@@ -12,10 +12,10 @@ use ring_layout::{
 use ring_table::{Mode, RingSeat, SharedRing, Wanted, load_cache, load_head, store_cache};
 use ring_words::ClaimFault;
 
-/// Looks for room for a claim: after the cached head, and then after the head.
+/// Looks for room for a claim, first after the cached head, and then after the head.
 ///
-/// Returns `Contended` if one of them is beyond the tail that the claim goes by, so that another producer has moved the
-/// tail; `InsufficientCapacity` if there is no room after the head.
+/// Returns `Contended` if one of the two heads is beyond the tail of this claim, since another producer has then moved
+/// the tail. Returns `InsufficientCapacity` if there is no room after the head.
 pub(crate) fn find_room<M: Mode>(
     words: &SharedRing<M>,
     seat: &mut RingSeat,
@@ -64,7 +64,7 @@ pub(crate) fn test_request(capacity: u32, wanted: Wanted) -> Result<(), ClaimFau
     Ok(())
 }
 
-/// Returns where the next message after a tail goes.
+/// Returns the place of the next message after a tail.
 pub(crate) fn admit(capacity: u32, tail: u64, wanted: Wanted) -> Result<Admission, ClaimFault>
     requires capacity { IsCapacity capacity }
     requires request { request_refusal_of capacity wanted.type_id wanted.len ≡ None }

@@ -1,4 +1,4 @@
-//! Correlation ids, heartbeats and positions, as producers see them.
+//! The calls of producers for correlation ids, heartbeats and positions.
 ghost use Rattle.std.specs.Prelude.{◌≡◌, ◌≤◌};
 ghost use Rattle.ring_table.specs.ServiceSteps.{DrawsId, LoadsHeartbeat};
 ghost use Rattle.ring_rings.specs.Joining.{LoadsPositions};
@@ -11,7 +11,8 @@ use ring_table::{draw_correlation_id, load_head, load_heartbeat, load_tail};
 use ring_words::Positions;
 
 impl<K, B: Bodies> Ring<K, B> {
-    /// Draws the next correlation id: 0, 1, 2 and so on, modulo 2^64, each once over all producers.
+    /// Draws the next correlation id. The ids are 0, 1, 2 and so on, modulo 2^64. All producers together draw each id
+    /// once.
     pub fn next_correlation_id(&self, producer: &mut Producer) -> u64
         requires { IsProducerOf self.now producer.old }
         ensures producer { IsProducerOf self.now producer.new }
@@ -22,7 +23,8 @@ impl<K, B: Bodies> Ring<K, B> {
         draw_correlation_id(&self.table.shared, &mut producer.seat, self.capacity)
     }
 
-    /// The consumer's heartbeat: 0, or a value that it stored, and none before one that this producer read.
+    /// Returns the consumer's heartbeat. This is 0 or a value that the consumer stored. It is never older than one that
+    /// this producer read before.
     pub fn heartbeat(&self, producer: &mut Producer) -> u64
         requires { IsProducerOf self.now producer.old }
         ensures producer { IsProducerOf self.now producer.new }
@@ -33,7 +35,8 @@ impl<K, B: Bodies> Ring<K, B> {
         load_heartbeat(&self.table.shared, &mut producer.seat, self.capacity)
     }
 
-    /// The head, and then the tail, which is not below it. Both are loaded in this call.
+    /// Returns the head and the tail. The tail is not below the head. This call loads first the head, and then the
+    /// tail.
     pub fn positions(&self, producer: &mut Producer) -> Positions
         requires { IsProducerOf self.now producer.old }
         ensures producer { IsProducerOf self.now producer.new }

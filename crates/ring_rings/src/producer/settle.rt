@@ -1,4 +1,4 @@
-//! How producers settle their claims.
+//! The calls by which producers settle their claims.
 ghost use Rattle.std.specs.Prelude.{◌≡◌, ◌≢◌, ◌+◌, ◌<◌, ◌↔◌, length, IsTrue, OnErr, OnOk, is_err};
 ghost use Rattle.ring_layout.specs.declared.message.ClaimState.TheVariants.{Aborted, Committed, Open};
 ghost use Rattle.ring_layout.specs.declared.message.Message.{Message};
@@ -21,7 +21,7 @@ use ring_table::{
 };
 use ring_words::PutRange;
 
-/// Stores the header of an open claim, which is committed or aborted from then on.
+/// Stores the header of an open claim, which is then committed or aborted.
 #[inline]
 fn store_settled_header<M: Mode>(
     words: &SharedRing<M>,
@@ -48,8 +48,8 @@ fn store_settled_header<M: Mode>(
 }
 
 impl<K, B: Bodies> Ring<K, B> {
-    /// Puts bytes into an open claim, from the byte `offset` of its body on. It refuses bytes that are not inside
-    /// the body, and then nothing is changed.
+    /// Puts bytes into an open claim, from the byte `offset` of its body on. Refuses bytes that are not inside the
+    /// body. Then nothing is changed.
     pub fn put(
         &self,
         producer: &mut Producer,
@@ -86,7 +86,7 @@ impl<K, B: Bodies> Ring<K, B> {
         Ok(())
     }
 
-    /// Settles an open claim, as committed or as aborted.
+    /// Settles an open claim as committed or as aborted.
     #[inline]
     fn settle(&self, producer: &mut Producer, claim: Claim, state: ClaimState)
         requires producer { IsProducerOf self.now producer.old }
@@ -113,7 +113,7 @@ impl<K, B: Bodies> Ring<K, B> {
         claim.spend();
     }
 
-    /// Settles an open claim: the consumer is shown its message.
+    /// Commits an open claim, so that the consumer is shown its message.
     pub fn commit(&self, producer: &mut Producer, claim: Claim)
         requires producer { IsProducerOf self.now producer.old }
         requires claim { IsOpenClaimOf self.now producer.old claim }
@@ -126,7 +126,7 @@ impl<K, B: Bodies> Ring<K, B> {
         self.settle(producer, claim, ClaimState::Committed);
     }
 
-    /// Settles an open claim: the consumer passes it.
+    /// Aborts an open claim, so that the consumer passes it.
     pub fn abort(&self, producer: &mut Producer, claim: Claim)
         requires producer { IsProducerOf self.now producer.old }
         requires claim { IsOpenClaimOf self.now producer.old claim }

@@ -1,4 +1,4 @@
-//! One try to claim or to write, which is the same for both kinds of rings but for the move of the tail.
+//! One try to claim or to write. Only the move of the tail depends on the kind of the ring.
 ghost use Rattle.std.specs.Prelude.{◌≡◌, length, replicate, [], ◌∷◌, ◌++◌, IfErr, IfOk, OnErr, OnOk};
 ghost use Rattle.ring_rings.specs.Claiming.{Claims, RefusesTry, Writes};
 ghost use Rattle.ring_rings.specs.Ring.{message, sent, HasMessage};
@@ -14,7 +14,7 @@ use crate::ring::{Producer, Ring};
 use ring_table::Wanted;
 
 impl<K: Kind, B: Bodies> Ring<K, B> {
-    /// Makes one try to claim, as `OneToOneRing::claim` and `ManyToOneRing::claim_once` do. It never waits.
+    /// Makes one try to claim, as `OneToOneRing::claim` and `ManyToOneRing::claim_once` do. The call never waits.
     pub fn try_claim(
         &self,
         producer: &mut Producer,
@@ -43,7 +43,7 @@ impl<K: Kind, B: Bodies> Ring<K, B> {
         Ok(Claim::new(self.capacity, admission.place, wanted))
     }
 
-    /// Makes one try to write, as `OneToOneRing::write` and `ManyToOneRing::write_once` do. It never waits.
+    /// Makes one try to write, as `OneToOneRing::write` and `ManyToOneRing::write_once` do. The call never waits.
     #[inline(always)]
     pub fn try_write(
         &self,

@@ -13,7 +13,7 @@ use ring_words::ClaimFault;
 use std::sync::Wait;
 
 impl<B: Bodies> Ring<ManyToOne, B> {
-    /// Claims as `claim_once` does, and tries again while that is `Contended`. So it may wait.
+    /// Claims as `claim_once` does, and tries again while the result is `Contended`. So the call may wait.
     pub fn claim<R: Wait>(
         &self,
         rt: &R,
@@ -43,7 +43,7 @@ impl<B: Bodies> Ring<ManyToOne, B> {
         unreachable!()
     }
 
-    /// Writes as `write_once` does, and tries again while that is `Contended`. So it may wait.
+    /// Writes as `write_once` does, and tries again while the result is `Contended`. So the call may wait.
     pub fn write<R: Wait>(
         &self,
         rt: &R,

@@ -1,4 +1,4 @@
-//! The calls of the conductor's side: what they print, and how commands go into the ring.
+//! The calls of the conductor's side. They print lines, and write commands into the ring.
 ghost use Rattle.std.specs.Prelude.{◌≡◌, ◌≢◌, IfErr, IfOk, string_bytes, ◌↔◌, length, IfNone, IfSome, IsSome, OnOk};
 ghost use Rattle.ring_protocol.specs.Command.{content_of_request};
 ghost use Rattle.ring_rings.specs.Seats.{capacity_of, view_of, IsProducerOf, OpensNone};
@@ -19,7 +19,7 @@ use ring_service::{Request, Work, WorkStop, encode_request};
 use std::alloc::{AllocError, Global};
 use std::sync::Wait;
 
-/// The most bytes of a command.
+/// The largest number of bytes of a command.
 const MAX_COMMAND: usize = 4096;
 
 impl Runner {
@@ -28,7 +28,7 @@ impl Runner {
     ghost use Rattle.ring_scenario.specs.SeatLines.{HearsLine, ListensLine, PeeksLine, WatchesLine};
     ghost use Rattle.ring_scenario.specs.ServiceLines.{CountsLine, RequestsLine, SendsLine, WorksLine, owner_text};
 
-    /// Executes a call of the conductor's side, and gives the lines that it prints.
+    /// Executes a call of the conductor's side, and returns the lines that it prints.
     pub(super) fn serve<R: Wait>(&mut self, rt: &R, call: ServiceCall) -> Result<String, LineFault>
         ensures line { IfOk result (λ text. Serves call self.old.service self.new.service (string_bytes text)) }
         ensures rest { OnOk result (KeepsButService self.old self.new) }
@@ -156,7 +156,7 @@ fn work_stop_name(stop: WorkStop) -> &'static str
     }
 }
 
-/// A line for each counter, and one with their number.
+/// Returns a line for each counter, and a line with the number of counters.
 fn counters_text(alloc: Global, infos: &[CounterInfo]) -> Result<String, AllocError>
     ensures { IfOk result (λ text. string_bytes text ≡ counters_text infos.now) }
 {
@@ -180,7 +180,7 @@ fn counter_text(alloc: Global, info: &CounterInfo) -> Result<String, AllocError>
     )
 }
 
-/// Writes a message, which leaves no claim open.
+/// Writes a message, and leaves no claim open.
 fn write_message<R: Wait>(
     rt: &R,
     ring: &ManyToOneRing,
@@ -199,8 +199,8 @@ fn write_message<R: Wait>(
     ring.write(rt, producer, type_id, body)
 }
 
-/// Draws a correlation id and writes the command that has it; `None` if the command has no room. An id that was
-/// drawn stays drawn.
+/// Draws a correlation id, and writes the command with this id. Returns `None` if the command has no room. The id is
+/// not drawn again.
 fn send_request<R: Wait>(
     rt: &R,
     ring: &ManyToOneRing,
@@ -243,10 +243,10 @@ impl CommandService {
         write_message(rt, &self.ring, &mut self.producer, type_id, body)
     }
 
-    /// Draws a correlation id, writes the command with it into the ring, and returns the id. An id that was drawn stays
-    /// drawn, even if the ring refuses the command as `ManyToOneRing::write` does.
+    /// Draws a correlation id, writes the command with it into the ring, and returns the id. The id is not drawn again,
+    /// even if the ring refuses the command as `ManyToOneRing::write` does.
     ///
-    /// Returns `None` if the command takes more than 4,096 bytes; nothing has changed then.
+    /// Returns `None` if the command takes more than 4,096 bytes. Nothing has then changed.
     pub fn request<R: Wait>(
         &mut self,
         rt: &R,

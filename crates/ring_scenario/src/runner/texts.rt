@@ -1,4 +1,4 @@
-//! The texts of what calls returned.
+//! The texts of the results of calls.
 ghost use Rattle.std.specs.Prelude.{◌≡◌, ◌++◌, false, IfOk, string_bytes};
 ghost use Rattle.ring_scenario.specs.RefusalTexts.{claim_refused, load_refused};
 ghost use Rattle.ring_scenario.specs.ServiceTexts.{value_text};
@@ -19,7 +19,7 @@ impl Runner {
         String::from_str(self.alloc, "ok\n")
     }
 
-    /// Of a call that returns no value.
+    /// Returns the text of a call that returns no value.
     pub(super) fn done<F: Refusal>(&self, done: Result<(), F>) -> Result<String, AllocError>
         ensures { IfOk result (λ text. string_bytes text ≡ done_text F.line done) }
     {
@@ -29,7 +29,7 @@ impl Runner {
         }
     }
 
-    /// Of a call that returns the number of what it made.
+    /// Returns the text of a call that returns the number of what it made.
     pub(super) fn numbered<F: Refusal>(
         &self,
         word: &str,
@@ -43,7 +43,7 @@ impl Runner {
         }
     }
 
-    /// Of a call that returns an id.
+    /// Returns the text of a call that returns an id.
     pub(super) fn identified<F: Refusal>(
         &self,
         word: &str,
@@ -57,7 +57,7 @@ impl Runner {
         }
     }
 
-    /// Of a claim.
+    /// Returns the text of a claim.
     pub(super) fn claimed(&self, tried: Result<Claimed, ClaimFault>) -> Result<String, AllocError>
         ensures { IfOk result (λ text. string_bytes text ≡ answer_text claimed_text claim_refused tried) }
     {
@@ -69,7 +69,7 @@ impl Runner {
         }
     }
 
-    /// Of a read: the lines of its messages, and a last one.
+    /// Returns the text of a read, which is the lines of its messages and a last line.
     pub(super) fn read_text(&self, printer: Printer, end: ReadEnd) -> Result<String, AllocError>
         ensures { IfOk result (λ text. (printer.entry.wants_memory ≡ false)
             × (string_bytes text ≡ string_bytes printer.entry.text ++ read_text end)) }
@@ -84,7 +84,7 @@ impl Runner {
         Ok(text)
     }
 
-    /// Of a receiver or a listener.
+    /// Returns the text of a receiver or a listener.
     pub(super) fn received(&self, received: Received) -> Result<String, AllocError>
         ensures { IfOk result (λ text. string_bytes text ≡ received_text received) }
     {
@@ -102,7 +102,7 @@ impl Runner {
         }
     }
 
-    /// Of a watcher.
+    /// Returns the text of a watcher.
     pub(super) fn loaded(&self, loaded: Result<i64, BadId>) -> Result<String, AllocError>
         ensures { IfOk result (λ text. string_bytes text ≡ answer_text value_text load_refused loaded) }
     {

@@ -14,7 +14,7 @@ use ring_service::Conductor;
 use ring_standalone::{Numbered, Received, receive_at};
 use std::alloc::{AllocError, Global};
 
-/// Makes a listener, and keeps it under the next number, which is given. The room to keep it is made first.
+/// Makes a listener, keeps it under the next number, and returns the number. The room for the listener is made first.
 fn make_listener(
     alloc: Global,
     board: &Board,
@@ -42,7 +42,7 @@ fn make_listener(
     Ok(Ok(listeners.hold(listener)))
 }
 
-/// Joins the listener of this number, if it is here.
+/// Joins the listener of this number, if it has not left.
 fn join_listener(
     board: &Board,
     conductor: &mut Conductor,
@@ -67,7 +67,7 @@ fn join_listener(
 }
 
 impl CommandService {
-    /// Makes a listener and gives its number.
+    /// Makes a listener, and returns its number.
     pub fn listen(&mut self, alloc: Global) -> Result<Result<usize, SubscribeFault>, AllocError>
         ensures refused { IfOk result (λ made.
             IsSubscribedUnless (subscribe_refusal_of (shares_of (transmitter_of self.old.conductor))) made) }
@@ -82,8 +82,8 @@ impl CommandService {
         make_listener(alloc, &self.board, &mut self.conductor, &mut self.listeners)
     }
 
-    /// Asks the listener of this number for the next reply. Returns `None` if there is no such listener; nothing has
-    /// changed then.
+    /// Asks the listener of this number for the next reply. Returns `None` if there is no such listener. Nothing has
+    /// then changed.
     pub fn hear(&mut self, alloc: Global, number: usize) -> Option<Result<Received, AllocError>>
         ensures told { IfSome result (λ answer. IfOk answer (λ told.
             ReceivesAt told self.old.listeners number self.new.listeners)) }
@@ -95,7 +95,7 @@ impl CommandService {
         receive_at(alloc, &self.board, &mut self.listeners, number)
     }
 
-    /// Joins the listener of this number, if it is here.
+    /// Joins the listener of this number, if it has not left.
     fn dismiss(&mut self, number: usize) -> Option<()>
         ensures left { OnSome result (LeavesAt
             (by_number (transmitter_of self.old.conductor) self.old.listeners) number
@@ -113,7 +113,7 @@ impl CommandService {
         )
     }
 
-    /// Joins all listeners, in rising order of their numbers. The transmitter has all shares then.
+    /// Joins all listeners, in rising order of their numbers. The transmitter has all shares afterwards.
     pub(super) fn join_listeners(&mut self)
         ensures shares { shares_of (transmitter_of self.new.conductor) ≡ all_shares }
         ensures others { KeepsTheRest self.old.conductor self.new.conductor }

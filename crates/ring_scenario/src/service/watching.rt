@@ -15,7 +15,7 @@ use ring_service::Conductor;
 use ring_standalone::Numbered;
 use std::alloc::AllocError;
 
-/// Makes a watcher, and keeps it under the next number, which is given. The room to keep it is made first.
+/// Makes a watcher, keeps it under the next number, and returns the number. The room for the watcher is made first.
 fn make_watcher(
     values: &CounterValues,
     conductor: &mut Conductor,
@@ -40,7 +40,7 @@ fn make_watcher(
     Ok(Ok(watchers.hold(watcher)))
 }
 
-/// Loads a value for the watcher of this number, if it is here.
+/// Loads a value for the watcher of this number, if it was not joined.
 fn load_at(
     values: &CounterValues,
     watchers: &mut Numbered<ValueReader>,
@@ -63,7 +63,7 @@ fn load_at(
     Some(loaded)
 }
 
-/// Joins the watcher of this number, if it is here.
+/// Joins the watcher of this number, if it was not joined before.
 fn join_watcher(
     values: &CounterValues,
     conductor: &mut Conductor,
@@ -86,7 +86,7 @@ fn join_watcher(
 }
 
 impl CommandService {
-    /// Makes a watcher and returns its number. Returns `NoShares` if one share of the values is left.
+    /// Makes a watcher and returns its number. Returns `NoShares` if only one share of the values is left.
     pub fn watch(&mut self) -> Result<Result<usize, NoShares>, AllocError>
         ensures made { IfOk result (λ made. IfOk made (λ number.
             Watches (writes_of (manager_in self.old.conductor)) self.old.watchers number self.new.watchers)) }
@@ -99,8 +99,8 @@ impl CommandService {
         make_watcher(&self.values, &mut self.conductor, &mut self.watchers)
     }
 
-    /// Loads the value of an id for the watcher of this number. Returns `None` if there is no such watcher; nothing
-    /// has changed then. Returns `BadId` if the id is not below the number of counters.
+    /// Loads the value of an id for the watcher of this number. Returns `None` if there is no such watcher. Nothing has
+    /// then changed. Returns `BadId` if the id is not below the number of counters.
     pub fn peek(&mut self, number: usize, id: u32) -> Option<Result<i64, BadId>>
         ensures in_range { IfSome result (λ loaded. IsOk loaded ↔ (id < values_count self.old.values)) }
         ensures loaded { IfSome result (λ loaded. IfOk loaded (λ value.
@@ -132,7 +132,7 @@ impl CommandService {
         )
     }
 
-    /// Takes all watchers away, in rising order of their numbers. The counters have all shares of the values then.
+    /// Joins all watchers, in rising order of their numbers. The counters have all shares of the values afterwards.
     pub(super) fn join_watchers(&mut self)
         ensures shares { value_shares_of self.new.conductor ≡ all_shares }
         ensures keeps { KeepsAllCounters self.new.values self.old.conductor self.new.conductor }

@@ -1,4 +1,4 @@
-//! The conductor at work, and what its counters say.
+//! The conductor's work, and the calls that read its counters.
 ghost use Rattle.std.specs.Prelude.{◌≡◌, IfOk};
 ghost use Rattle.ring_counters.specs.Infos.{AreInfos};
 ghost use Rattle.ring_counters.specs.Manager.{registry_of};
@@ -13,7 +13,7 @@ use ring_service::Work;
 use std::alloc::Global;
 
 impl CommandService {
-    /// Lets the conductor take at most `limit` commands at a moment, as `Conductor::do_work` says.
+    /// Lets the conductor take at most `limit` commands at a moment, as `Conductor::do_work` does.
     pub fn work(&mut self, now: Moment, limit: u32) -> Work
         ensures works { Works now.ms limit (ring_view self.old.conductor) (ring_view self.new.conductor)
             (ledger_of self.old.conductor) (ledger_of self.new.conductor) result }
@@ -23,15 +23,15 @@ impl CommandService {
             .do_work(&self.ring, &self.board, &self.values, now.ms(), limit)
     }
 
-    /// Lists the counters in use, by rising id. `OutOfMemory` if memory runs out.
+    /// Lists the counters in use, by rising id. Returns `OutOfMemory` if memory runs out.
     pub fn live(&self, alloc: Global) -> Result<Vec<CounterInfo>, OutOfMemory>
         ensures { IfOk result (λ infos. AreInfos infos.items (live_of (registry_of (manager_in self.now.conductor)))) }
     {
         self.conductor.counters().live(alloc)
     }
 
-    /// Returns the owner of a counter in use, 0 if it has none. Returns `BadId` if the id is not below the number of
-    /// counters, `NotAllocated` if no counter in use has it.
+    /// Returns the owner of a counter in use, or 0 if the counter has no owner. Returns `BadId` if the id is not below
+    /// the number of counters, and `NotAllocated` if no counter in use has the id.
     pub fn owner(&self, id: u32) -> Result<u64, IdFault>
         ensures { result ≡ answer (id_refusal_of (registry_of (manager_in self.now.conductor)) id)
             (counter_at (registry_of (manager_in self.now.conductor)) id).values.owner }

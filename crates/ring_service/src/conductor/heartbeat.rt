@@ -1,4 +1,4 @@
-//! The conductor's sign of life.
+//! The heartbeat of the conductor.
 
 ghost use Rattle.std.specs.Prelude.{◌≡◌};
 ghost use Rattle.ring_table.specs.Views.{beaten, with_consumer};
@@ -8,12 +8,12 @@ use crate::conductor::Conductor;
 use ring_rings::Heartbeat;
 
 impl Conductor {
-    /// Stores the ring's heartbeat, by one step. Clients load it with `Ring::heartbeat`, on threads of their own; it
-    /// is 0 until the first is stored.
+    /// Stores the ring's heartbeat, by one step. Clients load it with `Ring::heartbeat`, on other threads. The
+    /// heartbeat is 0 before the first one is stored.
     ///
-    /// The value is the caller's own, such as a time in milliseconds: nothing here reads it. It may be called at any
-    /// time between calls of `do_work`, by the thread that has the conductor. The counters, the broadcast buffer, the
-    /// receivers that were joined, and what was received stay as they were.
+    /// The caller chooses the value, such as a time in milliseconds, and nothing here reads it. The thread that uses
+    /// the conductor may make this call at any time between calls of `do_work`. The counters, the broadcast buffer, the
+    /// joined receivers, and the received commands stay as they were.
     pub fn set_heartbeat<R: Heartbeat>(&mut self, ring: &R, value: u64)
         requires consumer { R.is_consumer ring.now (consumer_of self.old) }
         ensures consumer { R.is_consumer ring.now (consumer_of self.new) }

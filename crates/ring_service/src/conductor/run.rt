@@ -1,4 +1,4 @@
-//! The conductor at work for several cycles.
+//! The conductor's work in several cycles.
 
 ghost use Rattle.std.specs.Prelude.{◌≡◌, ◌^◌, ◌≤◌, All};
 ghost use Rattle.ring_board.specs.Board.{heard_by, transmitted};
@@ -14,8 +14,8 @@ use ring_counters::CounterValues;
 use ring_rings::CommandSource;
 
 impl Conductor {
-    /// Calls `do_work` for each cycle, up to one that comes to the end of the broadcast buffer. Returns the sum of the
-    /// messages and the last stop, or 0 and `Limit` if there is no cycle.
+    /// Calls `do_work` for each cycle, up to a cycle that reaches the end of the broadcast buffer. Returns the sum of
+    /// the messages and the last stop, or 0 and `Limit` if there is no cycle.
     pub fn run<R: CommandSource>(
         &mut self,
         ring: &R,

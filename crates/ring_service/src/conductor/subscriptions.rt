@@ -19,10 +19,11 @@ use ring_counters::{CounterValues, NoShares, ValueReader};
 use std::alloc::Global;
 
 impl Conductor {
-    /// Makes a receiver of the replies, which starts with the most recent one. It takes one share of the transmitter.
+    /// Makes a receiver of the replies, which starts with the most recent reply. The receiver takes one share of the
+    /// transmitter.
     ///
-    /// Returns, in this order: `NoShares` if the transmitter has one share left; `OutOfMemory`. Nothing has changed
-    /// then.
+    /// Returns `NoShares` if the transmitter has only one share left, and otherwise `OutOfMemory` if there is no
+    /// memory. After an error nothing has changed.
     pub fn subscribe(
         &mut self,
         alloc: Global,
@@ -40,7 +41,7 @@ impl Conductor {
         board.subscribe(alloc, &mut self.transmitter)
     }
 
-    /// Takes a receiver back, with its share. Its copies are runs of the transmitted list.
+    /// Takes a receiver back, with its share. The copies of the receiver are runs of the transmitted list.
     pub fn join_receiver(&mut self, board: &Board, receiver: CopyReceiver)
         requires transmitter { IsTransmitterOf board.now (transmitter_of self.old) }
         requires receiver { IsReceiverOf board.now receiver }
@@ -52,9 +53,9 @@ impl Conductor {
         board.join(&mut self.transmitter, receiver);
     }
 
-    /// Makes a reader of the counters' values, for another thread. It takes one share of the values.
+    /// Makes a reader of the counters' values, for another thread. The reader takes one share of the values.
     ///
-    /// Returns `NoShares` if one share is left; nothing has changed then.
+    /// Returns `NoShares` if only one share is left. Nothing has then changed.
     pub fn value_reader(&mut self, values: &CounterValues) -> Result<ValueReader, NoShares>
         requires { IsManagerOf values.now (manager_in self.old) }
         ensures enough { IsOk result ↔ (1 < value_shares_of self.old) }
@@ -66,8 +67,8 @@ impl Conductor {
         self.counters.reader(values)
     }
 
-    /// Takes a reader of the values back, with its share. Each value that it loaded is the counter's value after some
-    /// prefix of the writes.
+    /// Takes a reader of the values back, with its share. Each value that the reader loaded is the counter's value
+    /// after some prefix of the writes.
     pub fn join_value_reader(&mut self, values: &CounterValues, reader: ValueReader)
         requires counters { IsManagerOf values.now (manager_in self.old) }
         requires reader { IsReaderOf values.now reader }

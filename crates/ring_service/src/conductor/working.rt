@@ -1,4 +1,4 @@
-//! The conductor at work: it takes the commands of a read, applies each, and replies to it.
+//! The conductor's work. It takes the commands of a read, applies each of them, and replies to it.
 ghost use Rattle.ring_board.specs.Board.{heard_by, transmitted};
 ghost use Rattle.ring_board.specs.Seats.{IsTransmitterOf, view_of, capacity_of, tail_of};
 ghost use Rattle.ring_service.specs.Conducting.{AreUnused, IsConductorOf, Works, work_stop, consumer_of, manager_in};
@@ -61,7 +61,7 @@ fn take<R: CommandSource>(
 }
 
 impl Conductor {
-    /// Makes a conductor of a ring's consumer, a broadcast buffer's transmitter, and counters, of which none was used.
+    /// Makes a conductor from a ring's consumer, a broadcast buffer's transmitter, and counters of which none was used.
     pub fn new(consumer: Consumer, transmitter: Transmitter, counters: CountersManager) -> Conductor
         requires consumer { taken_of consumer ≡ [] }
         requires transmitter { transmitted transmitter ≡ [] }
@@ -78,21 +78,21 @@ impl Conductor {
         }
     }
 
-    /// The counters.
+    /// Returns the counters.
     pub fn counters(&self) -> &CountersManager
         ensures { result.now ≡ manager_in self.now }
     {
         &self.counters
     }
 
-    /// Takes at most `limit` commands from the ring. Each is applied to the counters at the moment `now`, in
-    /// milliseconds and at most 2^62, and gets exactly one reply, which carries its correlation id. No memory is
-    /// taken.
+    /// Takes at most `limit` commands from the ring. Each command is applied to the counters at the moment `now`, which
+    /// is in milliseconds and at most 2^62. It gets exactly one reply, which has its correlation id. The call takes no
+    /// memory.
     ///
-    /// It stops as a controlled read of the ring does, or with `BoardEnd` if a reply of 12 bytes would end above 2^62
-    /// on the broadcast buffer. The command then stays in the ring and is not applied, even if its own reply would be
-    /// shorter and would fit. `Block` with no message does not say that the ring is empty: the next call goes on after
-    /// the end of the buffer.
+    /// The call stops as a controlled read of the ring does. It stops with `BoardEnd` if a reply of 12 bytes would end
+    /// above 2^62 on the broadcast buffer. The command then stays in the ring and is not applied, even if its own reply
+    /// would be shorter and would fit. `Block` without a message does not mean that the ring is empty. The next call
+    /// goes on after the end of the buffer.
     pub fn do_work<R: CommandSource>(
         &mut self,
         ring: &R,
@@ -154,7 +154,7 @@ fn answer(board: &Board, transmitter: &mut Transmitter, reply: &Reply)
         .unwrap();
 }
 
-/// Applies a command and replies to it. Returns `Abort` and does nothing if a reply has no room.
+/// Applies a command and replies to it. Returns `Abort` and does nothing if there is no room for a reply.
 fn serve(serving: &mut Serving, type_id: i32, body: &[u8]) -> Action
     requires ready { IsReady serving.old }
     ensures ready { IsReady serving.new }
@@ -181,7 +181,7 @@ impl Handler for Serving<'_> {
     }
 }
 
-/// A counter that a command asks for.
+/// The counter that a command asks for.
 #[derive(Clone, Copy)]
 struct Wanted<'a> {
     type_id: i32,
@@ -190,7 +190,7 @@ struct Wanted<'a> {
     label: &'a [u8],
 }
 
-/// The reply to a command that was refused.
+/// Returns the reply to a command that was refused.
 fn refused(correlation: u64, code: i32) -> Reply
     ensures { result ≡ Refused correlation code }
 {
@@ -311,8 +311,8 @@ fn obey(
     }
 }
 
-/// Applies a message at a moment, and returns its one reply. If the message cannot be read, or the counters refuse it,
-/// nothing changes, and the reply is `Refused`.
+/// Applies a message at a moment, and returns the one reply to it. If the message cannot be read, or the counters
+/// refuse it, nothing changes. The reply is then `Refused`.
 pub(crate) fn apply(
     counters: &mut CountersManager,
     values: &CounterValues,

@@ -1,4 +1,4 @@
-//! Why a conductor does not finish, and what comes back.
+//! The reasons why a conductor does not finish, and what comes back.
 ghost use Rattle.std.specs.Prelude.{◌≡◌};
 ghost use Rattle.ring_service.specs.Finishing.{finish_code};
 
@@ -9,22 +9,22 @@ use ring_layout::refusal_codes::{CLAIMS_OPEN, PRODUCERS_OUT, RECEIVERS_OUT};
 use ring_rings::Producer;
 use thiserror::Error;
 
-/// Why a conductor does not finish.
+/// The reason why a conductor does not finish.
 #[derive(Clone, Copy, Debug, PartialEq, Eq, Error)]
 pub enum FinishFault {
     /// This many claims of the producer are open.
     #[error("{} ClaimsOpen {claims}", self.code())]
     ClaimsOpen { claims: u64 },
-    /// This many shares of the ring are with other producers.
+    /// Other producers have this many shares of the ring.
     #[error("{} ProducersOut {shares}", self.code())]
     ProducersOut { shares: u32 },
-    /// This many shares of the broadcast buffer are with receivers.
+    /// Receivers have this many shares of the broadcast buffer.
     #[error("{} ReceiversOut {receivers}", self.code())]
     ReceiversOut { receivers: u32 },
 }
 
 impl FinishFault {
-    /// The number of the refusal.
+    /// Returns the number of the refusal.
     pub fn code(self) -> i32
         ensures { result ≡ finish_code self }
     {
@@ -36,7 +36,7 @@ impl FinishFault {
     }
 }
 
-/// The conductor did not finish, and all comes back as it was.
+/// The conductor did not finish, and all arguments come back as they were.
 #[derive(Drop)]
 pub struct FinishRefused<R> {
     pub reason: FinishFault,

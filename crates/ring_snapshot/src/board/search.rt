@@ -1,4 +1,4 @@
-//! Broadcast buffers among the words of memory.
+//! The search for broadcast buffers among the words of memory.
 ghost use Rattle.std.specs.Prelude.{◌≡◌, ℕ, ◌+◌, ◌<◌, ◌≤◌, false, true, length, IfNone, IfSome};
 ghost use Rattle.ring_layout.specs.Places.{IsBoardCapacity};
 ghost use Rattle.ring_board.specs.Layout.{board_words};
@@ -14,7 +14,7 @@ impl<'a> BoardSnapshot<'a> {
     ghost use Rattle.ring_snapshot.specs.BoardRecords.{intent_in, latest_in, tail_in};
     ghost use Rattle.ring_snapshot.specs.BoardSearch.{has_sound_records, looks_like_board};
 
-    /// Tests whether the positions make sense, and what `records` lists are records.
+    /// Tests whether the positions make sense, and whether all that `records` lists are records.
     #[tactic(auto, using(crate::proofs::SearchLemmas::not_refused, crate::proofs::SearchLemmas::is_refused))]
     fn has_sound_records(&self) -> bool
         ensures { result ≡ has_sound_records self.now.capacity self.now.words.now (intent_in self.now) (tail_in self.now)
@@ -26,9 +26,11 @@ impl<'a> BoardSnapshot<'a> {
         }
     }
 
-    /// Tests whether the words are those of a broadcast buffer that was used: a record is before the tail, the words of
-    /// the trailer without a name are 0, its positions make sense, and what [`BoardSnapshot::records`] lists are
-    /// records, the last of which ends at the tail.
+    /// Tests whether the words are those of a broadcast buffer that was used. All of these must hold:
+    /// - A record is before the tail.
+    /// - The words of the trailer without a name are 0.
+    /// - The positions make sense.
+    /// - All that [`BoardSnapshot::records`] lists are records, and the last of them ends at the tail.
     pub fn looks_like_one(&self) -> bool
         ensures { result ≡ looks_like_board self.now.capacity self.now.words.now }
     {
@@ -38,9 +40,9 @@ impl<'a> BoardSnapshot<'a> {
     }
 }
 
-/// The first index from `from` on at which a broadcast buffer of this capacity begins among words of memory: one that
-/// was used, as [`BoardSnapshot::looks_like_one`] tests. `None` if there is none, or no broadcast buffer has this
-/// capacity.
+/// Returns the first index from `from` on at which a broadcast buffer of this capacity begins among words of memory.
+/// The broadcast buffer was used, as [`BoardSnapshot::looks_like_one`] tests. Returns `None` if there is no such index,
+/// or if no broadcast buffer has this capacity.
 pub fn next_board(words: &[u64], from: usize, capacity: u32) -> Option<usize>
     ensures found { IfSome result (λ at. (from ≤ at) × (at + board_words capacity ≤ length words.now)
         × (is_board_at capacity words.now at ≡ true)) }

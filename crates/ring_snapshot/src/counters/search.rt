@@ -1,4 +1,4 @@
-//! Counters among the words of memory.
+//! The search for counters among the words of memory.
 ghost use Rattle.std.specs.Prelude.{◌≡◌, ℕ, ◌+◌, ◌<◌, ◌≤◌, false, true, drop, length, IfNone, IfSome};
 ghost use Rattle.ring_snapshot.specs.CounterSearch.{is_counter_at, looks_like_counter};
 
@@ -9,7 +9,7 @@ use ring_layout::counter_descriptor::{
 };
 use ring_layout::unpack_header;
 
-/// Tests whether a metadata record of a counter in use begins with these words: its state is that of a counter in use,
+/// Tests whether a metadata record of a counter in use begins with these words. Its state is that of a counter in use,
 /// its deadline is 2^63 - 1, and its label is not longer than its room.
 fn looks_like_counter(metadata: &[u64]) -> bool
     requires { 64 ≤ length metadata.now }
@@ -23,8 +23,9 @@ fn looks_like_counter(metadata: &[u64]) -> bool
     state == RECORD_ALLOCATED && metadata[FREE_FOR_REUSE_DEADLINE_WORD] == NOT_FREE_FOR_REUSE
 }
 
-/// The first index from `from` on at which the metadata of a counter in use begin among words of memory. `None` if there
-/// is none. Its values are elsewhere, and memory does not say where.
+/// Returns the first index from `from` on at which the metadata of a counter in use begin among words of memory.
+/// Returns `None` if there is no such index. The values of the counter are elsewhere, and memory does not say at which
+/// place.
 pub fn next_counter(words: &[u64], from: usize) -> Option<usize>
     ensures found { IfSome result (λ at. (from ≤ at) × (at + 64 ≤ length words.now)
         × (is_counter_at words.now at ≡ true)) }

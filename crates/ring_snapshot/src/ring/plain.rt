@@ -1,5 +1,5 @@
-//! The words of a ring whose bodies lie apart: its own words have headers alone, and slots have the words of the bodies
-//! at the same indexes.
+//! The words of a ring whose bodies are stored separately. Its own words have only headers. Slots have the words of the
+//! bodies at the same indexes.
 ghost use Rattle.std.specs.Prelude.{◌≡◌, ◌≢◌, ℕ, ◌+◌, ◌-◌, ◌/◌, ◌≤◌, ◌==◌, if◌then◌else◌, length, slice_index, Err, IfErr, IfOk, None, Some};
 ghost use Rattle.ring_layout.specs.Places.{index, IsCapacity};
 ghost use Rattle.ring_layout.specs.Layout.{ring_words};
@@ -12,11 +12,11 @@ use crate::ring_finding::RingFinding;
 use ring_layout::record_descriptor::PADDING_MSG_TYPE_ID;
 use ring_layout::{align8, unpack_header, word_index};
 
-/// The type id of padding in words without bodies, as the high half of a header.
+/// The type id of padding in words without bodies, which is the high half of a header.
 const PADDING_MARK: u64 = 0xffff_fffe;
 
-/// A header as the format has it. Words without bodies give padding the type id -2, where the format has that of an
-/// aborted record; every other header is the same.
+/// Returns a header as the format has it. In words without bodies, padding has the type id -2. In the format it has the
+/// type id of an aborted record. All other headers are the same.
 pub fn formatted_header(header: u64) -> u64
     ensures { result ≡ formatted header }
 {
@@ -31,7 +31,8 @@ impl<'a> RingSnapshot<'a> {
     ghost use Rattle.std.specs.Prelude.{◌≡◌, ◌+◌, ◌≤◌};
     ghost use Rattle.ring_snapshot.specs.PlainWords.{span_at};
 
-    /// The bytes that a record with this header takes at a position, 0 if none has it.
+    /// Returns the number of bytes that a record with this header takes at a position, or 0 if no record has this
+    /// header.
     fn span_at(&self, tail: u64, at: u64, header: u64) -> u64
         requires { at ≤ tail }
         ensures span { result ≡ span_at self.now.capacity tail at header }
@@ -47,7 +48,8 @@ impl<'a> RingSnapshot<'a> {
     }
 }
 
-/// Puts the record at a position into the format. Returns the bytes that it takes, 0 if there is none.
+/// Writes the record at a position in the format. Returns the number of bytes that the record takes, or 0 if there is
+/// no record.
 fn join_record(words: &mut [u64], slots: &[u64], capacity: u32, tail: u64, at: u64) -> u64
     requires lawful { IsCapacity capacity }
     requires sizes { (length words.old ≡ ring_words capacity) × (length slots.now ≡ capacity / 8) }
@@ -78,7 +80,7 @@ fn join_record(words: &mut [u64], slots: &[u64], capacity: u32, tail: u64, at: u
     bytes
 }
 
-/// Puts the records between these positions into the format, up to the first header that no record has.
+/// Writes the records between these positions in the format, up to the first header that no record has.
 #[tactic(auto, using(crate::proofs::JoinLemmas::joined_goes, crate::proofs::JoinLemmas::joined_stops))]
 fn join_records(words: &mut [u64], slots: &[u64], capacity: u32, head: u64, tail: u64)
     requires lawful { IsCapacity capacity }
@@ -98,15 +100,16 @@ fn join_records(words: &mut [u64], slots: &[u64], capacity: u32, head: u64, tail
     }
 }
 
-/// Makes the words of a ring in the format from words that have headers alone, and `slots`, `capacity / 8` words, which
-/// have the bodies at the same indexes. All listings work on the result.
+/// Makes the words of a ring in the format from `words`, which have only headers, and from `slots`. The slots are
+/// `capacity / 8` words, which have the bodies at the same indexes. All listings can read the result.
 ///
-/// From the head to the tail, one record after the other: padding, which has the type id -2, gets that of the format,
-/// and any other record, whatever its state, its body. A header that no record has ends it, and stays as it is. So does
-/// every other word; none is changed if the positions make no sense.
+/// The call goes from the head to the tail, one record after another. Padding, which has the type id -2, gets the type
+/// id that it has in the format. Any other record gets its body, in each state. The call ends at a header that no
+/// record has, and leaves the header as it is. All other words stay as they are. No word is changed if the positions
+/// make no sense.
 ///
-/// Returns `BadSize` if no ring has this many words, and then `BadBodies` if it has another number of slots. No word is
-/// changed then.
+/// Returns `BadSize` if no ring has this many words. Otherwise returns `BadBodies` if there are not as many slots as
+/// words of the buffer. After an error no word is changed.
 pub fn join_bodies(words: &mut [u64], slots: &[u64]) -> Result<(), RingFinding>
     ensures no_ring { ((C : ℕ) → IsCapacity C → length words.old ≢ ring_words C)
         → result ≡ Err (BadSize (length words.old)) }

@@ -1,4 +1,4 @@
-//! Rings among the words of memory.
+//! The search for rings among the words of memory.
 ghost use Rattle.std.specs.Prelude.{◌≡◌, ℕ, ◌+◌, ◌-◌, ◌/◌, ◌%◌, ◌<◌, ◌≤◌, false, true, length, IfNone, IfSome};
 ghost use Rattle.ring_layout.specs.Places.{IsCapacity};
 ghost use Rattle.ring_layout.specs.Layout.{ring_words};
@@ -29,8 +29,7 @@ impl<'a> RingSnapshot<'a> {
             && are_zero(self.words, trailer + 81, 15)
     }
 
-    /// Tests whether `count` words from a position on are 0: those up to the end of the buffer, and then those from its
-    /// start on.
+    /// Tests whether `count` words from a position on are 0. After the end of the buffer the words go on at its start.
     fn is_clear(&self, from: u64, count: usize) -> bool
         requires { 8 * count ≤ self.now.capacity }
         ensures { result ≡ is_clear self.now.capacity self.now.words.now count from }
@@ -40,7 +39,8 @@ impl<'a> RingSnapshot<'a> {
         are_zero(self.words, index, first) && are_zero(self.words, 0, count - first)
     }
 
-    /// Tests whether head and tail, what is listed between them and the rest of the buffer are those of a ring.
+    /// Tests whether the words are those of a ring. The test covers the head and the tail, what is listed between them,
+    /// and the rest of the buffer.
     fn is_used(&self, head: u64, tail: u64) -> bool
         ensures { result ≡ is_used_buffer self.now.capacity self.now.words.now head tail }
     {
@@ -54,9 +54,12 @@ impl<'a> RingSnapshot<'a> {
         Listing::new(*self, head, tail).are_records() && self.is_clear(tail, rest as usize)
     }
 
-    /// Tests whether the words are those of a ring that was used: something was claimed, the words of the trailer
-    /// without a name are 0, head and tail make sense, what is listed between them are records, of which the first has
-    /// its header, and the rest of the buffer is 0.
+    /// Tests whether the words are those of a ring that was used. All of these must hold:
+    /// - Something was claimed.
+    /// - The words of the trailer without a name are 0.
+    /// - The head and the tail make sense.
+    /// - All that is listed between them are records, and the first of them has its header.
+    /// - The rest of the buffer is 0.
     pub fn looks_like_one(&self) -> bool
         ensures { result ≡ looks_like_ring self.now.capacity self.now.words.now }
     {
@@ -64,8 +67,9 @@ impl<'a> RingSnapshot<'a> {
     }
 }
 
-/// The first index from `from` on at which a ring of this capacity begins among words of memory: one that was used, as
-/// [`RingSnapshot::looks_like_one`] tests. `None` if there is none, or no ring has this capacity.
+/// Returns the first index from `from` on at which a ring of this capacity begins among words of memory. The ring was
+/// used, as [`RingSnapshot::looks_like_one`] tests. Returns `None` if there is no such index, or if no ring has this
+/// capacity.
 pub fn next_ring(words: &[u64], from: usize, capacity: u32) -> Option<usize>
     ensures found { IfSome result (λ at. (from ≤ at) × (at + ring_words capacity ≤ length words.now)
         × (is_ring_at capacity words.now at ≡ true)) }

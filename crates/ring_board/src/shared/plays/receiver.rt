@@ -1,4 +1,4 @@
-//! What the receivers' steps say. A load of a counter says that the step was one of that counter's word.
+//! The types of what the receivers' steps say. A load of a counter says that the step loaded the word of that counter.
 ghost use Rattle.std.specs.Prelude.{◌≡◌};
 ghost use Rattle.ring_board.specs.Layout.{intent_index, tail_index, latest_index};
 ghost use Rattle.ring_board.specs.ReceiverSteps.{LoadsTail, LoadsHeader, LoadsWord, LoadsIntent, AnswersEntry, LoadsLatest, LoadsUnread, ChecksAnswered};
@@ -34,7 +34,7 @@ impl Play<(), View> for LoadIntent {
     ghost then = { λ st m x m'. LoadsIntent m x m' × (st.word ≡ intent_index m.0.capacity) };
 }
 
-/// The intent is loaded, to validate a header that is returned unread.
+/// The intent is loaded, to validate a header that is returned without its body.
 pub struct AnswerEntry;
 
 impl Play<(), View> for AnswerEntry {
@@ -55,7 +55,7 @@ impl Play<(), View> for CheckAnswered {
     ghost then = { λ st m x m'. ChecksAnswered m x m' × (st.word ≡ intent_index m.0.capacity) };
 }
 
-/// Latest is loaded, after a failed validation.
+/// Latest is loaded after a failed validation.
 pub struct LoadLatest;
 
 impl Play<(), View> for LoadLatest {

@@ -1,4 +1,4 @@
-//! What the steps say that cut a seat in two or put two together.
+//! The types of the steps that split a seat or join two seats.
 ghost use Rattle.ring_board.specs.Views.{fewer, newcomer, joined, spent};
 
 use crate::shared::view::View;

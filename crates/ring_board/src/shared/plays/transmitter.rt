@@ -1,4 +1,4 @@
-//! What the transmitter's steps say.
+//! The types of what the transmitter's steps say.
 ghost use Rattle.std.specs.Prelude.{◌≡◌};
 ghost use Rattle.ring_board.specs.Layout.{latest_index};
 ghost use Rattle.ring_board.specs.TransmitterSteps.{StoresIntent, StoresPadding, StoresWord, StoresHeader, StoresLatest, StoresTail, Learns};
@@ -48,7 +48,7 @@ impl Play<(), View> for StoreTail {
     ghost then = { λ st m x m'. StoresTail m x m' };
 }
 
-/// Latest is loaded by the transmitter.
+/// The transmitter loads latest.
 pub struct Learn;
 
 impl Play<(), View> for Learn {

@@ -1,4 +1,4 @@
-//! The receivers' steps: each is one load.
+//! The steps of receivers. Each step is one load.
 ghost use Rattle.std.specs.Prelude.{◌≡◌, ◌+◌, ◌*◌, ◌/◌, ◌<◌, length, ℕ, List};
 ghost use Rattle.ring_layout.specs.Places.{index};
 ghost use Rattle.ring_board.specs.declared.shared.view.Stage.TheVariants.{Resting, Reading, Behind};
@@ -28,7 +28,7 @@ impl Board {
             .load::<LoadTail>(seat, self.trailer_index(TAIL_COUNTER_WORD))
     }
 
-    /// Loads the next header: at the receiver's place, or after padding there.
+    /// Loads the next header, which is at the receiver's place, or after padding at this place.
     pub(crate) fn load_header(&self, seat: &mut BoardSeat, place: u64) -> u64
         requires seat { IsSeatOf self.now seat.old }
         requires place { IsHeaderPlace seat.old.me.0 place }
@@ -64,7 +64,7 @@ impl Board {
             .load::<LoadIntent>(seat, self.trailer_index(TAIL_INTENT_COUNTER_WORD))
     }
 
-    /// Loads the intent, to validate the header of an entry that is then returned unread.
+    /// Loads the intent, to validate the header of an entry that is then returned without its body.
     pub(crate) fn answer_entry(&self, seat: &mut BoardSeat) -> u64
         requires seat { IsSeatOf self.now seat.old }
         requires stage { (w : ℕ) × IsUnread w seat.old.me.0.stage }
@@ -76,7 +76,7 @@ impl Board {
             .load::<AnswerEntry>(seat, self.trailer_index(TAIL_INTENT_COUNTER_WORD))
     }
 
-    /// Loads a word of the body of a record that was returned unread.
+    /// Loads a word of the body of a record that was returned without its body.
     pub(crate) fn load_unread(&self, seat: &mut BoardSeat, at: usize) -> u64
         requires seat { IsSeatOf self.now seat.old }
         requires stage { seat.old.me.0.stage ≡ Resting }
@@ -87,7 +87,7 @@ impl Board {
         self.table.shared.load::<LoadUnread>(seat, at)
     }
 
-    /// Loads the intent, to validate a record that was returned unread.
+    /// Loads the intent, to validate a record that was returned without its body.
     pub(crate) fn check_answered(&self, seat: &mut BoardSeat) -> u64
         requires seat { IsSeatOf self.now seat.old }
         requires stage { (seat.old.me.0.stage ≡ Resting) × (seat.old.me.0.capacity ≡ self.now.capacity) }
@@ -99,7 +99,7 @@ impl Board {
             .load::<CheckAnswered>(seat, self.trailer_index(TAIL_INTENT_COUNTER_WORD))
     }
 
-    /// Loads latest, after a failed validation.
+    /// Loads latest after a failed validation.
     pub(crate) fn load_latest(&self, seat: &mut BoardSeat) -> u64
         requires seat { IsSeatOf self.now seat.old }
         requires stage { seat.old.me.0.stage ≡ Behind }

@@ -1,4 +1,4 @@
-//! The steps that cut a seat in two or put two together. Each is a load of one word.
+//! The steps that split a seat or join two seats. Each step is a load of one word.
 ghost use Rattle.std.specs.Prelude.{◌≡◌, ◌<◌, []};
 ghost use Rattle.ring_board.specs.declared.shared.view.Stage.TheVariants.{Idle};
 ghost use Rattle.ring_board.specs.Views.{fewer, newcomer, joined};
@@ -9,7 +9,7 @@ use crate::shared::plays::seats::{SplitOff, TakeIn};
 use crate::shared::steps::BoardSeat;
 
 impl Board {
-    /// Gives a share of the transmitter to a new receiver at latest.
+    /// Gives a share of the transmitter to a new receiver, which begins at latest.
     pub(crate) fn split_off(&self, seat: &mut BoardSeat) -> BoardSeat
         requires seat { IsSeatOf self.now seat.old }
         requires stage { (seat.old.me.0.stage ≡ Idle) × (0 < seat.old.me.0.shares) }
