@@ -11,10 +11,11 @@
  *   1. Begin each handle as FELTER_EMPTY, and free it by felter_free at the end. Never use two copies of a handle,
  *      since both would free the same object. Never read or write the contents of a handle. A call with an empty or
  *      freed handle returns FELTER_NO_HANDLE.
- *   2. One call at a time uses a handle. A handle may go to another thread if its last call is ordered before the first
- *      call of that thread. The start or the join of a thread, a lock or a seq_cst atomic can order the two calls. A
- *      message of a ring orders them too, if it was written after the last call and read before the first one.
- *      Otherwise the two calls race. Different handles may be used at the same time, even if they are of one ring.
+ *   2. Only one call at a time may use a handle. A handle may go to another thread if its last call is ordered before
+ *      the first call of that thread. The start or the join of a thread, a lock or a seq_cst atomic can order the two
+ *      calls. A message of a ring also orders the two calls, if the message was written after the last call and read
+ *      before the first one. Otherwise the two calls race. Different handles may be used at the same time, even if they
+ *      are of one ring.
  *   3. The handles of one call must be different handles. The buffers, numbers and handles of a call must not overlap.
  *      If a call reads a buffer, all bytes of its length must be readable. If a call writes a buffer, all bytes of its
  *      room must be writable, and the room must be at most 2^63 - 1 bytes. No other thread may touch a buffer during
@@ -24,9 +25,9 @@
  *   5. malloc, realloc and free must belong to one allocator, and must align to 16 bytes. The processor must have
  *      x86-64-v2.
  *   6. No two rings, boards, conductors or sets of counters that exist at the same time may have the same number. Calls
- *      that take no number draw one from a single count, and so keep this rule. A program must keep the rule itself if
- *      it calls a function whose name ends in _numbered. It must also do so if it has two such counts, for example
- *      since dlopen loaded a library that includes this header.
+ *      that take no number draw a number from a single count, and so keep this rule. A program must keep the rule
+ *      itself if it calls a function whose name ends in _numbered. It must also keep the rule itself if it has two such
+ *      counts. For example, a library that includes this header and is loaded by dlopen can have a count of its own.
  *
  * Messages. A write copies a body into the ring, and a read copies the body out of the ring. The stores that a thread
  * made before its felter_write or felter_commit are visible to the consumer after the read that returned the message.
@@ -36,15 +37,15 @@
  * Numbers. If a call takes two handles, both must be of one ring, board, conductor or set of counters. Each of these
  * structures gets a number when it is made. A call that takes two handles compares the numbers of their structures.
  * felter_close, felter_join and the other joins return FELTER_OTHER_RING if the numbers differ. They also return this
- * code if only one handle belongs to a conductor. Several languages of one process can make structures. The library
- * distinguishes these structures only if their numbers differ. So this header counts from 1 on, the Rust crate from
- * 2^62, and the Python module from 2^63.
+ * code if only one of the two handles belongs to a conductor. Code in several languages can make structures in one
+ * process. The library distinguishes these structures only if their numbers differ. So this header counts from 1 on,
+ * the Rust crate from 2^62, and the Python module from 2^63.
  *
- * Results. Each call except felter_free and felter_version returns a code of enum felter_code. FELTER_OK is 0, and
+ * Results. Each call except felter_free and felter_version returns a code of enum felter_code. FELTER_OK is 0.
  * felter_text(code) says in words what a code means. A refused call writes no message, settles no claim, changes no
- * counter and empties no handle, unless its comment says otherwise. It may have loaded positions, passed padding and
- * aborted records, or drawn a correlation id. FELTER_LAPPED and FELTER_OTHER_REPLY are not refusals, since the receiver
- * or the client has moved on. A call writes numbers to the caller's variables only if it returns FELTER_OK, unless its
+ * counter and empties no handle, unless its comment says otherwise. It may have loaded positions, passed padding or
+ * aborted claims, or drawn a correlation id. FELTER_LAPPED and FELTER_OTHER_REPLY are not refusals, since the receiver
+ * or the client has moved on. A call that does not return FELTER_OK leaves the caller's variables unchanged, unless its
  * comment says otherwise. No call waits. After FELTER_INSUFFICIENT_CAPACITY, FELTER_CONTENDED or FELTER_NO_MESSAGE the
  * caller may pause and try again. Compilers warn if a result is not used.
  *
@@ -64,7 +65,7 @@
  * call then writes a line to standard error and aborts the program in these cases:
  *   - A pointer is NULL.
  *   - A handle was never made, or is a copy of a handle that was freed. The call does not notice such a handle if
- *     another handle has got the same memory.
+ *     another handle owns an object at the same address.
  *   - The call is given one handle twice.
  *   - A call on another thread is using the handle.
  *
@@ -149,15 +150,15 @@ typedef struct felter_reader { felter_handle handle; } felter_reader;
 typedef struct felter_conductor { felter_handle handle; } felter_conductor;
 typedef struct felter_client { felter_handle handle; } felter_client;
 
-/* The first value of a handle of any kind. */
+/* The initial value of a handle of any kind. */
 #define FELTER_EMPTY {{0}}
 
 /* Frees what a handle owns, and empties the handle: felter_free(&producer.handle). An empty handle stays empty. The
  * open claims of a producer are aborted, so that the consumer passes them. A ring, a board or a conductor can still be
- * ended after some of its handles were freed. But the share of a producer is lost if the producer is freed without
- * felter_join. After 65,535 producers were split off and freed in this way, felter_split returns FELTER_NO_SHARES.
- * After the consumer of a ring was freed, writes succeed until the ring is full. Messages that were not read are
- * lost. */
+ * ended after some of its handles were freed. But the shares of a producer (see felter_many_to_one_new) are lost if the
+ * producer is freed without felter_join. After 65,535 producers were split off and freed in this way, felter_split
+ * returns FELTER_NO_SHARES. After the consumer of a ring was freed, writes succeed until the ring is full. Messages
+ * that were not read are lost. */
 void felter_free(felter_handle *handle);
 
 /* Returns the version of the library that the program runs with: 10,000 times the major number, plus 100 times the
@@ -172,8 +173,8 @@ int32_t felter_capacity(felter_handle *handle, uint32_t *capacity, uint32_t *lon
 /* Each call that makes a structure has two forms. The form whose name ends in _numbered is a function of the library,
  * and takes a number. The form without that ending is inline, and draws the next number of a count that all threads
  * share. The numbers are 1, 2, 3 and so on. No two rings, boards, sets of counters or conductors that exist at the same
- * time may have the same number. A program must ensure this itself if several languages in its process make
- * structures. */
+ * time may have the same number. A program must ensure this itself if code in several languages makes structures in its
+ * process. */
 
 /* Rings ---------------------------------------------------------------------------------------------------------- */
 
@@ -188,7 +189,8 @@ int32_t felter_many_to_one_new_at_numbered(uint64_t number, uint32_t capacity, u
 static inline int32_t felter_many_to_one_new(uint32_t capacity, felter_producer *producer, felter_consumer *consumer);
 static inline int32_t felter_many_to_one_new_at(uint32_t capacity, uint64_t start, felter_producer *producer,
                                                 felter_consumer *consumer);
-/* These calls make a one-to-one ring, whose only producer cannot be split. Otherwise they are the same. */
+/* These calls make a one-to-one ring, whose only producer cannot be split. Otherwise they are the same as the calls
+ * above. */
 int32_t felter_one_to_one_new_numbered(uint64_t number, uint32_t capacity, felter_producer *producer,
                                        felter_consumer *consumer);
 int32_t felter_one_to_one_new_at_numbered(uint64_t number, uint32_t capacity, uint64_t start,
@@ -203,13 +205,13 @@ static inline int32_t felter_one_to_one_new_at(uint32_t capacity, uint64_t start
 int32_t felter_write(felter_producer *producer, int32_t type_id, const void *body, size_t len);
 
 /* Tries once to claim room for a message of `len` bytes. Each byte is 0 until felter_put stores it. Writes the number
- * of the claim, which is its place in the ring. No other claim of the ring ever has this number.
+ * of the claim, which is the claim's position in the ring. No other claim of the ring ever has this number.
  *
  * Any number of claims may be open at once, and they may be settled in any order. The time to settle a claim does not
  * grow with the number of open claims. The consumer does not pass an open claim, so each claim must be settled.
  *
  * Codes: those of felter_write. If there is no memory to keep one more claim, the call returns FELTER_OUT_OF_MEMORY,
- * and has tried nothing. */
+ * and does not try to make the claim. */
 int32_t felter_claim(felter_producer *producer, int32_t type_id, size_t len, uint64_t *claim);
 /* Puts bytes into an open claim of the producer, from the byte at `offset` on. Codes: FELTER_NO_CLAIM,
  * FELTER_PUT_RANGE. */
@@ -306,17 +308,16 @@ enum felter_found {
 static inline int32_t felter_standing(felter_producer *producer, felter_consumer *consumer, int32_t *found,
                                       uint64_t *head);
 
-/* Writes messages, one after another, by felter_write. The messages are laid out in the buffer as felter_read_batch
- * leaves them. The call stops at the first refusal, and returns its code. Even then it sets `written` to the number of
- * messages that were written. If the batch has no bytes, the call only tests the handle. The call is a loop of this
- * header, so it is not proved. Codes: those of felter_write, and FELTER_PUT_RANGE if a record is not
- * completely inside the bytes. */
+/* Writes messages, one after another, by felter_write. The buffer must have the layout that felter_read_batch writes.
+ * The call stops at the first refusal, and returns its code. Even then it sets `written` to the number of messages that
+ * were written. If the batch has no bytes, the call only tests the handle. The call is a loop of this header, so it is
+ * not proved. Codes: those of felter_write, and FELTER_PUT_RANGE if a record is not completely inside the bytes. */
 static inline int32_t felter_write_batch(felter_producer *producer, const void *records, size_t bytes,
                                          uint32_t *written);
 
 /* Closes a ring of either kind, and empties the handle of its last producer. Nothing can be written afterwards. The
- * messages in the ring stay there, and the consumer reads on as before. Before this call, all other producers must have
- * been joined by felter_join, or freed. Codes, in this order:
+ * messages in the ring can still be read. Before this call, all other producers must have been joined by felter_join,
+ * or freed. Codes, in this order:
  *   - FELTER_OTHER_RING, also if the ring was closed before;
  *   - FELTER_CLAIMS_OPEN;
  *   - FELTER_PRODUCERS_OUT if another producer is still in a handle. */
@@ -361,9 +362,9 @@ int32_t felter_lapped_count(felter_receiver *receiver, uint64_t *count);
 
 /* Writes the position at which the next call looks for a message. */
 int32_t felter_receiver_place(felter_receiver *receiver, uint64_t *place);
-/* Writes the place of the receiver when it was lapped last, and the intent that showed this. The intent is the position
- * up to which the transmitter had begun to write. Right after FELTER_LAPPED, felter_receiver_place minus this place is
- * the number of bytes that the receiver missed. Codes: FELTER_NO_MESSAGE if the receiver was never lapped. */
+/* Writes the place at which the receiver was lapped last, and the intent that showed the lap. The intent is the
+ * position up to which the transmitter had begun to write. Right after FELTER_LAPPED, felter_receiver_place minus this
+ * place is the number of bytes that the receiver missed. Codes: FELTER_NO_MESSAGE if the receiver was never lapped. */
 int32_t felter_receiver_lap(felter_receiver *receiver, uint64_t *place, uint64_t *intent);
 
 /* Makes a raw receiver, which returns each record without its body. Otherwise the call is the same as
@@ -463,11 +464,11 @@ int32_t felter_counters_close_owner(felter_counters *counters, uint64_t now, uin
  * of them. This share is lost if the reader is freed without felter_counters_join. Codes: FELTER_NO_SHARES,
  * FELTER_OUT_OF_MEMORY, FELTER_HANDLE_IN_USE. */
 int32_t felter_counters_reader(felter_counters *counters, felter_reader *reader);
-/* Loads a value. The value of an id that was never used is 0. The value of a freed id is its last value. A reader never
- * loads an older write of an id after a later one. Codes: FELTER_BAD_ID. */
+/* Loads a value. The value of an id that was never used is 0. The value of a freed id is its last value. If a reader
+ * loads the value of an id twice, the second value was not written before the first one. Codes: FELTER_BAD_ID. */
 int32_t felter_reader_value(felter_reader *reader, uint32_t id, int64_t *value);
-/* Takes back a reader of these counters with its share, and empties its handle. Codes: FELTER_OTHER_RING if the reader
- * is of other counters, or if felter_conductor_reader made it. */
+/* Takes back a reader of these counters with its share, and empties the reader's handle. Codes: FELTER_OTHER_RING if
+ * the reader is of other counters, or if felter_conductor_reader made it. */
 int32_t felter_counters_join(felter_counters *counters, felter_reader *reader);
 
 /* Conductors ----------------------------------------------------------------------------------------------------- */
@@ -499,9 +500,9 @@ enum felter_stop {
     FELTER_STOP_BOARD_END = 3    /* a reply might end above 2^62 on the board; the command stays and is not applied */
 };
 
-/* Takes up to `limit` commands, applies each at the moment `now`, and transmits its reply. Writes how many commands
- * were taken (possibly 0), and why the call stopped (enum felter_stop). Codes: FELTER_BAD_MOMENT. The call then takes
- * no command. */
+/* Takes up to `limit` commands. Each command is applied at the moment `now`, and the reply to it is transmitted. Writes
+ * how many commands were taken (possibly 0), and why the call stopped (enum felter_stop). Codes: FELTER_BAD_MOMENT. The
+ * call then takes no command. */
 int32_t felter_conductor_work(felter_conductor *conductor, uint64_t now, uint32_t limit, uint64_t *messages,
                               int32_t *stopped);
 /* felter_conductor_set_heartbeat stores a heartbeat, which is any number. felter_client_heartbeat loads the heartbeat
@@ -509,8 +510,8 @@ int32_t felter_conductor_work(felter_conductor *conductor, uint64_t now, uint32_
 int32_t felter_conductor_set_heartbeat(felter_conductor *conductor, uint64_t value);
 int32_t felter_client_heartbeat(felter_client *client, uint64_t *value);
 
-/* These calls are about the conductor's counters, for the thread that uses the conductor. Each of them does the same as
- * the call for felter_counters whose name has the same ending. */
+/* These calls read the conductor's counters, on the thread that uses the conductor. Each of them does the same as the
+ * call for felter_counters whose name has the same ending. */
 int32_t felter_conductor_find(felter_conductor *conductor, int32_t type_id, uint64_t registration, uint32_t *id);
 int32_t felter_conductor_count(felter_conductor *conductor, uint32_t *count);
 int32_t felter_conductor_value(felter_conductor *conductor, uint32_t id, int64_t *value);
@@ -529,9 +530,9 @@ int32_t felter_conductor_subscribe(felter_conductor *conductor, felter_receiver 
  * felter_counters_reader. */
 int32_t felter_conductor_reader(felter_conductor *conductor, felter_reader *reader);
 
-/* These calls take back a client, a receiver or a reader of this conductor, with its shares, and empty its handle. A
- * client that was taken back never receives the replies that it had not received by then. Codes: FELTER_OTHER_RING if
- * the handle is of another conductor, or if felter_subscribe or felter_counters_reader made it. */
+/* These calls take back a client, a receiver or a reader of this conductor with its shares, and empty the handle. A
+ * client that was taken back receives no further replies. Codes: FELTER_OTHER_RING if the handle is of another
+ * conductor, or if felter_subscribe or felter_counters_reader made it. */
 int32_t felter_conductor_join(felter_conductor *conductor, felter_client *client);
 int32_t felter_conductor_join_receiver(felter_conductor *conductor, felter_receiver *receiver);
 int32_t felter_conductor_join_reader(felter_conductor *conductor, felter_reader *reader);
@@ -573,18 +574,18 @@ int32_t felter_send_close_owner(felter_client *client, uint64_t owner, uint64_t 
 enum felter_reply {
     FELTER_REPLY_ALLOCATED = 101, /* a counter was allocated, and the number is its id */
     FELTER_REPLY_DONE = 102,      /* the counter was freed or set, and the number is 0 */
-    FELTER_REPLY_REFUSED = 103,   /* nothing was done, and the number is a code of enum felter_code, or 22 if the
-                                   * command could not be read, or 23 if no command has its type id */
+    FELTER_REPLY_REFUSED = 103,   /* nothing was done; the number is 22 if the command could not be read, 23 if no
+                                   * command has its type id, and otherwise a code of enum felter_code */
     FELTER_REPLY_CLOSED = 104     /* the owner's counters were freed, and the number says how many were freed */
 };
 
-/* Takes the next message of the board, for a caller that waits for the reply to the command with this correlation id.
- * If the message is that reply, writes its kind (enum felter_reply) and its number. Codes:
+/* Takes the next message of the board. `correlation` is the id of the command whose reply the caller waits for. If the
+ * message is this reply, the call writes the kind (enum felter_reply) and the number of the reply. Codes:
  *   - FELTER_NO_MESSAGE if no message is there yet;
  *   - FELTER_OTHER_REPLY if the message is the reply to another command, or is not a reply. The message was passed
  *     over, so poll again;
  *   - FELTER_LAPPED if the conductor overtook the client. *lapped is then the number of times that the client was
- *     lapped. The next call goes on with the reply that was transmitted last. The client does not learn what became of
+ *     lapped. The next call goes on with the reply that was transmitted last. The client does not learn the results of
  *     the commands that had no reply yet. */
 int32_t felter_poll(felter_client *client, uint64_t correlation, int32_t *kind, int64_t *number, uint64_t *lapped);
 

@@ -40,7 +40,7 @@ struct positions {
 class producer;
 
 // Room for one message. The destructor aborts the claim unless it was committed. The producer must live longer than the
-// claim, and must not be moved meanwhile.
+// claim, and must not be moved while the claim exists.
 class claim {
 public:
     claim(claim &&from) noexcept : raw_(std::exchange(from.raw_, nullptr)), number_(from.number_) {}
@@ -75,7 +75,7 @@ class producer : public detail::end_of<felter_producer> {
 public:
     result<felter::sizes> sizes() { return detail::sizes_of(raw()->handle); }
     code write(std::int32_t type_id, bytes body) { return felter_write(raw(), type_id, body.data(), body.size()); }
-    // Writes messages that are laid out as felter_read_batch leaves them, up to the first one that is refused.
+    // Writes messages from a buffer with the layout that felter_read_batch writes, up to the first one that is refused.
     felter::written write_batch(bytes records) {
         std::uint32_t count = 0;
         const std::int32_t why = felter_write_batch(raw(), records.data(), records.size(), &count);
@@ -101,7 +101,7 @@ public:
         const auto at = positions();
         if (!its) return its.code();
         if (!at) return at.code();
-        // (the head is loaded first, so the tail may be more than a capacity above it by then)
+        // (the head is loaded before the tail, so the loaded tail may be more than a capacity above the loaded head)
         return std::min<std::uint64_t>((*at).tail - (*at).head, (*its).capacity);
     }
     // Returns how many bytes are free. A message also takes some of these bytes for its header, and for padding.
@@ -207,7 +207,7 @@ inline result<ring> one_to_one(std::uint32_t capacity, std::uint64_t start = 0) 
     return detail::ring_by(felter_one_to_one_new_at, capacity, start);
 }
 
-// The place of a receiver when it was lapped, and the intent that showed this.
+// The place at which a receiver was lapped, and the intent that showed the lap.
 struct lap {
     std::uint64_t place, intent;
 };

@@ -1,13 +1,15 @@
-/* A build with -DFELTER_CHECKED tests three things before each call. No pointer is NULL. The handle was made, and
- * neither the handle nor a copy of it was freed. No other call uses the handle. felter.h includes this file. */
+/* A build with -DFELTER_CHECKED tests three conditions before each call. The first is that no pointer is NULL. The
+ * second is that the handle was made, and that neither the handle nor a copy of it was freed. The third is that no
+ * other call uses the handle. felter.h includes this file. */
 #ifndef FELTER_CHECKED_H
 #define FELTER_CHECKED_H
 
 #include <stdio.h>
 #include <stdlib.h>
 
-/* An object that a handle owns. It has its address, and the number of handles that own an object at this address. The
- * number can be 2, because one thread can free an object while another thread makes a new one at the same address. */
+/* An object that a handle owns. The struct has the object's address, and the number of handles that own an object at
+ * this address. The number can be 2, because one thread can free an object while another thread makes a new one at the
+ * same address. */
 struct felter_owned {
     void *at;
     long count;

@@ -31,7 +31,7 @@ public:
         return *this;
     }
     ~end() { leave(); }
-    // Makes this end the first one of a new structure. Returns whether there was memory.
+    // Makes this end the first one of a new structure. Returns false if there was no memory.
     bool begin(bool writes) noexcept {
         try {
             join(std::make_shared<counts>(), writes);
@@ -63,8 +63,8 @@ struct with_end {
     end end_;
 };
 
-// A handle that is an end of a structure. To free the object of a handle can settle claims. So the count of ends falls
-// only after the object was freed, and the other side then finds these claims settled.
+// A handle that is an end of a structure. The claims of a producer are settled when its object is freed. So the count
+// of ends falls only after the object was freed. When the other side finds the lower count, the claims are settled.
 template <class Raw>
 class end_of : private with_end, public owner<Raw> {
 public:
@@ -82,7 +82,7 @@ public:
     bool is_abandoned() const noexcept { return end_.is_abandoned(); }
 
     // felter.hpp calls begin() for the first end of a new structure, and follow() for each other end of this structure.
-    // Both return whether there was memory.
+    // Both return false if there was no memory.
     bool begin(bool writes) noexcept { return end_.begin(writes); }
     template <class Other>
     bool follow(const end_of<Other> &other, bool writes) noexcept {

@@ -1,8 +1,8 @@
 /* Written by c/bindings from felter.h. To change this file, change felter.h and run c/bindings.
  *
  * A program includes felter.h, which includes this file. For each function of the library there is a function here,
- * which tests for NULL pointers before it calls the library. The name of the library's function is a macro for the
- * function here. */
+ * which tests for NULL pointers before it calls the library. For a program, the name of a library function is a macro
+ * for the function in this file. */
 #ifndef FELTER_INLINE_H
 #define FELTER_INLINE_H
 
@@ -26,7 +26,7 @@ static inline int32_t felter_refuse(const char *call, int32_t code) {
  * Then the program and the library draw the same numbers. */
 __attribute__((weak)) uint64_t felter_numbers_drawn = 0;
 
-/* Draws the number of the next structure: 1, 2, 3, .. by any threads. */
+/* Draws the number of the next structure. The numbers are 1, 2, 3 and so on. Any thread may call this. */
 static inline uint64_t felter_next_number(void) {
     return __atomic_add_fetch(&felter_numbers_drawn, 1, __ATOMIC_RELAXED);
 }

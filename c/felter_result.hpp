@@ -33,8 +33,8 @@ public:
     constexpr explicit operator bool() const noexcept { return number_ == FELTER_OK; }
     constexpr std::int32_t number() const noexcept { return number_; }
     const char *text() const noexcept { return felter_text(number_); }
-    // Returns whether the same call may succeed later. This is so if the ring was full, another producer was faster, or
-    // no message was there.
+    // Returns whether the same call may succeed later. The result is true if the ring was full, another producer was
+    // faster, or no message was there.
     constexpr bool is_passing() const noexcept {
         return number_ == FELTER_INSUFFICIENT_CAPACITY || number_ == FELTER_CONTENDED || number_ == FELTER_NO_MESSAGE;
     }
@@ -81,7 +81,7 @@ private:
     felter::code why_;
 };
 
-// Bytes that another object owns. A view can be made from any container or text of bytes. The parameter Byte is const
+// Bytes that another object owns. A view can be made from any text or container of bytes. The parameter Byte is const
 // void or void.
 template <class Byte>
 class view {
@@ -95,10 +95,10 @@ public:
     constexpr view(Byte *data, std::size_t size) noexcept : data_(data), size_(size) {}
     template <class C, class = if_bytes<C>>
     constexpr view(C &&from) noexcept : data_(from.data()), size_(from.size()) {}
-    // Views a text in quotes, without the 0 at its end.
+    // Makes a view of a string literal, without the 0 at its end.
     template <std::size_t N, class B = Byte, class = std::enable_if_t<std::is_const_v<B>>>
     constexpr view(const char (&text)[N]) noexcept : data_(text), size_(N - 1) {}
-    // An array that can be written is not a text. To view such an array, pass {array, size}.
+    // An array that can be written is not a string literal. To make a view of such an array, pass {array, size}.
     template <std::size_t N, class B = Byte, class = std::enable_if_t<std::is_const_v<B>>>
     view(char (&array)[N]) = delete;
 

@@ -1,11 +1,11 @@
 /* felter_wait: calls that wait, requests, and doorbells for epoll. The calls of the proved library never wait. The
- * calls of this header make calls of the library. They are tested and not proved. This header needs Linux and the
- * declarations of POSIX. Compile with -D_POSIX_C_SOURCE=200809L, or with the default of a compiler.
+ * calls of this header use the library. They are tested and not proved. This header needs Linux and the declarations of
+ * POSIX. Compile with -D_POSIX_C_SOURCE=200809L, or in the compiler's default mode.
  *
  * A timeout is in milliseconds. With the timeout 0 a call tries once, and with a negative timeout it waits for ever.
  *
  * To wait for a message, use felter_read_asleep or felter_receive_asleep, and call felter_wake after each write. The
- * reader then wakes after some tens of microseconds. A write costs one more load while no reader sleeps.
+ * reader then wakes after some tens of microseconds. A call of felter_wake costs one load if no reader sleeps.
  *
  * felter_read_wait and felter_receive_wait are for rings and boards whose writers do not call felter_wake. They try
  * again and again with pauses, so they find a message up to about a millisecond late. */
@@ -35,15 +35,15 @@ extern "C" {
 extern long syscall(long number, ...);
 #endif
 
-/* Stores how long a call has waited. A pause begins as {0, 0, timeout}. */
+/* Stores how long a call has waited. A felter_pause begins as {0, 0, timeout}. */
 typedef struct felter_pause {
     int64_t began; /* in nanoseconds, 0 before the first pause */
     int turns;
     int64_t timeout; /* in milliseconds */
 } felter_pause;
 
-/* Pauses, each time for longer, up to a millisecond. Returns 1 after the pause. Returns 0 without a pause if the
- * timeout has passed. */
+/* Pauses. Later calls pause for longer, up to a millisecond. Returns 1 after the pause. Returns 0 without a pause if
+ * the timeout has passed. */
 static inline int felter_pauses(felter_pause *it) {
     struct timespec now;
     int64_t left = 1000000, nanos;
@@ -55,7 +55,7 @@ static inline int felter_pauses(felter_pause *it) {
         left = (it->timeout < INT64_MAX / 1000000 ? it->timeout * 1000000 : INT64_MAX) - (nanos - it->began);
         if (left <= 0) return 0;
     }
-    /* (the count stays at 16, since a wait may last for months; the pauses are equally long from there on) */
+    /* (the count stays at 16, since a wait may last for months; from then on all pauses are equally long) */
     if (it->turns < 16) it->turns++;
     if (it->turns <= 10) {
         sched_yield();
@@ -111,7 +111,7 @@ FELTER_GUARD int32_t felter_receive_wait(felter_receiver *receiver, int32_t *typ
  * sleeps. Only felter_wake and the timeout wake a reader, so call felter_wake also when the last writer ends.
  */
 typedef struct felter_sleepers {
-    uint32_t count; /* how many readers sleep, or are about to */
+    uint32_t count; /* how many readers sleep, or are about to sleep */
     uint32_t turn;  /* how often readers were woken */
 } felter_sleepers;
 
@@ -181,13 +181,13 @@ FELTER_GUARD int32_t felter_receive_asleep(felter_receiver *receiver, felter_sle
 
 /* Requests ---------------------------------------------------------------------------------------------------------
  *
- * A request sends a command of a client, and waits for its reply until a deadline. The call sends the command, and
- * sends it again while the ring is full or another client is faster. Then the call polls for the reply, and passes over
- * the replies to other commands. So a client has one request at a time.
+ * A request sends a command of a client, and waits for the reply to this command until a deadline. The call sends the
+ * command, and sends it again while the ring is full or another client is faster. Then the call polls for the reply,
+ * and passes over the replies to other commands. So a client has one request at a time.
  *
  * If the conductor overtakes the client, the reply may be lost. Then the call soon sends a second command, which frees
  * an id that no counter has, and so changes nothing. Replies to one client come in the order of its commands. So the
- * reply to the second command shows that the conductor took the first one before.
+ * reply to the second command shows that the conductor had already taken the first one.
  */
 
 /* The outcomes of a request. Each comment says what is known of the command, and which code the call returns. */
@@ -196,7 +196,7 @@ enum felter_outcome {
     FELTER_OUTCOME_NOT_SENT = 1, /* the command was not sent: the code of the refusal */
     FELTER_OUTCOME_PENDING = 2,  /* no reply came in time, and the command may still be applied: FELTER_NO_MESSAGE */
     FELTER_OUTCOME_TAKEN = 3,    /* the command was applied or refused, but the reply is lost: FELTER_LAPPED */
-    FELTER_OUTCOME_UNKNOWN = 4   /* PENDING or TAKEN: replies were lost, and the deadline came: FELTER_LAPPED */
+    FELTER_OUTCOME_UNKNOWN = 4   /* PENDING or TAKEN, since replies were lost before the deadline: FELTER_LAPPED */
 };
 
 typedef struct felter_answer {
@@ -209,7 +209,7 @@ typedef struct felter_answer {
 /* An id that no counter has. */
 #define FELTER_NO_COUNTER UINT32_MAX
 
-/* Returns whether to send the command again, after a pause. */
+/* Returns 1 after a pause if the command should be sent again, and otherwise 0. */
 static inline int felter_sends_again(int32_t code, felter_pause *pause) {
     return (code == FELTER_INSUFFICIENT_CAPACITY || code == FELTER_CONTENDED) && felter_pauses(pause);
 }

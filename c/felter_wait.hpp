@@ -2,8 +2,8 @@
 // header needs Linux, and is tested and not proved.
 //
 // To wait for a message, use read_asleep or receive_asleep, and call sleepers::wake after each write. read_wait and
-// receive_wait are for writers that do not call wake. They pause between tries, so they find a message up to about a
-// millisecond late. These two calls also return FELTER_NO_MESSAGE if the other side is gone and no message is left.
+// receive_wait are for writers that do not call wake. These two calls pause between tries, so they find a message up to
+// about a millisecond late. They also return FELTER_NO_MESSAGE if the other side is gone and no message is left.
 #ifndef FELTER_WAIT_HPP
 #define FELTER_WAIT_HPP
 
@@ -21,7 +21,7 @@ inline constexpr std::chrono::milliseconds for_ever{-1};
 namespace detail {
 inline std::int64_t as_timeout(std::chrono::milliseconds it) noexcept { return static_cast<std::int64_t>(it.count()); }
 
-// Looks again and again until there is a message, the timeout has passed, or the other side is gone and left no
+// Calls `look` again and again until there is a message, the timeout has passed, or the other side is gone and left no
 // message.
 template <class End, class Look>
 result<message> until_found(End &end, std::chrono::milliseconds timeout, Look look) {

@@ -1,13 +1,13 @@
-/* ring_record: records a run of a ring or a queue, of any kind, for the program ring-check.
+/* ring_record: records a run of any ring or queue for the program ring-check.
  *
- * Each thread has a log of its own. The log begins as RING_RECORD_EMPTY, and the thread notes in it the result of each
- * of its calls. After all threads have ended, ring_record_write writes the logs into a file, one after another. A
- * message is named by its producer, by a number that the producer gave to the call, and by a checksum of its bytes. The
- * checksum can be that of ring_record_sum. A call that is tried again may keep its number. Note each refusal with this
- * number, and then the call that was accepted. In a run of a broadcast
- * buffer, a message is named by its number alone. The first message that was transmitted is message 0.
+ * Each thread has a log of its own. The log begins as RING_RECORD_EMPTY. The thread notes the result of each of its
+ * calls in the log. After all threads have ended, ring_record_write writes the logs into a file, one after another. A
+ * message is named by its producer, by a number that the producer gave to the call, and by a checksum of its bytes.
+ * ring_record_sum returns such a checksum. A call that is tried again may keep its number. Note each refusal with this
+ * number, and then the call that was accepted. In a run of a broadcast buffer, a message is named by its number alone.
+ * The first message that was transmitted is message 0.
  *
- * docs/CHECKING.md shows a whole program. Nothing here needs another header of felter. */
+ * docs/CHECKING.md shows a whole program. This header needs no other header of felter. */
 #ifndef RING_RECORD_H
 #define RING_RECORD_H
 
@@ -17,10 +17,10 @@
 #include <stdio.h>
 #include <stdlib.h>
 
-/* The kinds of lines of a log. Either a call of a producer was accepted or refused, or the consumer was shown a
- * message, or the consumer found nothing after all producers had returned. These are the kinds for a broadcast buffer:
- * a message was transmitted, or a receiver was given a copy, or a receiver was lapped, or a receiver found nothing after
- * the transmitter had returned. */
+/* The kinds of lines of a log. A line says that a call of a producer was accepted, that such a call was refused, that
+ * the consumer was shown a message, or that the consumer found nothing after all producers had returned. In a run of a
+ * broadcast buffer a line says that a message was transmitted, that a receiver was given a copy, that a receiver was
+ * lapped, or that a receiver found nothing after the transmitter had returned. */
 enum ring_record_kind {
     RING_RECORD_SENT,
     RING_RECORD_REFUSED,

@@ -1,7 +1,7 @@
 # A broadcast buffer of 256 bytes. The transmitter never waits. Receivers learn if they missed something.
 # Run it with: ./ring-run examples/broadcast.ring
 
-# A receiver begins with the latest record. Here no record is there yet.
+# A receiver begins with the latest record. Here no record was transmitted yet.
 subscribe
 receive 1
 
@@ -21,8 +21,8 @@ transmit 1 404142434445464748494a4b4c4d4e4f404142434445464748494a4b4c4d4e4f
 transmit 1 505152535455565758595a5b5c5d5e5f505152535455565758595a5b5c5d5e5f
 receive 1
 
-# The receiver's next record is at byte 56. This record stays whole until the transmitter passes 56 + 256. The next two
-# records end at 288.
+# The receiver's next record is at byte 56. This record stays whole until the transmitter passes byte 56 + 256. The next
+# two records end at 288.
 transmit 2 6061626364656667
 transmit 2 7071727374757677
 receive 1

@@ -23,8 +23,8 @@ abort 3
 write 3 01
 read 9
 
-# The reader returns a letter for each message. The letter n takes the message and goes on. The letter b takes it and
-# stops. The letter a leaves it in the ring and stops.
+# The reader returns a letter for each message. After n the read takes the message and goes on. After b the read
+# takes the message and stops. After a the read stops, and the message stays in the ring.
 write 1 61
 write 1 62
 write 1 63

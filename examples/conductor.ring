@@ -25,7 +25,7 @@ hear 1
 peek 1 0
 counters
 
-# An owner's counters are freed when the owner is closed. The reply says that there were two counters.
+# An owner's counters are freed when the owner is closed. The reply says that two counters were freed.
 own 9 6 - 78
 own 9 6 - 79
 close 9
@@ -46,8 +46,8 @@ hear 1
 hear 1
 counters
 
-# Bytes that are no command get a reply too, and change nothing. The number 22 says that they are malformed, and 23 that
-# no command has this type id.
+# Bytes that are not a command get a reply too, and change nothing. The number 22 means that the bytes are malformed,
+# and the number 23 means that no command has this type id.
 send 1 0700000000000000
 send 99 0800000000000000
 work 200 9

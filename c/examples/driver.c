@@ -32,8 +32,8 @@ static struct caller callers[CLIENTS] = {{"requests", FELTER_EMPTY, -1, 0, 0}, {
 static atomic_int stop;
 static int saw_fall;
 
-/* Returns whether to send again. If another client was faster, the caller tries again at once. If the ring is full, the
- * conductor must take a command first. */
+/* Returns whether the caller should send the command again. If another client was faster, the caller tries again at
+ * once. If the ring is full, the conductor must take a command first. */
 static int again(int32_t code) {
     if (code == FELTER_INSUFFICIENT_CAPACITY) sched_yield();
     return code == FELTER_INSUFFICIENT_CAPACITY || code == FELTER_CONTENDED;
@@ -60,7 +60,7 @@ static int32_t hear(struct caller *it, uint64_t id, int64_t *number) {
     }
 }
 
-/* Sets the counter to the next numbers, one command for each, and then waits for their replies. */
+/* Sends commands that set the counter to the next numbers, and then waits for the replies. */
 static int set_batch(struct caller *it, int64_t first) {
     uint64_t ids[BATCH];
     int64_t number;

@@ -72,7 +72,7 @@ static int close_ring(felter_producer *producer, felter_consumer *consumer) {
     return 1;
 }
 
-/* Shows a ring that is empty, full, blocked and closed. */
+/* Shows a ring in four states: empty, full, blocked and closed. */
 static int look_at_ring(void) {
     felter_producer producer = FELTER_EMPTY;
     felter_consumer consumer = FELTER_EMPTY;

@@ -2,8 +2,8 @@ package felter;
 
 import java.nio.ByteBuffer;
 
-/** The handler of a controlled read, which calls it with each message. The handler returns what the read does with the
- * message. */
+/** The handler of a controlled read. The read calls the handler with each message. The handler returns the action that
+ * the read takes. */
 @FunctionalInterface
 public interface ControlledMessageHandler {
     /** The ways in which a controlled read goes on after a message was shown. */

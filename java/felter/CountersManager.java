@@ -5,7 +5,7 @@ import java.nio.charset.StandardCharsets;
 import java.util.function.IntConsumer;
 
 /**
- * Counters with the ids from 0 on. One thread allocates and sets the counters. {@link #reader} makes a reader for
+ * Counters, whose ids begin at 0. One thread allocates and sets the counters. {@link #reader} makes a reader for
  * another thread.
  */
 public final class CountersManager extends Owner {
@@ -37,8 +37,8 @@ public final class CountersManager extends Owner {
     }
 
     /**
-     * Returns the number of counters that can be allocated at a moment. A freed id is counted after the timeout that
-     * began with its free.
+     * Returns the number of counters that can be allocated at a moment. A freed id is counted from the end of its
+     * timeout on.
      */
     public int available(final long now) {
         Native.must(Native.countersAvailable(handle(0), now, outAddress));
@@ -96,7 +96,7 @@ public final class CountersManager extends Owner {
         return out.getLong(0);
     }
 
-    /** Sets a counter's value, and returns the value that it had before. */
+    /** Sets a counter's value, and returns the value before the call. */
     public long getAndSet(final int counterId, final long value) {
         Native.must(Native.counterGetAndSet(handle(0), counterId, value, outAddress));
         return out.getLong(0);

@@ -1,6 +1,6 @@
 package felter;
 
-/** A call was refused. {@link #code} says why, by the numbers of felter.h. */
+/** A call was refused. {@link #code} is the number in felter.h that says why. */
 public final class FelterException extends IllegalStateException {
     private static final long serialVersionUID = 1L;
 
@@ -11,7 +11,7 @@ public final class FelterException extends IllegalStateException {
         this.code = code;
     }
 
-    /** Returns the code, by the numbers of felter.h. */
+    /** Returns the code, which is a number of felter.h. */
     public int code() {
         return code;
     }

@@ -11,7 +11,7 @@ import java.nio.ByteOrder;
 abstract class Owner implements AutoCloseable {
     private static final Cleaner CLEANER = Cleaner.create();
 
-    /** Frees handles once. This object does not refer to the owner. */
+    /** The handles of an owner. This object frees the handles once, and does not refer to the owner. */
     static final class Handles implements Runnable {
         private final long[] all;
 

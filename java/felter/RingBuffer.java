@@ -3,8 +3,8 @@ package felter;
 import java.nio.ByteBuffer;
 
 /**
- * A ring of messages between threads, in the shape of Agrona's class of this name. Bodies are copied into the ring and
- * out of it. Only one thread reads. A message has at most {@link #maxMsgLength} bytes and a type id of at least 1.
+ * A ring of messages between threads, modelled on Agrona's class of this name. Bodies are copied into the ring and out
+ * of it. Only one thread may read. A message has at most {@link #maxMsgLength} bytes and a type id of at least 1.
  *
  * <p>A read calls its handler with messages, which are in a buffer of this object. If the handler throws, the read
  * throws the same exception. The next read then begins with the messages that the handler has not seen.
@@ -63,7 +63,7 @@ public abstract class RingBuffer extends Owner {
     }
 
     /**
-     * Writes a part of an array.
+     * Writes a message whose body is a part of an array.
      *
      * @return false if the ring is full, or another producer was faster. Then try again.
      */
@@ -146,8 +146,8 @@ public abstract class RingBuffer extends Owner {
     }
 
     /**
-     * Calls the handler with up to {@code messageCountLimit} messages. Otherwise the call is the same as the form
-     * without a limit. If the handler throws, its message stays in the ring.
+     * Calls the handler with up to {@code messageCountLimit} messages. Otherwise the call is the same as {@link
+     * #controlledRead(ControlledMessageHandler)}. If the handler throws, its message stays in the ring.
      */
     public final int controlledRead(final ControlledMessageHandler handler, final int messageCountLimit) {
         if (left != 0) {

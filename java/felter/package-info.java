@@ -1,8 +1,8 @@
 /**
- * Rings, broadcast buffers and counters for the threads of one process, with classes in the shape of Agrona's. In the
- * code of C, C++, Rust and Python a broadcast buffer is called a board.
+ * Rings, broadcast buffers and counters for the threads of one process. The classes are modelled on Agrona's classes.
+ * In the code of C, C++, Rust and Python a broadcast buffer is called a board.
  *
  * <p>The classes call a library whose C interface is proved. The classes themselves are tested and not proved. The
- * comments of the classes have the rules for threads. For example, one thread reads a ring.
+ * comments of the classes have the rules for threads. For example, only one thread may read a ring.
  */
 package felter;

@@ -5,9 +5,9 @@
     for message in consumer:
         print(message.type_id, message.body)
 
-Calls. A read returns None if no message is there. With a timeout a call waits. A refused call raises an `Error`, and
-its `number` says why. "Raises OTHER_RING" means an Error with the number OTHER_RING. If the ring is full, the Error is
-a `Full`. If another producer was faster, the Error is a `Contended`. In both cases `is_passing` is True, and the same
+Calls. A read returns None if no message is there. A call with a timeout waits. A refused call raises an `Error`, whose
+`number` says why. "Raises OTHER_RING" means an Error with the number OTHER_RING. If the ring is full, the Error is a
+`Full`. If another producer was faster, the Error is a `Contended`. In both cases `is_passing` is True, and the same
 call may succeed later. `is_abandoned` returns whether the other side is gone. A `Doorbell` wakes event loops.
 Capacities, lengths and positions are in bytes. Moments are in milliseconds of a clock that the caller chooses.
 
@@ -15,7 +15,8 @@ Layouts. The bodies of messages are stored separately from the words of headers 
 memory layout of Agrona's rings.
 
 Handles. A handle is a producer, a consumer, or another object with calls. Any thread may use a handle, but only one
-call at a time works on it. Handles are context managers, and free what they own at the end. The rules are:
+call at a time works on it. Handles are context managers, and free what they own at the end of the `with` block. The
+rules are:
 
 - A handle must not be copied or pickled.
 - A handle must not be used in a forked child, nor by a signal handler that interrupted a call of the same handle. A

@@ -1,9 +1,9 @@
-"""Loads the library, and chooses how it is called. Calls go through an extension in C if there is one for this Python,
-and otherwise through ctypes.
+"""Loads the library, and chooses how it is called. Calls use an extension in C if there is one for this Python, and
+otherwise ctypes.
 
-The library is libfelter.so, and the extension is a file named _fast beside it. With FELTER_PURE=1 calls go through
-ctypes even if there is an extension. A second copy of this package in the process, for example in another interpreter,
-also uses ctypes. The extension and `felter._pure` both have `Handle` and `call`, and do the same. `implementation` says
+The library is libfelter.so. The extension is a file named _fast in the same folder. With FELTER_PURE=1 calls use ctypes
+even if there is an extension. A second copy of this package in the process, for example in another interpreter, also
+uses ctypes. The extension and `felter._pure` both have `Handle` and `call`, and do the same. `implementation` says
 which of them is used.
 """
 
@@ -66,8 +66,8 @@ def is_wanted() -> bool:
 
 
 def extension(path: str, found: typing.Any) -> typing.Optional[types.ModuleType]:
-    """Loads the extension beside the library, and gives it the library. Returns None if there is no extension that this
-    Python can load."""
+    """Loads the extension from the folder of the library, and passes the library to it. Returns None if there is no
+    extension that this Python can load."""
     for ending in importlib.machinery.EXTENSION_SUFFIXES if is_wanted() else []:
         file = os.path.join(os.path.dirname(path), "_fast" + ending)
         spec = importlib.util.spec_from_file_location("felter._fast", file)

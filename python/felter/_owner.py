@@ -60,8 +60,8 @@ class Ends:
         self._most = 16
 
     def add(self, owner: "Owner", writes: bool) -> None:
-        """Adds an end. Other threads may add ends at the same time, since each step on a dict is one step of the
-        interpreter."""
+        """Adds an end. Other threads may add ends at the same time, since the interpreter makes each change of a dict
+        in one step."""
         it = weakref.ref(owner)
         its = self.writers if writes else self.readers
         its[id(it)] = it
@@ -79,7 +79,7 @@ class Ends:
 
 class Owner(Unique, Handle):
     """A handle that owns an object of the library, and frees it. `number` is the number of its ring, board, counters or
-    conductor. `ends` are the ends of that structure. This end is one of `ends`, and either writes or reads."""
+    conductor. `ends` are the ends of that structure. The handle is one of these ends, and either writes or reads."""
 
     def __init__(self, number: int, ends: typing.Optional["Ends"] = None, writes: bool = True) -> None:
         self._ends = ends or Ends()

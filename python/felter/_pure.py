@@ -97,7 +97,7 @@ def call(name: str, *given: typing.Any) -> typing.Any:
 
 
 def take_bytes(given: typing.Any) -> typing.Tuple[typing.Any, ...]:
-    """Returns the bytes of an object's buffer, and their number. The object's own `__len__` is not
+    """Returns the bytes of an object's buffer, and the number of these bytes. The object's own `__len__` is not
     used."""
     if type(given) is bytes:
         return given, len(given)
@@ -137,8 +137,8 @@ TAKES = {"bytes": take_bytes, "*handle": take_handle, **{word: taker(*its) for w
 
 
 class Function:
-    """A function of the library. A function takes values, then writes other values, and last may fill a buffer with
-    bytes."""
+    """A function of the library. The parameters of a function are first the values that it takes, then the values that
+    it writes, and then possibly a buffer that it fills."""
 
     def __init__(self, name: str, function: typing.Any, words: typing.List[str]) -> None:
         function.argtypes = [TYPES[it] for it in words]
@@ -242,8 +242,8 @@ else:
 
 class Freeing(Reference):
     """Frees what a handle owns when the handle is gone. The callback of this weak reference is a function of the
-    library. Its parameter is the reference itself, which ctypes replaces by the handle. So no code of Python runs. An
-    interrupt would be swallowed in such code."""
+    library. Its parameter is the reference itself, which ctypes replaces by the handle. So no Python code runs, in
+    which an interrupt would be swallowed."""
 
     _as_parameter_: typing.Any = None
 
@@ -333,7 +333,8 @@ class Handle:
                 self._was_emptied = self._raw.at is None
 
     def _is_empty(self) -> bool:
-        """Returns whether the handle owned nothing when its last call ended. This is not known during a call."""
+        """Returns whether the handle was empty at the end of its last call. The result says nothing about a call that
+        is running."""
         return self._was_emptied
 
     def _is_forked(self) -> bool:

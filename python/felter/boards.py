@@ -10,7 +10,7 @@ from felter.waiting import wait_as_task, wait_for
 
 
 class Lap(typing.NamedTuple):
-    """The place of a receiver when it was lapped, and the intent that showed this. The intent is the position up to
+    """The place at which a receiver was lapped, and the intent that showed the lap. The intent is the position up to
     which the transmitter had begun to write."""
 
     place: int
@@ -18,8 +18,8 @@ class Lap(typing.NamedTuple):
 
 
 class Transmitter(Owner):
-    """Transmits messages on a board. The transmitter makes the board with a capacity, which is a power of two from 256
-    to 2^24. A transmitter never waits. A receiver that is too slow is overtaken, and learns this from `Lapped`."""
+    """Transmits messages on a board. A transmitter makes its board, whose capacity is a power of two from 256 to 2^24.
+    A transmitter never waits. A receiver that is too slow is overtaken, and learns this from `Lapped`."""
 
     def __init__(self, capacity: int, start: int = 0) -> None:
         super().__init__(next(numbers))

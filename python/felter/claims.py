@@ -43,8 +43,8 @@ class Trace(Reference):
         return self.producer
 
     def is_over(self) -> bool:
-        """Returns whether there is nothing to abort. This is so if the claim was settled or never made, or its producer
-        was freed."""
+        """Returns whether there is nothing to abort. The result is True if the claim was settled or never made, or if
+        its producer was freed."""
         producer = self.owner()
         return producer is None or self.number.value == NONE or producer._is_empty() or producer._is_forked()
 
@@ -58,7 +58,7 @@ class Trace(Reference):
 class Claim(Unique):
     """Room in a ring for one message. As a context manager, a claim is committed at the end, or aborted after an
     exception. A claim that is dropped is aborted by the next call of the ring, or earlier. A settled claim no longer
-    keeps its producer."""
+    keeps its producer alive."""
 
     def __init__(self, producer: "Producer") -> None:
         # The trace exists before the claim is made. So the trace is left even if an interrupt comes right after the
@@ -102,7 +102,7 @@ if fast is not None and not typing.TYPE_CHECKING:
 
     class Claim(Unique, fast.Claim):
         """Room in a ring for one message. As a context manager, a claim is committed at the end, or aborted after an
-        exception. A claim that is dropped is aborted. A settled claim no longer keeps its producer."""
+        exception. A claim that is dropped is aborted. A settled claim no longer keeps its producer alive."""
 
         __slots__ = ("__weakref__",)
 

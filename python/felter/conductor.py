@@ -20,7 +20,7 @@ LOOKS = 16
 
 
 class WorkStop(enum.IntEnum):
-    """The reasons why a call of `Conductor.work` stops, by the numbers of felter.h."""
+    """The reasons why a call of `Conductor.work` stops, with the numbers of felter.h."""
 
     # The limit was reached.
     LIMIT = 0
@@ -107,8 +107,8 @@ class Conductor(Owner):
         return client
 
     def subscribe(self) -> Receiver:
-        """Makes a receiver of the replies as they are on the board. The receiver starts with the reply that was
-        transmitted last, and gets one of the board's shares."""
+        """Makes a receiver, which receives every reply as a message of the board. The receiver starts with the reply
+        that was transmitted last, and gets one of the board's shares."""
         receiver = Receiver(self._number, self._ends, writes=False)
         self._do("felter_conductor_subscribe", receiver)
         return receiver
@@ -121,8 +121,8 @@ class Conductor(Owner):
         return reader
 
     def work(self, now: int, limit: int = 2**32 - 1) -> Work:
-        """Takes up to `limit` commands, applies each at the moment `now`, and transmits its reply. Through the
-        extension in C, other threads of Python wait during the call."""
+        """Takes up to `limit` commands. Each command is applied at the moment `now`, and the reply to it is
+        transmitted. If the extension in C is used, other Python threads wait during the call."""
         messages, stopped = self._do("felter_conductor_work", now, limit)
         self._wake()
         return Work(messages, WorkStop(stopped))
@@ -203,13 +203,13 @@ class Conductor(Owner):
 
 
 class Client(Owner):
-    """Sends commands to a conductor, and receives the replies. Each call that sends tries once, and returns the
-    correlation id that was drawn for the command. `poll` asks for the reply."""
+    """Sends commands to a conductor, and receives the replies. Each call that sends a command tries once, and returns
+    the correlation id that was drawn for the command. `poll` asks for the reply."""
 
     def allocate(self, type_id: int, key: Buffer = b"", label: Buffer = b"", owner: int = 0) -> int:
         """Asks for a counter with the value 0. The registration id of the counter is the correlation id of the command.
         The owner 0 means that the counter has no owner. The command takes 20 bytes, plus the bytes of the key and the
-        label. With an owner it takes 8 bytes more."""
+        label. The command for a counter with an owner takes 8 bytes more."""
         if owner == 0:
             return self._do("felter_send_allocate", type_id, key, label)
         return self._do("felter_send_allocate_owned", type_id, owner, key, label)
@@ -250,12 +250,13 @@ class Client(Owner):
         self, send: typing.Callable[..., int], *parameters: typing.Any, timeout: typing.Optional[float] = None
     ) -> Reply:
         """Sends a command, and waits for its reply for `timeout` seconds: `client.request(client.set, 3, 7,
-        timeout=1)`. If `timeout` is None, waits for ever. The call sends again while the ring is full or another client
-        is faster. The call passes over the replies to other commands. So a client has only one request at a time.
+        timeout=1)`. If `timeout` is None, waits for ever. The call sends the command again while the ring is full or
+        another client is faster. The call passes over the replies to other commands. So a client has only one request
+        at a time.
 
         If the conductor overtakes the client, the reply may be lost. Then the call soon sends a second command, which
         frees an id that no counter has, and so changes nothing. Replies to one client come in the order of its
-        commands. So the reply to the second command shows that the conductor took the first one before.
+        commands. So the reply to the second command shows that the conductor had already taken the first one.
 
         The call raises Full or Contended if the command was not sent in time. It raises Unanswered if no reply came,
         and Disconnected if the conductor is gone."""

@@ -24,8 +24,8 @@ class Error(Exception):
 
     @property
     def is_passing(self) -> bool:
-        """Returns whether the same call may succeed later. This is so if the ring was full, or another producer was
-        faster."""
+        """Returns whether the same call may succeed later. The result is True if the ring was full, or another producer
+        was faster."""
         return self.number in (Number.INSUFFICIENT_CAPACITY, Number.CONTENDED)
 
 
@@ -67,8 +67,8 @@ class Lapped(Error):
 
 
 class Disconnected(Exception):
-    """The other side is gone, and nothing is left to read. This is so if every producer was freed. It is also so
-    if the consumer, the transmitter or the conductor was freed. Calls that wait raise this exception."""
+    """The other side is gone, and nothing is left to read. Calls that wait raise this exception after every producer
+    was freed, or after the consumer, the transmitter or the conductor was freed."""
 
 
 CAUSES: typing.Dict[int, typing.Type[Error]] = {

@@ -16,14 +16,15 @@ from felter.waiting import wait_as_task, wait_for
 
 
 class Positions(typing.NamedTuple):
-    """The positions at which the next read and the next claim of a ring begin, in bytes. Both positions never fall."""
+    """The positions at which the next read and the next claim of a ring begin, in bytes. Neither position ever
+    falls."""
 
     head: int
     tail: int
 
 
 class Found(enum.IntEnum):
-    """The kind of thing that is next in a ring, by the numbers of felter.h."""
+    """The kind of thing that is next in a ring, with the numbers of felter.h."""
 
     # A message, which the consumer reads next.
     MESSAGE = 0
@@ -92,9 +93,9 @@ class Consumer(Controlled):
     @direct
     def read_batch(self, limit: int, room: int = 65536) -> typing.List[Message]:
         """Reads up to `limit` messages by one call, and returns a list of them. The list is empty if no message is
-        there. The call can return fewer messages than are in the ring. The call has a buffer of `room` bytes. A message
-        takes 16 bytes of the buffer, plus the bytes of its body, rounded up to a multiple of 8. A message for which the
-        buffer has no room stays in the ring."""
+        there. The call can return fewer messages than are in the ring. The call reads into a buffer of `room` bytes. A
+        message takes 16 bytes of the buffer, plus the bytes of its body, rounded up to a multiple of 8. A message for
+        which the buffer has no room stays in the ring."""
         count, records = self._try("felter_read_batch", limit, operator.index(room)) or (0, b"")
         messages, at = [], 0
         for _ in range(count):
@@ -191,7 +192,7 @@ class Producer(Settling):
 
     def write_all(self, messages: typing.Iterable[typing.Tuple[int, Buffer]]) -> int:
         """Writes messages one after another, and returns how many messages were written. Each message is a type id and
-        a body. The call stops if the ring is full or another producer is faster. Other refusals are raised."""
+        a body. The call stops if the ring is full or another producer is faster. Other refusals raise an Error."""
         written = 0
         with contextlib.suppress(Full, Contended):
             for type_id, body in messages:

@@ -16,7 +16,7 @@ T = typing.TypeVar("T")
 
 
 def refuse_none_number(timeout: typing.Optional[float]) -> None:
-    """Refuses a timeout that is not a number (NaN), since it would never end."""
+    """Refuses a timeout that is not a number (NaN), since a wait with such a timeout would never end."""
     if timeout is not None and timeout != timeout:
         raise ValueError("the timeout is not a number (NaN)")
 
@@ -129,8 +129,8 @@ async def wait_as_task(
 
 
 class Listed:
-    """Puts a doorbell into a list of sleepers, so that the next wake rings it. The wake runs no code of Python, since
-    the destructors of claims and handles wake sleepers too."""
+    """Puts a doorbell into a list of sleepers, so that the next wake rings it. The wake runs no Python code, since the
+    destructors of claims and handles wake sleepers too."""
 
     def __init__(self, sleepers: Sleepers, bell: "Doorbell") -> None:
         self._sleepers, self._bell = sleepers, bell
@@ -198,7 +198,7 @@ class Doorbell:
         return bool(poll.poll(None if timeout is None else max(0, timeout * 1000)))
 
     def close(self) -> None:
-        """Closes the doorbell. This may be called again."""
+        """Closes the doorbell. A doorbell may be closed more than once."""
         self._reads.close()
         self._writes.close()
 

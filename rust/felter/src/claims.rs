@@ -1,4 +1,5 @@
-//! Claims. A claim is room in a ring for a message, whose bytes are put later. The claim is then committed or aborted.
+//! Claims. A claim is room in a ring for a message. The bytes of the message are put later. After that the claim is
+//! committed or aborted.
 use crate::error::{Error, Refused};
 use crate::handle::{done, Number};
 use crate::raw::{self, Raw};

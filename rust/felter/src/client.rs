@@ -6,10 +6,10 @@ use crate::raw::{self, Raw};
 
 /// Sends commands to a conductor, and receives the replies.
 ///
-/// Each call that sends tries once, and returns the correlation id that was drawn for the command. The reply says
-/// whether the conductor applied or refused the command. [`poll`](Client::poll) asks for the reply.
+/// Each call that sends a command tries once, and returns the correlation id that was drawn for the command. The reply
+/// says whether the conductor applied or refused the command. [`poll`](Client::poll) asks for the reply.
 ///
-/// Errors of each call that sends:
+/// Errors of each call that sends a command:
 ///
 /// - [`Error::TooLong`] if the command takes more than 520 bytes, or more than an eighth of the ring's capacity.
 /// - [`Error::PositionLimit`], [`Error::InsufficientCapacity`] or [`Error::Contended`], in the same cases as for
@@ -109,7 +109,7 @@ impl Client {
         self.sent(|handle, id| unsafe { raw::felter_send_free(handle, counter, id) })
     }
 
-    /// Does the same as [`free`](Client::free), under the name of this call in C++ and Python.
+    /// Does the same as [`free`](Client::free). This is the name of the call in C++ and Python.
     pub fn release(&mut self, counter: u32) -> Result<u64, Error> {
         self.free(counter)
     }
@@ -134,9 +134,9 @@ impl Client {
         Ok(id)
     }
 
-    /// Takes the next message of the board, for a caller that waits for the reply to the command with this correlation
-    /// id. The conductor replies to the commands of a client in the order in which they were sent. So ask for the
-    /// replies in that order.
+    /// Takes the next message of the board. `correlation` is the id of the command whose reply the caller waits for.
+    /// The conductor replies to the commands of a client in the order in which they were sent. So ask for the replies
+    /// in that order.
     ///
     /// Errors: [`Error::Lapped`] if the conductor overtook the client. The next call goes on with the reply that was
     /// transmitted last. The client does not learn the results of the commands that had no reply yet.

@@ -27,7 +27,7 @@ use crate::raw;
 /// # Ok::<(), felter::Error>(())
 /// ```
 ///
-/// One thread at a time uses a conductor, a client, a receiver or a reader. This does not compile:
+/// Only one thread at a time can use a conductor, a client, a receiver or a reader. This does not compile:
 ///
 /// ```compile_fail,E0596
 /// let mut conductor = felter::Conductor::new(128, 256, 1, 0).expect("sizes");
@@ -115,8 +115,8 @@ impl Conductor {
         Ok(Client { handle, conductor: self.number, end: self.end.other(false) })
     }
 
-    /// Makes a receiver of the replies as they are on the board. The receiver starts with the reply that was
-    /// transmitted last, and gets one of the board's shares.
+    /// Makes a receiver, which receives every reply as a message of the board. The receiver starts with the reply that
+    /// was transmitted last, and gets one of the board's shares.
     ///
     /// Errors: [`Error::NoShares`], [`Error::OutOfMemory`].
     pub fn subscribe(&mut self) -> Result<Receiver, Error> {
@@ -137,7 +137,8 @@ impl Conductor {
         Ok(Reader { handle, counters: self.number })
     }
 
-    /// Takes up to `limit` commands, applies each at the moment `now`, in milliseconds, and transmits its reply.
+    /// Takes up to `limit` commands. Each command is applied at the moment `now`, in milliseconds, and the reply to it
+    /// is transmitted.
     ///
     /// Errors: [`Error::BadMoment`]. No command is then taken.
     pub fn work(&mut self, now: u64, limit: u32) -> Result<Work, Error> {

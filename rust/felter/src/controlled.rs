@@ -45,8 +45,8 @@ impl Consumer {
     /// `show` returns says whether the message is taken, and whether the read goes on. Returns how many messages were
     /// taken. If `show` panics, its message stays in the ring.
     ///
-    /// Errors: [`Error::ShortBuffer`] if the first message has no room. If a later message has no room, the read ends
-    /// before that message.
+    /// Errors: [`Error::ShortBuffer`] if the buffer has no room for the first message. If the buffer has no room for a
+    /// later message, the read ends before that message.
     ///
     /// ```
     /// use felter::Action;

@@ -9,7 +9,7 @@ pub(crate) const MAX_LABEL: usize = 380;
 /// The length of a key, in bytes.
 pub const MAX_KEY: usize = 112;
 
-/// Counters with the ids from 0 on.
+/// Counters, whose ids begin at 0.
 ///
 /// ```
 /// let mut counters = felter::Counters::new(8, 0)?;
@@ -91,7 +91,7 @@ impl Counters {
         done(unsafe { raw::felter_counter_free(self.handle.raw(), now, id) })
     }
 
-    /// Does the same as [`free`](Counters::free), under the name of this call in C++ and Python.
+    /// Does the same as [`free`](Counters::free). This is the name of the call in C++ and Python.
     pub fn release(&mut self, now: u64, id: u32) -> Result<(), Error> {
         self.free(now, id)
     }
@@ -129,7 +129,7 @@ impl Counters {
         self.handle.number(id, raw::felter_counter_decrement)
     }
 
-    /// Sets a counter's value, and returns the value that it had before.
+    /// Sets a counter's value, and returns the value before the call.
     ///
     /// Errors: [`Error::BadId`], [`Error::NotAllocated`].
     pub fn get_and_set(&mut self, id: u32, value: i64) -> Result<i64, Error> {

@@ -1,4 +1,4 @@
-//! A doorbell for event loops. Writers ring a doorbell. Readers wait for it, and can do so by epoll.
+//! A doorbell for event loops. Writers ring a doorbell. Readers wait until the doorbell is rung, for example by epoll.
 use std::fs::File;
 use std::io::{self, ErrorKind, Read, Write};
 use std::os::fd::{AsFd, AsRawFd, BorrowedFd, FromRawFd, RawFd};

@@ -1,11 +1,13 @@
-//! The ends of a ring or a board. This module counts the ends of each side, and knows which of them sleep.
+//! The ends of a ring or a board. This module counts the ends of each side, and lets readers sleep until they are
+//! woken.
 use std::mem;
 use std::sync::atomic::{AtomicUsize, Ordering};
 use std::sync::{Arc, Condvar, Mutex, PoisonError};
 use std::task::Waker;
 use std::time::Instant;
 
-/// The number of ends on each side. This number is kept beside the proved library, which does not count its handles.
+/// The number of ends on each side. The crate counts the ends itself, since the proved library does not count its
+/// handles.
 #[derive(Debug, Default)]
 struct Counts {
     writers: AtomicUsize,
@@ -89,7 +91,8 @@ impl End {
 }
 
 impl Bed {
-    /// Looks once more. If nothing was found, sleeps until it is woken or a deadline comes. Returns what was found.
+    /// Calls `look` once. If the result is `None`, sleeps until the thread is woken or the deadline comes. Returns the
+    /// result of `look`.
     pub(crate) fn sleep<T>(&self, deadline: Option<Instant>, look: impl FnOnce() -> Option<T>) -> Option<T> {
         let counts = &self.counts;
         counts.sleepers.fetch_add(1, Ordering::SeqCst);

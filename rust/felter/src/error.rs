@@ -10,7 +10,7 @@ macro_rules! errors {
         #[non_exhaustive]
         pub enum Error {
             $($(#[$doc])* $name $({ $($(#[$note])* $field: $kind),* })?,)*
-            /// A number that this crate does not know.
+            /// A number for which this crate has no error.
             Unknown(i32),
         }
 
@@ -61,9 +61,10 @@ errors! {
     NoShares = 12,
     /// The transmitter overtook the receiver.
     Lapped {
-        /// The number of times that the receiver was lapped by now.
+        /// The number of times that the receiver has been lapped.
         count: u64,
-        /// The number of bytes that the receiver missed. For a client it is 0, because a client does not know it.
+        /// The number of bytes that the receiver missed. For a client this number is 0, because a client does not know
+        /// how many bytes it missed.
         missed_bytes: u64
     } = 13,
     /// A receiver was neither taken back nor dropped.
@@ -101,19 +102,20 @@ errors! {
     } = 106,
     /// The moment is above 2^62.
     BadMoment = 107,
-    /// The two handles are of two rings, boards, conductors or sets of counters.
+    /// The two handles belong to different rings, boards, conductors or sets of counters.
     OtherRing = 108,
     /// The message is the reply to another command. This crate returns [`Polled::Another`](crate::Polled) instead.
     OtherReply = 109,
-    /// Another handle holds what was to be closed. A reader of the conductor was neither taken back nor dropped.
+    /// Another handle belongs to the structure that was to be closed: a reader of the conductor was neither taken back
+    /// nor dropped.
     InUse = 110,
     /// A pointer is NULL. This crate never returns this error.
     NullPointer = 111,
 }
 
 impl Error {
-    /// Returns whether the same call may succeed later. This is so if the ring was full, or another producer was
-    /// faster.
+    /// Returns whether the same call may succeed later. The result is true if the ring was full, or another producer
+    /// was faster.
     ///
     /// ```
     /// let (mut producer, _consumer) = felter::one_to_one(128)?;
@@ -163,7 +165,7 @@ impl std::error::Error for BatchRefused {
     }
 }
 
-/// A call that took a handle was refused. It gives the handle back as it was.
+/// A call that took a handle was refused. This error gives the handle back as it was.
 #[derive(Debug)]
 pub struct Refused<T> {
     /// The reason why the call was refused.

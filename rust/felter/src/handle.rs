@@ -75,8 +75,8 @@ pub(crate) fn done(code: i32) -> Result<(), Error> {
 }
 
 /// The number of a ring, a board, counters or a conductor. Each handle has the number of its structure. No two
-/// structures of a process have the same number. For this the header for C counts from 1 on, this crate from 2^62, and
-/// the Python module from 2^63.
+/// structures of a process have the same number. So the header for C counts from 1 on, this crate from 2^62, and the
+/// Python module from 2^63.
 #[derive(Clone, Copy, Debug, PartialEq, Eq)]
 pub(crate) struct Number(u64);
 

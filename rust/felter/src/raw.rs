@@ -3,7 +3,7 @@
 use std::ffi::c_void;
 use std::ptr;
 
-/// A handle as C sees it: a struct with one pointer.
+/// A handle with its layout in C, which is a struct with one pointer.
 #[repr(C)]
 pub(crate) struct Raw {
     at: *mut c_void,

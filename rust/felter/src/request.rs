@@ -1,4 +1,4 @@
-//! Requests. A request sends a command, and waits for its reply until a deadline. Requests make proved calls, but are
+//! Requests. A request sends a command, and waits until a deadline for the reply. Requests make proved calls, but are
 //! not proved themselves.
 use crate::client::{Client, Polled, Reply};
 use crate::error::Error;
@@ -53,7 +53,8 @@ pub enum Command<'a> {
 #[derive(Clone, Copy, Debug, PartialEq, Eq)]
 #[non_exhaustive]
 pub enum RequestError {
-    /// The command was not sent. The error says why. If the deadline came, the error [is passing](Error::is_passing).
+    /// The command was not sent. The error says why. If the deadline came, [`is_passing`](Error::is_passing) of the
+    /// error is true.
     NotSent(Error),
     /// No reply came before the deadline. The command may still be applied: [`poll`](Client::poll) for the reply later.
     Pending {
@@ -70,7 +71,7 @@ pub enum RequestError {
         /// The correlation id of the command.
         id: u64,
     },
-    /// The conductor is gone. The call does not know whether the conductor took the command before.
+    /// The conductor is gone. It is not known whether the conductor took the command before that.
     Disconnected {
         /// The correlation id of the command.
         id: u64,
@@ -111,12 +112,13 @@ const NO_COUNTER: u32 = u32::MAX;
 const LOOKS: u32 = 16;
 
 impl Client {
-    /// Sends a command, and waits for its reply. The call sends again while the ring is full or another client is
-    /// faster. The call passes over the replies to other commands. So a client has only one request at a time.
+    /// Sends a command, and waits for its reply. The call sends the command again while the ring is full or another
+    /// client is faster. The call passes over the replies to other commands. So a client has only one request at a
+    /// time.
     ///
     /// If the conductor overtakes the client, the reply may be lost. Then the call soon sends a second command, which
     /// frees an id that no counter has, and so changes nothing. Replies to one client come in the order of its
-    /// commands. So the reply to the second command shows that the conductor took the first one before.
+    /// commands. So the reply to the second command shows that the conductor had already taken the first one.
     ///
     /// Errors: see [`RequestError`]. Without a deadline the call waits for ever, and returns neither
     /// [`RequestError::Pending`] nor [`RequestError::Unknown`].

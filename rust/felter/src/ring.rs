@@ -50,7 +50,7 @@ fn made_by(
     Ok((producer, Consumer { handle: consumer, ring, end: reads, sizes }))
 }
 
-/// The head and the tail of a ring, in bytes. Both never fall.
+/// The head and the tail of a ring, in bytes. Neither of the two ever falls.
 #[derive(Clone, Copy, Debug, PartialEq, Eq)]
 pub struct Positions {
     /// The position at which the next read begins.

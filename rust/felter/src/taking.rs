@@ -27,7 +27,7 @@ pub struct Iter<'a> {
 
 impl Consumer {
     /// Returns an iterator over the messages that are there. The iterator returns `None` if no message is there. A
-    /// later call may return a message again.
+    /// later call of the iterator may still return a message.
     ///
     /// ```
     /// let (mut producer, mut consumer) = felter::many_to_one(1024)?;

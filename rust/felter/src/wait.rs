@@ -18,7 +18,7 @@ pub enum WaitError {
     Timeout,
     /// Every end of the other side was dropped, and a reader has read all messages.
     Disconnected,
-    /// The call was refused for a reason that does not pass.
+    /// The call was refused for a reason that waiting does not remove.
     Refused(Error),
 }
 
@@ -114,8 +114,8 @@ impl Producer {
 }
 
 impl Consumer {
-    /// Waits for a message, and reads it into a buffer. The call looks a few times, and then sleeps until a producer
-    /// wakes it.
+    /// Waits for a message, and reads it into a buffer. The call tries a few times to read, and then sleeps until a
+    /// producer wakes it.
     ///
     /// These are the errors:
     /// - [`WaitError::Timeout`] at the deadline;
@@ -145,7 +145,7 @@ impl Consumer {
 }
 
 impl Consumer {
-    /// Waits for a message as a task, and reads it into a buffer. A write wakes the task.
+    /// Waits in a task for a message, and reads the message into a buffer. A write wakes the task.
     ///
     /// These are the errors:
     /// - [`WaitError::Disconnected`] if every producer was dropped and all messages were read;
@@ -184,8 +184,8 @@ impl Consumer {
 }
 
 impl Receiver {
-    /// Waits for a message as a task, and copies it into a buffer. A transmission wakes the task. Otherwise the call is
-    /// the same as [`recv`](Receiver::recv) without a deadline.
+    /// Waits in a task for a message, and copies the message into a buffer. A transmission wakes the task. Otherwise
+    /// the call is the same as [`recv`](Receiver::recv) without a deadline.
     pub async fn recv_async<'a>(&mut self, buffer: &'a mut [u8]) -> Result<Message<'a>, WaitError> {
         let bed = self.bed();
         let (type_id, len) = until_woken(&bed, || {
