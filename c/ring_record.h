@@ -4,7 +4,8 @@
  * calls in the log. After all threads have ended, ring_record_write writes the logs into a file, one after another. A
  * message is named by its producer, by a number that the producer gave to the call, and by a checksum of its bytes.
  * ring_record_sum returns such a checksum. A call that is tried again may keep its number. Note each refusal with this
- * number, and then the call that was accepted.
+ * number, and then the call that was accepted. In a run of a broadcast buffer, a message is named by its number alone.
+ * The first message that was transmitted is message 0.
  *
  * docs/CHECKING.md shows a whole program. This header needs no other header of felter. */
 #ifndef RING_RECORD_H
@@ -17,9 +18,21 @@
 #include <stdlib.h>
 
 /* The kinds of lines of a log. A line says that a call of a producer was accepted, that such a call was refused, that
- * the consumer was shown a message, or that the consumer found nothing after all producers had returned. */
-enum ring_record_kind { RING_RECORD_SENT, RING_RECORD_REFUSED, RING_RECORD_GOT, RING_RECORD_NOTHING };
+ * the consumer was shown a message, or that the consumer found nothing after all producers had returned. In a run of a
+ * broadcast buffer a line says that a message was transmitted, that a receiver was given a copy, that a receiver was
+ * lapped, or that a receiver found nothing after the transmitter had returned. */
+enum ring_record_kind {
+    RING_RECORD_SENT,
+    RING_RECORD_REFUSED,
+    RING_RECORD_GOT,
+    RING_RECORD_NOTHING,
+    RING_RECORD_TRANSMITTED,
+    RING_RECORD_RECEIVED,
+    RING_RECORD_LAPPED,
+    RING_RECORD_CAUGHT_UP
+};
 
+/* `producer` is the receiver in a line of a receiver, and `number` is its lapped count in a line about a lap. */
 typedef struct ring_record_line {
     uint64_t number, body;
     uint16_t producer;
@@ -75,6 +88,26 @@ static inline void ring_record_nothing(ring_record_log *log) {
     ring_record_note(log, RING_RECORD_NOTHING, 0, 0, 0);
 }
 
+/* Notes that a message was transmitted. `number` is how many messages were transmitted before. */
+static inline void ring_record_transmitted(ring_record_log *log, uint64_t number, uint64_t body) {
+    ring_record_note(log, RING_RECORD_TRANSMITTED, 0, number, body);
+}
+
+/* Notes that a receiver was given a copy of a message. */
+static inline void ring_record_received(ring_record_log *log, uint16_t receiver, uint64_t number, uint64_t body) {
+    ring_record_note(log, RING_RECORD_RECEIVED, receiver, number, body);
+}
+
+/* Notes that a receiver was lapped. `count` is how often this has happened by now. */
+static inline void ring_record_lapped(ring_record_log *log, uint16_t receiver, uint64_t count) {
+    ring_record_note(log, RING_RECORD_LAPPED, receiver, count, 0);
+}
+
+/* Notes that a receiver found nothing, although the transmitter had returned before the receiver looked. */
+static inline void ring_record_caught_up(ring_record_log *log, uint16_t receiver) {
+    ring_record_note(log, RING_RECORD_CAUGHT_UP, receiver, 0, 0);
+}
+
 /* Returns a checksum of these bytes: FNV-1a of 64 bits. */
 static inline uint64_t ring_record_sum(const void *bytes, size_t length) {
     const unsigned char *at = (const unsigned char *)bytes;
@@ -83,22 +116,37 @@ static inline uint64_t ring_record_sum(const void *bytes, size_t length) {
     return sum;
 }
 
-/* Writes the logs as a run of a queue. Returns 0, or -1 if a write failed or a log is short. */
-static inline int ring_record_write(FILE *file, const ring_record_log *logs, size_t count) {
-    static const char *const words[] = {"sent", "refused", "got", "empty"};
-    if (fputs("queue\n", file) < 0) return -1;
+static inline int ring_record_write_line(FILE *file, const ring_record_line *it) {
+    static const char *const words[] = {"sent", "refused", "got", "", "", "received"};
+    unsigned client = it->producer;
+    switch (it->kind) {
+    case RING_RECORD_NOTHING: return fprintf(file, "empty\n");
+    case RING_RECORD_TRANSMITTED: return fprintf(file, "transmitted %" PRIu64 " %" PRIu64 "\n", it->number, it->body);
+    case RING_RECORD_LAPPED: return fprintf(file, "lapped %u %" PRIu64 "\n", client, it->number);
+    case RING_RECORD_CAUGHT_UP: return fprintf(file, "empty %u\n", client);
+    default: return fprintf(file, "%s %u %" PRIu64 " %" PRIu64 "\n", words[it->kind], client, it->number, it->body);
+    }
+}
+
+static inline int ring_record_write_as(FILE *file, const char *what, const ring_record_log *logs, size_t count) {
+    if (fprintf(file, "%s\n", what) < 0) return -1;
     for (size_t i = 0; i < count; i++) {
         if (logs[i].is_short) return -1;
-        for (size_t j = 0; j < logs[i].count; j++) {
-            const ring_record_line *it = &logs[i].lines[j];
-            int written = it->kind == RING_RECORD_NOTHING
-                              ? fprintf(file, "empty\n")
-                              : fprintf(file, "%s %u %" PRIu64 " %" PRIu64 "\n", words[it->kind],
-                                        (unsigned)it->producer, it->number, it->body);
-            if (written < 0) return -1;
-        }
+        for (size_t j = 0; j < logs[i].count; j++)
+            if (ring_record_write_line(file, &logs[i].lines[j]) < 0) return -1;
     }
     return fflush(file) == 0 ? 0 : -1;
+}
+
+/* Writes the logs as a run of a queue. Returns 0, or -1 if a write failed or a log is short. */
+static inline int ring_record_write(FILE *file, const ring_record_log *logs, size_t count) {
+    return ring_record_write_as(file, "queue", logs, count);
+}
+
+/* Writes the logs of the transmitter and of the receivers as a run of a broadcast buffer. Returns 0, or -1 if a write
+ * failed or a log is short. */
+static inline int ring_record_write_broadcast(FILE *file, const ring_record_log *logs, size_t count) {
+    return ring_record_write_as(file, "broadcast", logs, count);
 }
 
 /* Frees the memory of a log, and empties the log. */

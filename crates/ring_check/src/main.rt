@@ -6,12 +6,14 @@ mod fault;
 mod help;
 mod options;
 mod report;
-mod why;
+mod why_broadcast;
+mod why_queue;
 
 use fault::CheckFault;
 use options::{Format, Options};
 use report::Report;
-use ring_judge::{Verdict, judge_queue, parse_queue};
+use ring_judge::{Kind, judge_broadcast, judge_queue, kind_of, parse_broadcast, parse_queue};
+use std::alloc::Global;
 use std::env::Env;
 use std::io::{ErrorKind, Input, Read};
 use std::process::ExitCode;
@@ -68,12 +70,7 @@ fn judge_file<'a, R: AllocGlobal + Files + Input + Print>(
 ) -> Result<ExitCode, CheckFault<'a>> {
     let alloc = rt.alloc();
     let text = bytes_of(rt, options.file)?;
-    let lines = match parse_queue(alloc, text.as_slice()) {
-        Ok(lines) => lines,
-        Err(bad) => return Err(CheckFault::of_line(options.file, bad)),
-    };
-    let verdict = judge_queue(alloc, lines.as_slice())?;
-    let report = Report::of(alloc, text.as_slice(), lines.as_slice(), verdict)?;
+    let report = report_of(alloc, text.as_slice(), options.file)?;
     let printed = match options.format {
         Format::Table => report.to_table(alloc)?,
         Format::Json => report.to_json(alloc, options.file)?,
@@ -81,10 +78,44 @@ fn judge_file<'a, R: AllocGlobal + Files + Input + Print>(
     if rt.print(printed.as_str()).is_err() {
         return Err(CheckFault::OutputUnwritten);
     }
-    Ok(match verdict {
-        Verdict::Yes => ExitCode::SUCCESS,
-        Verdict::No(_) => ExitCode::FAILURE,
+    Ok(if report.is_yes() {
+        ExitCode::SUCCESS
+    } else {
+        ExitCode::FAILURE
     })
+}
+
+/// Judges the run in the text of a file.
+fn report_of<'a>(alloc: Global, text: &[u8], file: &'a str) -> Result<Report, CheckFault<'a>> {
+    match kind_of(text) {
+        Ok(Kind::Queue) => queue_report(alloc, text, file),
+        Ok(Kind::Broadcast) => broadcast_report(alloc, text, file),
+        Err(bad) => Err(CheckFault::of_line(file, bad)),
+    }
+}
+
+/// Judges the run of a queue.
+fn queue_report<'a>(alloc: Global, text: &[u8], file: &'a str) -> Result<Report, CheckFault<'a>> {
+    let lines = match parse_queue(alloc, text) {
+        Ok(lines) => lines,
+        Err(bad) => return Err(CheckFault::of_line(file, bad)),
+    };
+    let verdict = judge_queue(alloc, lines.as_slice())?;
+    Ok(Report::of_queue(alloc, text, lines.as_slice(), verdict)?)
+}
+
+/// Judges the run of a broadcast buffer.
+fn broadcast_report<'a>(
+    alloc: Global,
+    text: &[u8],
+    file: &'a str,
+) -> Result<Report, CheckFault<'a>> {
+    let lines = match parse_broadcast(alloc, text) {
+        Ok(lines) => lines,
+        Err(bad) => return Err(CheckFault::of_line(file, bad)),
+    };
+    let verdict = judge_broadcast(alloc, lines.as_slice())?;
+    Ok(Report::of_broadcast(alloc, text, lines.as_slice(), verdict)?)
 }
 
 /// Returns the bytes of a file. The name `-` is standard input.

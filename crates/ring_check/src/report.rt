@@ -1,16 +1,23 @@
 //! A verdict with the counts of the run, as a table and as JSON.
-use crate::why::reason;
-use ring_judge::{QueueLine, Verdict};
+use crate::{why_broadcast, why_queue};
+use ring_judge::{BroadcastLine, QueueLine, ReceiverEvent, Verdict};
 use serde_json::{Map, Value, put};
 use std::alloc::{AllocError, Global};
 use std::fmt::Write;
 
 /// The number of lines of each kind in a run.
 #[derive(Clone, Copy)]
-struct Counts {
-    sent: u64,
-    refused: u64,
-    shown: u64,
+enum Counts {
+    Queue {
+        sent: u64,
+        refused: u64,
+        shown: u64,
+    },
+    Broadcast {
+        transmitted: u64,
+        received: u64,
+        lapped: u64,
+    },
 }
 
 /// A line that no history explains.
@@ -29,21 +36,47 @@ pub struct Report {
     unexplained: Option<Unexplained>,
 }
 
-fn counts_of(lines: &[QueueLine]) -> Counts {
-    let mut counts = Counts {
-        sent: 0,
-        refused: 0,
-        shown: 0,
-    };
+/// How many messages of a queue were sent, refused and shown.
+fn queue_counts(lines: &[QueueLine]) -> Counts {
+    let mut sent: u64 = 0;
+    let mut refused: u64 = 0;
+    let mut shown: u64 = 0;
     for line in lines {
         match line {
-            QueueLine::Sent(_) => counts.sent = counts.sent.saturating_add(1),
-            QueueLine::Refused(_) => counts.refused = counts.refused.saturating_add(1),
-            QueueLine::Got(_) => counts.shown = counts.shown.saturating_add(1),
+            QueueLine::Sent(_) => sent = sent.saturating_add(1),
+            QueueLine::Refused(_) => refused = refused.saturating_add(1),
+            QueueLine::Got(_) => shown = shown.saturating_add(1),
             QueueLine::Empty | QueueLine::Blank => {}
         }
     }
-    counts
+    Counts::Queue {
+        sent,
+        refused,
+        shown,
+    }
+}
+
+/// How many messages were transmitted, how many copies receivers were given, and how often they noted a lap.
+fn broadcast_counts(lines: &[BroadcastLine]) -> Counts {
+    let mut transmitted: u64 = 0;
+    let mut received: u64 = 0;
+    let mut lapped: u64 = 0;
+    for line in lines {
+        match line {
+            BroadcastLine::Transmitted(_) => transmitted = transmitted.saturating_add(1),
+            BroadcastLine::Receiver(_, ReceiverEvent::Copied(_)) => received =
+                received.saturating_add(1),
+            BroadcastLine::Receiver(_, ReceiverEvent::Lapped(_)) => lapped = lapped.saturating_add(
+                1,
+            ),
+            BroadcastLine::Receiver(_, ReceiverEvent::Empty) | BroadcastLine::Blank => {}
+        }
+    }
+    Counts::Broadcast {
+        transmitted,
+        received,
+        lapped,
+    }
 }
 
 /// Returns the text of the line at this index.
@@ -56,9 +89,20 @@ fn text_of(alloc: Global, text: &[u8], at: usize) -> Result<String, AllocError> 
     Ok(String::new(alloc))
 }
 
+impl Unexplained {
+    /// The line at this index of a text.
+    fn at(alloc: Global, text: &[u8], at: usize, reason: String) -> Result<Self, AllocError> {
+        Ok(Unexplained {
+            line: (at as u64).saturating_add(1),
+            text: text_of(alloc, text, at)?,
+            reason,
+        })
+    }
+}
+
 impl Report {
-    /// Returns the report of a run, from its text, its lines and the verdict.
-    pub fn of(
+    /// Returns the report of a run of a queue, from its text, its lines and the verdict.
+    pub fn of_queue(
         alloc: Global,
         text: &[u8],
         lines: &[QueueLine],
@@ -66,19 +110,43 @@ impl Report {
     ) -> Result<Self, AllocError> {
         let unexplained = match verdict {
             Verdict::Yes => None,
-            Verdict::No(at) => Some(Unexplained {
-                line: (at as u64).saturating_add(1),
-                text: text_of(alloc, text, at)?,
-                reason: reason(alloc, lines, at)?,
-            }),
+            Verdict::No(at) => {
+                let reason = why_queue::reason(alloc, lines, at)?;
+                Some(Unexplained::at(alloc, text, at, reason)?)
+            }
         };
         Ok(Report {
-            counts: counts_of(lines),
+            counts: queue_counts(lines),
             unexplained,
         })
     }
 
-    /// Returns a table with the verdict, and with how many messages were sent, refused and shown.
+    /// Returns the report of a run of a broadcast buffer, from its text, its lines and the verdict.
+    pub fn of_broadcast(
+        alloc: Global,
+        text: &[u8],
+        lines: &[BroadcastLine],
+        verdict: Verdict,
+    ) -> Result<Self, AllocError> {
+        let unexplained = match verdict {
+            Verdict::Yes => None,
+            Verdict::No(at) => {
+                let reason = why_broadcast::reason(alloc, lines, at)?;
+                Some(Unexplained::at(alloc, text, at, reason)?)
+            }
+        };
+        Ok(Report {
+            counts: broadcast_counts(lines),
+            unexplained,
+        })
+    }
+
+    /// Tests whether the verdict is yes.
+    pub fn is_yes(&self) -> bool {
+        self.unexplained.is_none()
+    }
+
+    /// Returns a table with the verdict, and with the number of lines of each kind.
     pub fn to_table(&self, alloc: Global) -> Result<String, AllocError> {
         let mut text = String::new(alloc);
         match &self.unexplained {
@@ -94,26 +162,31 @@ impl Report {
                 "no: no history explains line {line}: {its_text}\n{reason}\n"
             )?,
         }
-        let Counts {
-            sent,
-            refused,
-            shown,
-        } = self.counts;
-        write!(
-            text,
-            "queue  sent {sent}  refused {refused}  shown {shown}\n"
-        )?;
+        match self.counts {
+            Counts::Queue {
+                sent,
+                refused,
+                shown,
+            } => write!(
+                text,
+                "queue  sent {sent}  refused {refused}  shown {shown}\n"
+            )?,
+            Counts::Broadcast {
+                transmitted,
+                received,
+                lapped,
+            } => write!(
+                text,
+                "broadcast  transmitted {transmitted}  received {received}  lapped {lapped}\n"
+            )?,
+        }
         Ok(text)
     }
 
     /// Returns the same report as an object of JSON. `line`, `text` and `reason` are `null` after a yes.
     pub fn to_json(&self, alloc: Global, file: &str) -> Result<String, AllocError> {
         let mut object = Map::new(alloc);
-        let verdict = if self.unexplained.is_none() {
-            "yes"
-        } else {
-            "no"
-        };
+        let verdict = if self.is_yes() { "yes" } else { "no" };
         put(
             &mut object,
             alloc,
@@ -137,14 +210,26 @@ impl Report {
         put(&mut object, alloc, "line", line)?;
         put(&mut object, alloc, "text", text)?;
         put(&mut object, alloc, "reason", reason)?;
-        put(&mut object, alloc, "sent", Value::from(self.counts.sent))?;
-        put(
-            &mut object,
-            alloc,
-            "refused",
-            Value::from(self.counts.refused),
-        )?;
-        put(&mut object, alloc, "shown", Value::from(self.counts.shown))?;
+        match self.counts {
+            Counts::Queue {
+                sent,
+                refused,
+                shown,
+            } => {
+                put(&mut object, alloc, "sent", Value::from(sent))?;
+                put(&mut object, alloc, "refused", Value::from(refused))?;
+                put(&mut object, alloc, "shown", Value::from(shown))?;
+            }
+            Counts::Broadcast {
+                transmitted,
+                received,
+                lapped,
+            } => {
+                put(&mut object, alloc, "transmitted", Value::from(transmitted))?;
+                put(&mut object, alloc, "received", Value::from(received))?;
+                put(&mut object, alloc, "lapped", Value::from(lapped))?;
+            }
+        }
         let mut text = Value::from(object).to_string_pretty(alloc)?;
         text.push('\n')?;
         Ok(text)

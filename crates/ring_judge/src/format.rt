@@ -1,9 +1,13 @@
 //! The text of a recorded run.
 
+pub mod broadcast_text;
 pub mod fault;
+pub mod kind;
 pub mod numbers;
 pub mod queue_text;
 pub mod words;
 
+pub use broadcast_text::parse_broadcast;
 pub use fault::{BadLine, LineFault};
+pub use kind::{Kind, kind_of};
 pub use queue_text::parse_queue;

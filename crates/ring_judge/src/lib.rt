@@ -1,12 +1,14 @@
 //! Judges recorded runs of rings and queues: whether some history of messages explains what each thread recorded.
 #![tactic(auto)]
 
+pub mod broadcast;
 pub mod format;
 pub mod message;
 pub mod queue;
 pub mod verdict;
 
-pub use format::{BadLine, LineFault, parse_queue};
+pub use broadcast::{BroadcastLine, MessageCopy, ReceiverEvent, judge_broadcast};
+pub use format::{BadLine, Kind, LineFault, kind_of, parse_broadcast, parse_queue};
 pub use message::Message;
 pub use queue::{QueueLine, judge_queue};
 pub use verdict::Verdict;

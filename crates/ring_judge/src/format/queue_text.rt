@@ -1,6 +1,7 @@
 //! The text of a recorded run of a queue.
 
 use crate::format::fault::{BadLine, LineFault};
+use crate::format::kind::{Kind, kind_in};
 use crate::format::words::Words;
 use crate::message::Message;
 use crate::queue::QueueLine;
@@ -51,11 +52,10 @@ fn push_line(
 
 /// Tests whether a line says that a queue was recorded: otherwise it is empty, or a comment.
 fn is_kind(line: &[u8]) -> Result<bool, LineFault> {
-    let mut words = Words::of(line);
-    match words.next_word() {
-        None | Some([b'#', ..]) => Ok(false),
-        Some(b"queue") => words.end().map(|_| true),
-        Some(_) => Err(LineFault::NoKind),
+    match kind_in(line)? {
+        None => Ok(false),
+        Some(Kind::Queue) => Ok(true),
+        Some(Kind::Broadcast) => Err(LineFault::NoKind),
     }
 }
 
@@ -76,7 +76,7 @@ fn line_of(line: &[u8]) -> Result<QueueLine, LineFault> {
 fn message_of(words: Words<'_>) -> Result<Message, LineFault> {
     let mut words = words;
     let message = Message {
-        producer: words.producer()?,
+        producer: words.client()?,
         number: words.number()?,
         body: words.number_or_zero()?,
     };

@@ -39,8 +39,8 @@ impl<'a> Words<'a> {
         }
     }
 
-    /// Takes the number of a producer.
-    pub fn producer(&mut self) -> Result<u16, LineFault> {
+    /// Takes the number of a producer or of a receiver.
+    pub fn client(&mut self) -> Result<u16, LineFault> {
         let number = self.number()?;
         u16::try_from(number).map_err(|_too_large| LineFault::TooLarge)
     }

@@ -1,4 +1,4 @@
-//! The reasons, in words, why a line cannot be.
+//! The reasons, in words, why a line of a queue cannot be.
 use ring_judge::{Message, QueueLine};
 use std::alloc::{AllocError, Global};
 
