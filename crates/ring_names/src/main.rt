@@ -9,18 +9,30 @@ mod places;
 mod sharing;
 mod solo;
 
-fn main(rt: HostRuntime) -> anyhow::Result<()> {
-    println!(rt; "ring_layout: {:?}", places::words())?;
-    println!(rt; "ring_layout: {:?}", places::descriptors())?;
-    println!(rt; "ring_words: {:?}", solo::run(rt.alloc())?)?;
-    println!(rt; "ring_rings: {:?}", sharing::one_to_one(rt.alloc())?)?;
-    println!(rt; "ring_rings: {:?}", sharing::many_to_one(&rt, rt.alloc())?)?;
-    println!(rt; "ring_rings: {}", sharing::refused(rt.alloc())?)?;
-    println!(rt; "ring_board: {:?}", boards::copied(rt.alloc())?)?;
-    println!(rt; "ring_board: {:?}", boards::raw(rt.alloc())?)?;
-    println!(rt; "ring_counters: {:?}", counting::run(rt.alloc())?)?;
-    println!(rt; "ring_conductor: {:?}", commands::codec())?;
-    println!(rt; "ring_conductor: {:?}", commands::conductor(rt.alloc())?)?;
-    println!(rt; "ring_conductor: {:?}", clients::storm(&rt, rt.alloc())?)?;
+use std::fmt;
+
+/// Prints what came of the names of a library, or returns the error.
+fn say(
+    rt: &impl Print,
+    library: &str,
+    came: anyhow::Result<impl fmt::Debug + Drop>,
+) -> anyhow::Result<()> {
+    let came = came?;
+    println!(rt; "{library}: {came:?}")?;
     Ok(())
+}
+
+fn main(rt: HostRuntime) -> anyhow::Result<()> {
+    say(&rt, "ring_layout", Ok(places::words()))?;
+    say(&rt, "ring_layout", Ok(places::descriptors()))?;
+    say(&rt, "ring_words", solo::run(rt.alloc()))?;
+    say(&rt, "ring_rings", sharing::one_to_one(rt.alloc()))?;
+    say(&rt, "ring_rings", sharing::many_to_one(&rt, rt.alloc()))?;
+    say(&rt, "ring_rings", sharing::refused(rt.alloc()))?;
+    say(&rt, "ring_board", boards::copied(rt.alloc()))?;
+    say(&rt, "ring_board", boards::raw(rt.alloc()))?;
+    say(&rt, "ring_counters", counting::run(rt.alloc()))?;
+    say(&rt, "ring_conductor", Ok(commands::codec()))?;
+    say(&rt, "ring_conductor", commands::conductor(rt.alloc()))?;
+    say(&rt, "ring_conductor", clients::storm(&rt, rt.alloc()))
 }
