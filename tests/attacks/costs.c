@@ -2,8 +2,8 @@
  * and says what each took of the processor. The status is 1 if a row took more than ten times as long for four times as
  * much: what grows with the square takes sixteen times as long, and caches that others fill do not make ten of four.
  *
- * The rows of the second table do the same work on messages with records of 2 KiB, and then of 2 MiB. None of their
- * bytes is wanted. The status is 1 if the long messages took more than ten times as long as the short ones. */
+ * The rows of the second table do the same work on messages with records of 2 KiB, and then of 2 MiB. No call needs
+ * their bytes. The status is 1 if the long messages took more than ten times as long as the short ones. */
 #include "felter.h"
 
 #include <stdio.h>
@@ -177,7 +177,7 @@ static double counters(uint32_t n) {
 /* Records of these lengths leave no padding at the end of the buffer, which a read would clear word by word. */
 #define SHORT_BODY ((1 << 11) - 8)
 #define LONG_BODY ((1 << 21) - 8)
-/* A ring of 16 MiB has room for so many of the long ones. */
+/* A ring of 16 MiB has room for 8 of the long ones. */
 #define MESSAGES_AT_ONCE 6
 
 static void write_messages(size_t len) {
@@ -185,7 +185,7 @@ static void write_messages(size_t len) {
     for (int i = 0; i < MESSAGES_AT_ONCE; i++) MUST(felter_write(&producer, 1, body, len));
 }
 
-/* Each row of messages: 120 calls or more that want no byte of a message of this length. */
+/* Each row of messages: 120 calls or more that copy no byte of a message of this length. */
 static double messages_taken(size_t len) {
     double took = 0;
     make();

@@ -30,7 +30,7 @@ pub enum Answer {
     Holds(u32, u64),
 }
 
-/// Sums up what it is shown, and answers at random. It wants no bytes of messages of some lengths.
+/// Sums up what it is shown, and answers at random. It needs no bytes of messages of some lengths.
 #[derive(Drop)]
 struct Summer {
     dice: Dice,

@@ -38,7 +38,7 @@ pub struct Play<'a> {
     pub calls: &'a [(Call<'a>, Said)],
     /// All messages that are shown.
     pub shown: &'a [Message<'a>],
-    /// The handler wants the bytes of messages up to this length.
+    /// The handler needs the bytes of messages up to this length.
     pub longest: usize,
     /// Head and tail at the end.
     pub ends: (u64, u64),

@@ -7,7 +7,7 @@ pub const BODY: [u8; 16] = [0, 1, 2, 3, 4, 5, 6, 7, 8, 9, 10, 11, 12, 13, 14, 15
 pub type Message<'a> = (i32, &'a [u8]);
 
 /// Compares the messages that it is shown with those that it expects, and replies by a script. After the script
-/// it goes on. It wants the bytes of messages up to a length, and decides on longer ones by their headers.
+/// it goes on. It needs the bytes of messages up to a length, and decides on longer ones by their headers.
 #[derive(Drop)]
 pub struct Script<'a> {
     actions: &'a [Action],
@@ -22,7 +22,7 @@ impl<'a> Script<'a> {
         Script::up_to(actions, expected, usize::MAX)
     }
 
-    /// One that wants the bytes of messages up to this length.
+    /// One that needs the bytes of messages up to this length.
     pub fn up_to(actions: &'a [Action], expected: &'a [Message<'a>], longest: usize) -> Self {
         Script {
             actions,

@@ -20,8 +20,8 @@ pub trait Handler {
         ensures step { step self.old (record { type_id = type_id; body = body.now }) self.new result };
 
     /// Decides on a message by its type id and its length, before any byte of it is copied. Returns what the read does
-    /// next, or `None` if the handler wants the bytes: then nothing has changed, and a call of `on_message` follows. The
-    /// default wants the bytes of every message.
+    /// next, or `None` if the handler needs the bytes: then nothing has changed, and a call of `on_message` follows. The
+    /// default needs the bytes of every message.
     ///
     /// A shared ring makes this call first. A ring of one owner makes no such call.
     fn on_header(&mut self, type_id: i32, len: usize) -> Option<Action>
