@@ -2,8 +2,8 @@
  * and says what each took of the processor. The status is 1 if a row took more than ten times as long for four times as
  * much: what grows with the square takes sixteen times as long, and caches that others fill do not make ten of four.
  *
- * The rows of the second table do the same work on messages with records of 2 KiB, and then of 2 MiB. None of their
- * bytes is wanted. The status is 1 if the long messages took more than ten times as long as the short ones. */
+ * The rows of the second table do the same work on messages with records of 2 KiB, and then of 2 MiB. No call needs
+ * their bytes. The status is 1 if the long messages took more than ten times as long as the short ones. */
 #include "felter.h"
 
 #include <stdio.h>
