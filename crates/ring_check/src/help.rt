@@ -11,20 +11,22 @@ pub static FILE: &str = "The file with the run; `-` is standard input";
 pub static JSON: &str = "Print an object of JSON";
 
 pub static AFTER: &str = "\
-A run is a text. Its first line says what was recorded; a line that is empty or begins with # says nothing:
+A run is a text. Its first line says what was recorded. A line that is empty or begins with # is skipped:
 
-  queue                  messages alone, of a queue with any number of producers and one consumer
-  sent P N [BODY]        call N of producer P was accepted; BODY is a checksum of its bytes
-  refused P N [BODY]     it was refused, or its claim was aborted
-  got P N [BODY]         the consumer was shown this message
+  queue                  the run is of a queue with any number of producers and one consumer
+  sent P N [BODY]        call N of producer P was accepted, and BODY is a checksum of its bytes
+  refused P N [BODY]     call N of producer P was refused, or its claim was aborted
+  got P N [BODY]         the consumer was shown the message of call N of producer P
   empty                  all producers had returned, and the consumer found nothing more
 
-Numbers are decimal: P is at most 65535, N and BODY at most 18446744073709551615. Lines of one producer are in the order
-of its calls, and those of the consumer in the order in which messages were shown. Lines of different threads may be in
-any order: a file may have one thread's lines after another's.
+Numbers are decimal. P is at most 65535. N and BODY are at most 18446744073709551615. The lines of one producer are in
+the order of its calls. The lines of the consumer are in the order in which messages were shown. The lines of different
+threads may be in any order. For example, a file may have one thread's lines after another's.
 
-The verdict is yes if some order of the accepted messages, in which those of each producer are in the order of its
-calls, begins with the messages that were shown, and ends with the last of them if a line `empty` says so. Otherwise it
-is no, with the first line of the consumer that no such order explains.
+The verdict is yes if there is an order of the accepted messages that explains the run. In this order the messages of
+each producer are in the order of its calls. The order begins with the messages that were shown. If there is a line
+`empty`, no further message follows them. Otherwise the verdict is no, with the first line of the consumer that no such
+order explains.
 
-Status: 0 for a yes, 1 for a no, 2 if the command line was refused, or if the file cannot be read or is no run.";
+The status is 0 for a yes and 1 for a no. It is 2 if the command line was refused, the file cannot be read, or the file
+is not a run.";
