@@ -65,25 +65,31 @@ def used_columns(head, lines):
 def gated(it):
     """How sets were gated, or that they were not."""
     if not it.get("gated"):
-        return " The sets were not gated by the speed of the processors, so rows may be off by a third or more."
+        return (" The sets were not gated: they count every measurement, even if a processor was slow. So a row may be "
+                "off by a third or more.")
     best, two = ", ".join(f"{best:.3f}" for best in it["best"]), it["processors"][:2]
     shares = any(set(two) <= set(core) for core in it["shared_cores"])
     where = "which share a core" if shares else "on cores of their own"
     return (f" Two threads had the processors {two[0]} and {two[1]}, {where}. An add took {best} ns at best in each "
-            f"set, and at most {it['margin']:.0%} more beside each "
-            f"measurement; {sum(it['repeated'])} tries did not count.")
+            f"set. Beside each measurement an add took at most {it['margin']:.0%} more. "
+            f"{sum(it['repeated'])} tries did not count.")
 
 
 def about(run, what):
+    """On which machine and how `what` was measured, and what else the machine did meanwhile."""
     it = run.about
-    others = ", ".join(f"{median:g} and {worst:g}" for median, worst in it["others"])
-    steal = ", ".join(f"{median:g} and {worst:g}" for median, worst in it["steal"])
     sets = f"{it['sets']} sets" if it["sets"] > 1 else "one set"
-    fifo = ", with `--fifo`" if it["fifo"] else ""
-    said = (f"{what}: {it['cpu']}, {it['cores']} processors, a virtual machine, Linux {it['kernel']}; {sets} of "
-             f"{it['reps']} rounds{fifo}; twins: {it['twins']}. Other programs used this many processors, in the "
-             f"median and at worst, set by set: {others}. The host took this many: {steal}." + gated(it))
-    return textwrap.fill(said, 120).split("\n")
+    fifo = " With `--fifo`, the programs had priority over all ordinary programs." if it["fifo"] else ""
+    said = (f"{what} measured on a virtual machine with {it['cores']} processors ({it['cpu']}) and Linux "
+            f"{it['kernel']}, in {sets} of {it['reps']} rounds.{fifo} The twins were {it['twins']}." + gated(it))
+    yield from textwrap.fill(said, 120).split("\n")
+    yield ""
+    yield "Meanwhile other programs and the host of the machine used these numbers of processors:"
+    yield ""
+    rows = [("other programs, median", "others", 0), ("other programs, at worst", "others", 1),
+            ("the host, median", "steal", 0), ("the host, at worst", "steal", 1)]
+    yield from table(["", *(f"set {number}" for number in range(1, it["sets"] + 1))],
+                     [[label] + [f"{found[at]:g}" for found in it[name]] for label, name, at in rows])
 
 
 def measured(run, rows):
@@ -114,10 +120,10 @@ def user_cells(runs, row):
 
 
 def users(runs):
-    yield from about(runs["sets"], "Ours" if "queues" in runs else "Measured on")
+    yield from about(runs["sets"], "Our programs and the twins were" if "queues" in runs else "All programs were")
     yield ""
     if "queues" in runs:
-        yield from about(runs["queues"], "Queues")
+        yield from about(runs["queues"], "The queues were")
         yield ""
     head = ["times `ar`", "ours, ns", "ours", "ours, bodies in words", *(title for _, title in USER_QUEUES)]
     lines = [user_cells(runs, row) for row in USER_ROWS]
@@ -196,9 +202,10 @@ def all_rows(runs):
     """RESULTS.md: every row, set by set."""
     yield "# All rows"
     yield ""
-    yield "Written by `bench/page.py` from `bench/results.json`; [PERFORMANCE.md](../docs/PERFORMANCE.md) is the page."
+    yield "`bench/page.py` writes this page from `bench/results.json`."
+    yield "[PERFORMANCE.md](../docs/PERFORMANCE.md) says what the figures mean."
     yield ""
-    yield from about(runs["sets"], "Machine")
+    yield from about(runs["sets"], "These rows were")
     yield ""
     for title, rows in SECTIONS:
         yield "## " + title
@@ -210,7 +217,7 @@ def all_rows(runs):
     yield ""
     run = runs.get("felter", runs["sets"])
     if run is not runs["sets"]:
-        yield from about(run, "Machine")
+        yield from about(run, "These rows were")
         yield ""
     yield from table(["", "from C", "in Rattle", "from C / in Rattle", "from C / `sc`", "from C / `ar`"],
                      [c_cells(run, row) for row in measured(run, C_ROWS)])

@@ -117,7 +117,7 @@ C_ROWS = (
 # The same in a table by length.
 C_LENGTH_ROWS = tuple((f"plain many-to-one, {threads}, {said}", workload, f"felter-m2o{ending}", "plain-m2o", SIZES)
                       for threads, workload in (("one thread", "batches"), ("two threads", "pair"))
-                      for said, ending in (("one message a read", ""), ("read in batches", "-batch")))
+                      for said, ending in (("one message in each read", ""), ("read in batches", "-batch")))
 
 # Curves: of each picture what it shows, and its panels, (title, what x is, ticks, lines), a line being (name, colour,
 # dash, [(x, key)]).

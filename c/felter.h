@@ -169,8 +169,9 @@ int32_t felter_capacity(felter_handle *handle, uint32_t *capacity, uint32_t *lon
 
 /* Each call that makes a structure has two forms. The form whose name ends in _numbered is a function of the library,
  * and takes a number. The form without that ending is inline, and draws the next number of a count that all threads
- * share: 1, 2, 3, .. No two rings, boards, sets of counters or conductors that exist at the same time may have the same
- * number. A program must ensure this itself if several languages in its process make structures. */
+ * share. The numbers are 1, 2, 3 and so on. No two rings, boards, sets of counters or conductors that exist at the same
+ * time may have the same number. A program must ensure this itself if several languages in its process make
+ * structures. */
 
 /* Rings ---------------------------------------------------------------------------------------------------------- */
 
@@ -290,8 +291,8 @@ int32_t felter_read_batch(felter_consumer *consumer, uint32_t limit, uint32_t *c
 enum felter_found {
     FELTER_FOUND_MESSAGE = 0, /* a message, which felter_read takes */
     FELTER_FOUND_NONE = 1,    /* nothing is claimed after the head */
-    FELTER_FOUND_CLAIM = 2,   /* a claim that is not settled yet: its producer is slow, or lost */
-    FELTER_FOUND_CHANGE = 3   /* something changed meanwhile: call again */
+    FELTER_FOUND_CLAIM = 2,   /* a claim that is not settled yet, since its producer is slow or lost */
+    FELTER_FOUND_CHANGE = 3   /* something changed meanwhile, so call again */
 };
 
 /* Writes what the consumer finds next (enum felter_found), and the position of the head. If a claim is next, the head
@@ -357,9 +358,9 @@ int32_t felter_lapped_count(felter_receiver *receiver, uint64_t *count);
 
 /* Writes the position at which the next call looks for a message. */
 int32_t felter_receiver_place(felter_receiver *receiver, uint64_t *place);
-/* Writes the place of the receiver when it was lapped last, and the intent that showed the lap. The intent is the
- * position up to which the transmitter had begun to write. Right after the lap, felter_receiver_place minus this place
- * is the number of bytes that the receiver missed. Codes: FELTER_NO_MESSAGE if the receiver was never lapped. */
+/* Writes the place of the receiver when it was lapped last, and the intent that showed this. The intent is the position
+ * up to which the transmitter had begun to write. Right after FELTER_LAPPED, felter_receiver_place minus this place is
+ * the number of bytes that the receiver missed. Codes: FELTER_NO_MESSAGE if the receiver was never lapped. */
 int32_t felter_receiver_lap(felter_receiver *receiver, uint64_t *place, uint64_t *intent);
 
 /* Makes a raw receiver, which returns each record without its body. Otherwise the call is the same as
@@ -388,7 +389,7 @@ int32_t felter_raw_receiver_lap(felter_raw_receiver *receiver, uint64_t *place, 
 int32_t felter_board_join(felter_transmitter *transmitter, felter_receiver *receiver);
 int32_t felter_board_join_raw(felter_transmitter *transmitter, felter_raw_receiver *receiver);
 /* Ends a board whose receivers of both kinds were all taken back or freed, and empties the transmitter's handle. Writes
- * the tail: the position at which the last transmission ended. Codes:
+ * the tail, which is the position at which the last transmission ended. Codes:
  *   - FELTER_RECEIVERS_OUT if a receiver is still in a handle;
  *   - FELTER_IN_USE if all receivers were taken back, and another handle of the board still exists. This code does not
  *     occur if rule 1 was kept. */
@@ -489,9 +490,9 @@ int32_t felter_conductor_client(felter_conductor *conductor, felter_client *clie
 /* The reasons why felter_conductor_work stops. */
 enum felter_stop {
     FELTER_STOP_LIMIT = 0,       /* `limit` commands were taken */
-    FELTER_STOP_BLOCK = 1,       /* the end of the ring's buffer was reached: the next call goes on after it */
+    FELTER_STOP_BLOCK = 1,       /* the end of the ring's buffer was reached, and the next call goes on after it */
     FELTER_STOP_UNPUBLISHED = 2, /* no further command was there */
-    FELTER_STOP_BOARD_END = 3    /* a reply might end above 2^62 on the board: the command stays, and is not applied */
+    FELTER_STOP_BOARD_END = 3    /* a reply might end above 2^62 on the board; the command stays and is not applied */
 };
 
 /* Takes up to `limit` commands, applies each at the moment `now`, and transmits its reply. Writes how many commands
@@ -566,11 +567,11 @@ int32_t felter_send_close_owner(felter_client *client, uint64_t owner, uint64_t 
 
 /* The kinds of replies. Each number is the type id of the reply's message. */
 enum felter_reply {
-    FELTER_REPLY_ALLOCATED = 101, /* a counter was allocated; the number is its id */
-    FELTER_REPLY_DONE = 102,      /* the counter was freed or set; the number is 0 */
-    FELTER_REPLY_REFUSED = 103,   /* nothing was done; the number is a code of enum felter_code, or 22 if the command
-                                   * could not be read, or 23 if no command has its type id */
-    FELTER_REPLY_CLOSED = 104     /* the owner's counters were freed; the number says how many they were */
+    FELTER_REPLY_ALLOCATED = 101, /* a counter was allocated, and the number is its id */
+    FELTER_REPLY_DONE = 102,      /* the counter was freed or set, and the number is 0 */
+    FELTER_REPLY_REFUSED = 103,   /* nothing was done, and the number is a code of enum felter_code, or 22 if the
+                                   * command could not be read, or 23 if no command has its type id */
+    FELTER_REPLY_CLOSED = 104     /* the owner's counters were freed, and the number says how many they were */
 };
 
 /* Takes the next message of the board, for a caller that waits for the reply to the command with this correlation id.

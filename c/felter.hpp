@@ -7,7 +7,7 @@
 //     std::array<std::uint8_t, 64> room;
 //     if (auto message = ring.consumer.read(room)) use(message->type_id, message->body);
 //
-// The rules of felter.h hold here too: for example, one thread at a time uses a handle. This header is tested and not
+// The rules of felter.h apply here too. For example, one thread at a time uses a handle. This header is tested and not
 // proved.
 #ifndef FELTER_HPP
 #define FELTER_HPP
@@ -207,7 +207,7 @@ inline result<ring> one_to_one(std::uint32_t capacity, std::uint64_t start = 0) 
     return detail::ring_by(felter_one_to_one_new_at, capacity, start);
 }
 
-// The place of a receiver when it was lapped, and the intent that showed the lap.
+// The place of a receiver when it was lapped, and the intent that showed this.
 struct lap {
     std::uint64_t place, intent;
 };
@@ -218,7 +218,7 @@ public:
     result<std::uint64_t> place() {
         return detail::out<std::uint64_t>([&](std::uint64_t *it) { return felter_receiver_place(raw(), it); });
     }
-    // Returns the last lap of the receiver.
+    // Returns the place at which the receiver was lapped last, and the intent.
     result<felter::lap> lap() {
         return detail::out<felter::lap>(
             [&](felter::lap *it) { return felter_receiver_lap(raw(), &it->place, &it->intent); });

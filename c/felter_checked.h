@@ -6,8 +6,8 @@
 #include <stdio.h>
 #include <stdlib.h>
 
-/* An object that a handle owns: its address, and the number of handles that own an object at this address. The number
- * can be 2, because one thread can free an object while another thread makes a new one at the same address. */
+/* An object that a handle owns. It has its address, and the number of handles that own an object at this address. The
+ * number can be 2, because one thread can free an object while another thread makes a new one at the same address. */
 struct felter_owned {
     void *at;
     long count;

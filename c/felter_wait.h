@@ -185,8 +185,8 @@ FELTER_GUARD int32_t felter_receive_asleep(felter_receiver *receiver, felter_sle
  * sends it again while the ring is full or another client is faster. Then the call polls for the reply, and passes over
  * the replies to other commands. So a client has one request at a time.
  *
- * If the conductor overtakes the client, the reply may be lost. Then the call soon sends a second command, which
- * changes nothing: it frees an id that no counter has. Replies to one client come in the order of its commands. So the
+ * If the conductor overtakes the client, the reply may be lost. Then the call soon sends a second command, which frees
+ * an id that no counter has, and so changes nothing. Replies to one client come in the order of its commands. So the
  * reply to the second command shows that the conductor took the first one before.
  */
 

@@ -1,5 +1,5 @@
-# Storms: clients on threads of their own against one conductor. The numbers are the same in every order of the threads.
-# Run it with: ./ring-run --commands 256 examples/storm.ring
+# Storms. Clients on several threads send commands to one conductor. The numbers are the same in every order of the
+# threads. Run it with: ./ring-run --commands 256 examples/storm.ring
 
 # One client sends one command. Its counter is allocated, and its value stays 0.
 storm 1 1

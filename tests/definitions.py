@@ -23,21 +23,24 @@ ROOTS = (
 )
 HEAD = """# What must be read to trust the headline
 
-`tests/cone` writes this page from `specs`, and `tests/documents` compares the two. [READING.md](READING.md) says how to
-read a definition. [HEADLINE.md](HEADLINE.md) says what the contracts of `finish` and `whole_run` state.
-`finish_without` is for a conductor whose producers are lost.
+This page lists the definitions that the contracts of `finish`, `whole_run` and `finish_without` rest on. A contract
+says only what its definitions say. Only a reader can check that the definitions say what they should.
 
-A contract says what its definitions say. Only a reader can check that the definitions say what they should. The crates
-have more than %s definitions in `specs`. The contracts of `finish`, `whole_run` and `finish_without` rest on the
-definitions that are listed below, and on what the next paragraph names. The other definitions do not change what these
-contracts say. A line lists a file and its definitions, in the order in which a reader meets them.
+[HEADLINE](HEADLINE.md) explains the contracts of `finish` and `whole_run`. `finish_without` is for a conductor whose
+producers are lost. [READING](READING.md) says how to read a definition. Each item of the lists names a file and its
+definitions, in the order in which a reader meets them. `tests/cone` writes this page from `specs`, and
+`tests/documents` compares the page with `specs`.
 
-`R.bytes`, `R.start`, `R.is_consumer` and `R.is_producer` in these contracts are members of traits in
-`crates/ring_rings/src/source.rt`. For a ring they are its capacity (`capacity_of`), its start (`start_of`),
-`IsConsumerOf` and `IsProducerOf`. These four are in `crates/ring_rings/specs/Seats.antt`, and are not in the lists. The
-ghost fields of `Producer` and `Consumer` (`crates/ring_rings/src/ring.rt`) are known of every value of these types, and
-must be read too. The same is true of the ghost fields of the other types that are named [at the end](#all-of-them), and
-of the definitions that ghost fields name.
+Some facts are not in the lists and must be read too:
+
+- The contracts name `R.bytes`, `R.start`, `R.is_consumer` and `R.is_producer`. These are members of traits in
+  `crates/ring_rings/src/source.rt`. For a ring they are the capacity (`capacity_of`), the start (`start_of`),
+  `IsConsumerOf` and `IsProducerOf`. All four are in `crates/ring_rings/specs/Seats.antt`.
+- `Producer` and `Consumer` have ghost fields (`crates/ring_rings/src/ring.rt`). What a ghost field states is true of
+  every value of its type. Some of the other types that are named [at the end](#all-of-them) also have ghost fields.
+- Ghost fields name further definitions.
+
+The crates have more than %s definitions in `specs`. All others do not change what these three contracts say.
 """
 
 
@@ -181,7 +184,8 @@ def counted(walk, found):
     files = {module for module, _name in found}
     crates = {module.split(".")[1] for module in files}
     lines = sum(walk.met[it].lines for it in found)
-    return "%d definitions, %s lines, in %d files of %d crates." % (len(found), format(lines, ","), len(files), len(crates))
+    return ("These are %d definitions with %s lines, in %d files of %d crates."
+            % (len(found), format(lines, ","), len(files), len(crates)))
 
 
 def page():
@@ -192,8 +196,8 @@ def page():
         found = walk.follow(list(starts_of(path, function, clauses)))
         everything += found
         parts.append("## %s\n\n%s\n\n%s\n" % (title, counted(walk, found), "\n".join(part(found))))
-    parts.append("## All of them\n\n%s These definitions name these types of `src`: %s.\n\n"
-                 "The definitions also use these words of the kit: %s.\n"
+    parts.append("## All of them\n\n%s They name these types of `src`: %s.\n\n"
+                 "They also use these words of the kit: %s.\n"
                  % (counted(walk, everything), ", ".join("`%s`" % it for it in sorted(walk.types)),
                     ", ".join("`%s`" % it for it in sorted(walk.kit))))
     return "\n".join(parts)

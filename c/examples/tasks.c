@@ -1,5 +1,5 @@
-/* The tasks of docs/USING.md in C: cc -pthread -o tasks c/examples/tasks.c -Ic/out c/out/libfelter.a
- * It prints c/examples/tasks.out, as the same tasks in Rust and Python do. */
+/* The tasks of docs/USING.md in C. The program prints c/examples/tasks.out, as the same tasks in Rust and Python do. To
+ * compile it: cc -pthread -o tasks c/examples/tasks.c -Ic/out c/out/libfelter.a */
 #include "felter.h"
 #include "felter_wait.h"
 

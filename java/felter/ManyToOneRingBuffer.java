@@ -44,7 +44,7 @@ public final class ManyToOneRingBuffer extends RingBuffer {
             synchronized (lock) {
                 if (first.isOpen()) {
                     open.abort(its.at(0));
-                    // (out of memory: then the producer is freed, and its share is lost)
+                    // (after out of memory the producer is freed, and its share is lost)
                     Native.join(first.at(0), its.at(0));
                 }
             }

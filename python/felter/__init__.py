@@ -29,9 +29,9 @@ package, or in the repository's c/out, which c/build fills. `implementation` say
 
 - "extension": Calls go through an extension in C beside the library. The extension keeps the global interpreter lock,
   since no call waits.
-- "ctypes": Calls go through ctypes if FELTER_PURE is 1. They also do so, with an ImportWarning, in two other cases:
-  there is no extension for this Python, or another copy of this package in the process has the extension. Such a copy
-  can be in another interpreter.
+- "ctypes": Calls go through ctypes if FELTER_PURE is 1. They also do so, with an ImportWarning, if there is no
+  extension for this Python, or if another copy of this package in the process has the extension. Such a copy can be in
+  another interpreter.
 
 Before Python 3.10, a Ctrl-C during a call through ctypes can leave its handle locked. Later calls of that handle are
 then refused.

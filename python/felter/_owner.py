@@ -50,8 +50,8 @@ class Ends:
     def __init__(self) -> None:
         self.writers: "typing.Dict[int, weakref.ref[Owner]]" = {}
         self.readers: "typing.Dict[int, weakref.ref[Owner]]" = {}
-        # These two are used with ctypes alone. `traces` has the trace of each claim of the ring. `dropped` has the
-        # trace of each claim that was dropped.
+        # `traces` and `dropped` are used only with ctypes. `traces` has the trace of each claim of the ring. `dropped`
+        # has the trace of each claim that was dropped.
         self.traces: "typing.Dict[int, Trace]" = {}
         self.dropped: "typing.Deque[Trace]" = collections.deque()
         # The locks on which readers sleep.

@@ -1,6 +1,6 @@
 """Handles and calls of the library through ctypes, for a Python without the extension in C.
 
-A call releases the interpreter's lock, so each handle has a lock of its own.
+A call releases the interpreter's lock, so each handle has a lock.
 """
 
 import ctypes
@@ -54,7 +54,7 @@ RANGES = {
     "usize": (0, 2**64),
 }
 
-# The calls whose last number is how often a receiver was lapped. Each has the calls that return more about the lap.
+# The calls whose last number is how often a receiver was lapped. Each has the calls that return how it was lapped.
 LAPPING: typing.Dict[str, typing.Tuple[str, ...]] = {
     "felter_receive": ("felter_receiver_lap", "felter_receiver_place"),
     "felter_receive_next": ("felter_raw_receiver_lap", "felter_raw_receiver_place"),
@@ -144,14 +144,15 @@ class Function:
         function.argtypes = [TYPES[it] for it in words]
         function.restype = None if name == "felter_free" else ctypes.c_int32
         self.call, self.lap = function, LAPPING.get(name)
-        # (the length of bytes or of a buffer follows it as a parameter of its own)
+        # (the length of bytes or of a buffer follows it as another parameter)
         words = [it for before, it in zip(["", *words], words) if before not in ("bytes", "*u8")]
         self.takes = [TAKES[it] for it in words if it in TAKES]
         self.handles = [i for i, it in enumerate(words) if it == "*handle"]
         self.outs = [OUTS[it] for it in words if it in OUTS]
         self.has_room = "*u8" in words
         self.given = len(self.takes) + self.has_room
-        # The position of the number of bytes that were put into the buffer, and of the number of laps.
+        # The position of the number of bytes that were put into the buffer, and of the number of times that the
+        # receiver was lapped.
         has_length = self.has_room and ctypes.c_size_t in self.outs
         self.length = self.outs.index(ctypes.c_size_t) if has_length else None
         lapped = len(self.outs) - 1 if name in LAPPING else None

@@ -10,7 +10,7 @@ from felter.waiting import wait_as_task, wait_for
 
 
 class Lap(typing.NamedTuple):
-    """The place of a receiver when it was lapped, and the intent that showed the lap. The intent is the position up to
+    """The place of a receiver when it was lapped, and the intent that showed this. The intent is the position up to
     which the transmitter had begun to write."""
 
     place: int
@@ -77,7 +77,7 @@ class Receiver(Owner):
         return self._do("felter_receiver_place")
 
     def lap(self) -> typing.Optional[Lap]:
-        """Returns the last lap of the receiver, or None if it was never lapped."""
+        """Returns the positions at which the receiver was lapped last, or None if it never was."""
         found = self._try("felter_receiver_lap")
         return found and Lap(*found)
 
@@ -134,7 +134,7 @@ class RawReceiver(Owner):
         return self._do("felter_raw_receiver_place")
 
     def lap(self) -> typing.Optional[Lap]:
-        """Returns the last lap of the receiver, or None if it was never lapped."""
+        """Returns the positions at which the receiver was lapped last, or None if it never was."""
         found = self._try("felter_raw_receiver_lap")
         return found and Lap(*found)
 

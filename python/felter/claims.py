@@ -1,8 +1,8 @@
 """Claims of a producer.
 
-The extension in C has claims of its own, which abort themselves when they are dropped. The claims for ctypes are in
-this file. No code of Python runs when such a claim is dropped, since an interrupt would be swallowed in that code.
-Instead a weak reference appends the trace of the claim to a queue, and the next call of the ring aborts the claim.
+The extension in C has other claims, which abort themselves when they are dropped. The claims for ctypes are in this
+file. No code of Python runs when such a claim is dropped, since an interrupt would be swallowed in that code. Instead a
+weak reference appends the trace of the claim to a queue, and the next call of the ring aborts the claim.
 """
 
 import contextlib

@@ -244,13 +244,13 @@ class Client(Owner):
     def request(
         self, send: typing.Callable[..., int], *parameters: typing.Any, timeout: typing.Optional[float] = None
     ) -> Reply:
-        """Sends a command, and waits for its reply for `timeout` seconds. If `timeout` is None, waits for ever:
-        `client.request(client.set, 3, 7, timeout=1)`. The call sends again while the ring is full or another client is
-        faster. The call passes over the replies to other commands. So a client has only one request at a time.
+        """Sends a command, and waits for its reply for `timeout` seconds: `client.request(client.set, 3, 7,
+        timeout=1)`. If `timeout` is None, waits for ever. The call sends again while the ring is full or another client
+        is faster. The call passes over the replies to other commands. So a client has only one request at a time.
 
         If the conductor overtakes the client, the reply may be lost. Then the call soon sends a second command, which
-        changes nothing: it frees an id that no counter has. Replies to one client come in the order of its commands. So
-        the reply to the second command shows that the conductor took the first one before.
+        frees an id that no counter has, and so changes nothing. Replies to one client come in the order of its
+        commands. So the reply to the second command shows that the conductor took the first one before.
 
         The call raises Full or Contended if the command was not sent in time. It raises Unanswered if no reply came,
         and Disconnected if the conductor is gone."""

@@ -29,7 +29,7 @@ class Found(enum.IntEnum):
     MESSAGE = 0
     # Nothing is claimed after the head.
     NONE = 1
-    # A claim that is not settled yet: its producer is slow, or lost.
+    # A claim that is not settled yet. Its producer is slow, or lost.
     CLAIM = 2
     # Something changed during the call. Call again.
     CHANGE = 3

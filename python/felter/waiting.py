@@ -143,7 +143,7 @@ class Listed:
         try:
             self._sleepers.remove(self._waker)
         except ValueError:
-            # (another thread has taken the waker out, and will soon ring: the descriptor must stay open until then)
+            # (another thread has taken the waker out, and will soon ring, so the descriptor must stay open until then)
             self._bell.wait(1)
             self._bell.clear()
 

@@ -7,8 +7,8 @@ use crate::view::AdderView;
 use atomic_table::{Seat, Table};
 use std::alloc::Global;
 
-/// A counter to which each thread adds by an adder of its own. The value of the counter is the sum of all that was
-/// added, modulo 2^64.
+/// A counter to which each thread adds by its own adder. The value of the counter is the sum of all that was added,
+/// modulo 2^64.
 #[derive(Drop)]
 pub struct SharedCounter {
     pub(crate) table: Table<(), AdderView, (), SumsAll, Global>,

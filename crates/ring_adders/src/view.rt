@@ -1,4 +1,4 @@
-//! What an adder knows. No value of this type is made.
+//! The type of what an adder knows. No value of this type is made.
 use std::collections::LinkedList;
 
 /// The knowledge of an adder.

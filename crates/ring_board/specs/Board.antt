@@ -53,7 +53,7 @@ place_in r = raw_place_in r.receiver
 abbrev pub lapped_count_of : CopyReceiver → ℕ
 lapped_count_of r = raw_lapped_count_of r.receiver
 
--- a copy of this message, whose record is at this place, after this many laps
+-- a copy of this message, whose record is at this place, after the receiver was lapped this many times
 abbrev pub new_copy : ℕ → ℤ → List ℕ → ℕ → Taken
 new_copy place type_id body laps =
     record { place = place; message = record { type_id = type_id; body = body }; count = laps }

@@ -24,7 +24,7 @@ abbrev pub IsLoaded : ℕ → List Load → ℕ → List ℕ → Type 0
 IsLoaded C log place body = (ws : List ℕ) × WereLoaded C log place ws × (length ws ≡ word_count (length body))
     × (body ≡ take (length body) (bytes_of ws))
 
--- a body was loaded, and everything else is as before
+-- a body was loaded, and all other parts are as before
 abbrev pub GaveBody : ℕ → List ℕ → Sat → Sat → Type 0
 GaveBody place body m m' =
     (loads : List Load) × (m' ≡ (record m.0 { log = m.0.log ++ loads }, m.1)) × IsLoaded m.0.capacity loads place body
@@ -46,7 +46,7 @@ abbrev pub IsRight : View → RawRecord → Type 0
 IsRight v r = (n : ℕ) (c : Taken) (body : List ℕ) → get_elem? v.copies n ≡ some c → c.place ≡ r.place
     → HasLoaded v r body → length body ≡ length c.message.body → body ≡ c.message.body
 
--- An intent was loaded, and everything else is as before. The result says whether the intent is below the place plus
+-- An intent was loaded, and all other parts are as before. The result says whether the intent is below the place plus
 -- the capacity.
 abbrev pub Validated : RawRecord → Bool → Sat → Sat → Type 0
 Validated r valid m m' = (x : ℕ) × (m' ≡ (logged m.0 (Intent x), m.1)) × (valid ≡ nat_lt x (r.place + m.0.capacity))

@@ -67,7 +67,7 @@ FailedBody x m m' = (loads : List Load)
     × (m' ≡ (record m.0 { stage = Behind; log = m.0.log ++ (loads ++ Intent x ∷ []) }, m.1))
     × (m.0.at + m.0.capacity ≤ x)
 
--- a tail that was loaded is not beyond the place, and nothing else changed
+-- a tail that was loaded is not beyond the place, and no other part changed
 abbrev pub GotNothing : Sat → Sat → Type 0
 GotNothing m m' = (t : ℕ) × (m' ≡ (record m.0 { stage = Resting; log = m.0.log ++ Tail t ∷ [] }, m.1)) × (t ≤ m.0.at)
 
@@ -93,8 +93,8 @@ GotCopy place type_id body m m' = (loads : List Load)
     × ComesTo m.0 loads place
 
 -- The receiver was lapped at its place, or after padding there. The count rose by one. The new place is the latest one,
--- which was loaded after the intent that showed the lap. The bytes from the place of the lap up to the new place were
--- missed.
+-- which was loaded after the intent that showed this. The bytes from the place at which it was lapped up to the new
+-- place were missed.
 abbrev pub GotLapped : Lapped → Sat → Sat → Type 0
 GotLapped l m m' = (loads : List Load) × (k : ℕ) × (x : ℕ) × ComesTo m.0 loads l.place
     × (l.place + m.0.capacity ≤ l.intent) × (l.count ≡ suc m.0.count) × (l.place < x)

@@ -9,7 +9,7 @@ use Rattle.ring_board.specs.declared.shared.view.Load.{Load}
 use Rattle.ring_board.specs.declared.shared.view.Stage.{Stage}
 use Rattle.ring_board.specs.Records.{last_of}
 
--- a seat's view, and its slots, of which a broadcast buffer has none
+-- a seat's view and its slots (a broadcast buffer has no slots)
 abbrev pub Sat : Type 0
 Sat = Me (Unit {0}) View
 

@@ -57,8 +57,8 @@ impl SubscribeFault {
     }
 }
 
-/// The receiver was lapped for the `count`-th time, at `place`. The intent `intent` showed the lap. The receiver missed
-/// as many bytes as its own `place` after the call is above this `place`.
+/// The receiver was lapped for the `count`-th time, at `place`. The intent `intent` showed this. The receiver missed as
+/// many bytes as its own `place` after the call is above this `place`.
 #[derive(Clone, Copy, Debug, PartialEq, Eq, Error)]
 #[error("{} Lapped {count} place {place} intent {intent}", self.code())]
 pub struct Lapped {

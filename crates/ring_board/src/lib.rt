@@ -1,4 +1,5 @@
-//! A broadcast buffer: one transmitter that never waits, and receivers that learn when they missed something.
+//! A broadcast buffer. It has one transmitter, which never waits, and receivers, which learn when they missed
+//! something.
 //!
 //! - `board`: a broadcast buffer, its transmitter and its receivers. `open` makes and closes it.
 //! - `transmitter`: the calls and steps of the transmitter. `receiver`: the calls of receivers. `next_record` finds and

@@ -58,7 +58,7 @@ is_due now (Reclaimed deadline) = nat_le deadline now
 
 -- ---- allocating
 
--- the first freed id, in order of freeing, that is due
+-- the first freed id, in order of freeing, whose deadline is at most now
 abbrev pub due_id : Registry → ℕ → Option ℕ
 due_id r now = find (λ id. is_due now (status_at r id)) r.freed
 

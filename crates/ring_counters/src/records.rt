@@ -103,8 +103,7 @@ impl ValueRecord {
 pub(crate) struct Records {
     metadata: Vec<MetadataRecord>,
     values: Vec<ValueRecord>,
-    /// A list of whether each counter is in use, as its metadata say. It is for calls that need nothing else of the
-    /// metadata.
+    /// A list of whether each counter is in use, as its metadata say. Some calls need only this part of the metadata.
     live: Vec<bool>,
     /// The freed ids in order of freeing, with room for every id.
     freed: VecDeque<u32>,

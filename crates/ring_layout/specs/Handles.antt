@@ -1,4 +1,4 @@
--- What a handler did with a list of messages.
+-- The effect of a list of messages on a handler.
 use Rattle.std.specs.Prelude.{◌≡◌, List, [], ◌∷◌}
 use Rattle.ring_layout.specs.History.{Message}
 

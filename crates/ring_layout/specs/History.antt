@@ -1,4 +1,4 @@
--- Messages, claims, and histories: lists of claims, the oldest first.
+-- Messages, claims, and histories, which are lists of claims with the oldest first.
 use Rattle.std.specs.Prelude.{ℕ, ◌+◌, ◌*◌, ◌/◌, ◌<◌, ◌≤◌, pos, ◌≤ℤ◌, List, [], ◌∷◌, length, All, FitsSigned, ◌++◌, take, drop}
 use Rattle.std.specs.Int.{w32}
 pub use Rattle.ring_layout.specs.declared.message.Message.{Message}

@@ -24,7 +24,7 @@ word_at C e (c ∷ h) p =
 abbrev pub IsPicture : (ℕ → ℕ) → ℕ → ℕ → List Claim → Type 0
 IsPicture word C head h = (p : ℕ) → p % 8 ≡ 0 → head ≤ p → p < head + C → word (index C p) ≡ word_at C head h p
 
--- the words of one claim c, and of the padding before it, whatever claims are before and after it
+-- the words of one claim c, and of the padding before it, with any claims before and after it
 pub record ShowsClaim (C e : ℕ) (front : List Claim) (c : Claim) (back : List Claim) : Type 0 where
   pub padding_header :
       end_of C e front < place_behind C e front c

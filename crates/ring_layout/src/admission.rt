@@ -1,5 +1,5 @@
-//! The tests of every claim of a ring and of every transmission of a broadcast buffer: whether a message is valid,
-//! where its record goes, and whether it fits.
+//! The tests of every claim of a ring and of every transmission of a broadcast buffer. They say whether a message is
+//! valid, where its record goes, and whether it fits.
 ghost use Rattle.std.specs.Prelude.{◌≡◌, ℕ, ◌+◌, ◌/◌, ◌%◌, ◌≤◌, ◌↔◌, IsTrue, true, nat_le, int_le, pos};
 ghost use Rattle.std.specs.Int.{is_power_of_two};
 ghost use Rattle.ring_layout.specs.History.{span};

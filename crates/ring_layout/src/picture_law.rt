@@ -1,4 +1,4 @@
-//! A law about the picture of a ring: what one of its words depends on.
+//! A law about what one word of the picture of a ring depends on.
 ghost use Rattle.std.specs.Prelude.{ℕ, List};
 ghost use Rattle.ring_layout.specs.History.{Claim};
 ghost use Rattle.ring_layout.specs.Picture.{ShowsClaim, ShowsNothingElse};

@@ -137,7 +137,7 @@ struct Tally {
 }
 
 impl Tally {
-    /// Counts a counter.
+    /// Adds a counter to the count of its state.
     fn count(&mut self, state: CounterState) {
         match state {
             CounterState::Allocated => self.in_use = self.in_use.saturating_add(1),

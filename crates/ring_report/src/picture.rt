@@ -35,7 +35,7 @@ impl Mark {
 pub struct Picture {
     capacity: u32,
     width: u32,
-    /// The marks of the pieces, and then unused ones.
+    /// The marks of the pieces. The marks after them are unused.
     marks: [Mark; MAX_WIDTH],
 }
 

@@ -26,7 +26,7 @@ enum Number {
     Settled,
     /// 1 if two looks saw the consumer blocked.
     Blocked,
-    /// The number of milliseconds between these two looks.
+    /// The number of milliseconds between two looks that saw the consumer blocked.
     BlockedMillis,
     /// The number of findings.
     Findings,

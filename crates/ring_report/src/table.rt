@@ -161,8 +161,9 @@ impl Report {
         text.push('\n')
     }
 
-    /// Returns the report as a table. The table has a line with the numbers of the whole, the picture of a buffer, the
-    /// list with the names of its columns, how many rows were left out, and the summary. The findings are not in it.
+    /// Returns the report as a table. The table begins with a line of the numbers of the whole, and the picture of a
+    /// buffer. Then come the list with the names of its columns, how many rows were left out, and the summary. The
+    /// findings are not in it.
     pub fn to_table(&self, alloc: Global) -> Result<String, AllocError> {
         self.table(alloc, false)
     }

@@ -32,7 +32,7 @@ pub record FindsRoom (C tail end : ℕ) (v w : View) : Type 0 where
   pub looks : SeesRoom C tail end loads
   pub room : end ≤ head + C
 
--- neither the cached head nor the head, which were loaded, has room up to `end`
+-- the cached head and the head were loaded, and there is no room up to `end` after either of them
 pub record FindsNoRoom (C tail end : ℕ) (fault : ClaimFault) (v w : View) : Type 0 where
   pub head : ℕ
   pub fault_is : fault ≡ InsufficientCapacity tail head

@@ -46,9 +46,10 @@ fn take_words<B: Bodies>(table: RingTable<B>, seat: RingSeat, room: Vec<u64>) ->
 }
 
 impl<K, B: Bodies> Ring<K, B> {
-    /// Takes the ring apart, and returns what is in it as a ring of one owner: the messages that were committed and not
-    /// read, and the words of the trailer. Returns these errors, in this order: `ClaimsOpen` if claims of this producer
-    /// are open, and `ProducersOut` if other producers have shares. After an error all arguments come back unchanged.
+    /// Takes the ring apart, and returns what is in it as a ring of one owner. These are the messages that were
+    /// committed and not read, and the words of the trailer. Returns `ClaimsOpen` if claims of this producer are open.
+    /// Otherwise returns `ProducersOut` if other producers have shares. After an error all arguments come back
+    /// unchanged.
     pub fn close(
         self,
         producer: Producer,

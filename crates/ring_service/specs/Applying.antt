@@ -13,7 +13,7 @@ allocates r now correlation w =
     allocated r correlation (new_counter w.type_id w.key.now w.label.now correlation w.owner)
     (allocation_of r now w.key.now w.label.now)
 
--- The counters, their value writes and the reply are those of the outcome. Everything else is unchanged.
+-- The counters, their value writes and the reply are those of the outcome. All other parts are unchanged.
 pub record Applies (o : Outcome) (old new : CountersManager) (reply : Reply) : Type 0 where
   pub registry : registry_of new ≡ o.registry
   pub writes : writes_of new ≡ writes_of old ++ o.writes

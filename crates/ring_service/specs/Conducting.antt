@@ -76,8 +76,7 @@ pub record KeepsSeats (old new : Conductor) : Type 0 where
   pub consumer : consumer_of new ≡ consumer_of old
   pub transmitter : transmitter_of new ≡ transmitter_of old
 
--- only two things may have changed: the number of shares of these values that are with readers, and what these readers
--- loaded
+-- only the number of shares of these values that are with readers, and what these readers loaded, may have changed
 pub record KeepsAllCounters (values : CounterValues) (old new : Conductor) : Type 0 where
   pub counters : KeepsCounters values (manager_in old) (manager_in new)
   pub seats : KeepsSeats old new

@@ -33,8 +33,8 @@ use Rattle.ring_service.specs.Account.{IsFoldOf, messages_in}
 use Rattle.ring_service.specs.Asking.{services_of}
 use Rattle.ring_service.specs.Conducting.{IsConductorOf, manager_in, received_of, ring_view, transmitter_of}
 
--- the reason why a conductor does not finish, in the order of the tests, by the number of the producer's open claims,
--- and the numbers of shares of the producer and the transmitter
+-- The reason why a conductor does not finish, in the order of the tests. The arguments are the number of the producer's
+-- open claims, and the numbers of shares of the producer and the transmitter.
 abbrev pub finish_refusal_of : ℕ → ℕ → ℕ → Option FinishFault
 finish_refusal_of open_claims producing transmitting =
     if nat_lt 0 open_claims then Some (ClaimsOpen open_claims)
@@ -140,10 +140,9 @@ pub record HandsOn (C : ℕ) (board : Board) (v : CounterValues) (p : Producer) 
 -- fields are in the order of the headline's words. B, C and start are those of the ring. The conductor c is the one
 -- that was given to the call.
 pub record HeadlineWithout (B : Bodies) (C start : ℕ) (c : Conductor) (f : FinishedWithout) : Type 0 where
-  -- This is so for each history of the claims of all producers that the ring's table had when it was taken apart. The
-  -- received messages, followed by the messages that are still in the ring, are the committed records. Each is there
-  -- whole and once, and nothing that was not committed is there. There is such a history, and the history that was made
-  -- is one.
+  -- When it was taken apart, the ring's table had histories of the claims of all producers. For each of them, the
+  -- received messages, followed by those that are still in the ring, are the committed records. Each is there whole and
+  -- once, and nothing that was not committed is there. There is such a history, and the history that was made is one.
   pub rescued : IsRescued B C start (seat_view c.consumer) f.rescued
   -- The validated copies of each receiver are rising contiguous runs of the transmitted list, which are broken only if
   -- the receiver's count rose.
@@ -152,8 +151,8 @@ pub record HeadlineWithout (B : Bodies) (C start : ℕ) (c : Conductor) (f : Fin
   -- moment.
   pub folded : ∥ IsFoldOfReceived c f.counters ∥₁
 
--- the parts that are handed on without the producers, which are the counters, the broadcast buffer with all replies,
--- the number of received commands, the values, and the conductor by name
+-- The parts that are handed on without the producers. They are the counters, the broadcast buffer with all replies, the
+-- number of received commands, the values, and the conductor by name.
 pub record HandsOnWithout (board : Board) (v : CounterValues) (c : Conductor) (f : FinishedWithout) : Type 0 where
   pub counters : f.counters ≡ manager_in c
   pub replies : HasAllReplies board (replies_of c) f.board

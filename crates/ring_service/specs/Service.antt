@@ -25,7 +25,7 @@ command_message command = message (type_id_of command) (spelling_of command)
 abbrev pub sent_by : Client → List Message
 sent_by c = sent (producer_of c)
 
--- the client sent the request with this correlation id, and nothing else
+-- the client sent only the request with this correlation id
 abbrev pub SendsRequest : Request → ℕ → Client → Client → Type 0
 SendsRequest request correlation old new =
     sent_by new ≡ sent_by old ++ command_message (asked request correlation) ∷ []

@@ -68,14 +68,14 @@ pub record GoesOn (old new : Parties) : Type 0 where
   pub board : board_view new.conductor ≡ fewer (board_view old.conductor)
   pub receiver : receiver_of new.client ≡ receiver_of old.client
 
--- The claims are the two commands and nothing else. They come one after another from the ring's start. The first
--- command was sent before the first cycle, and the second one between the two cycles. The messages that the cycles
--- took, followed by the messages that are still in the ring, are the committed messages. Each is there whole and once.
--- The taken messages make these counters, all value writes, and the replies from four fresh counters. The closed
--- broadcast buffer has these replies. Two receivers were joined. The client's receiver subscribed at the start and
--- polled once, after both cycles. The listener's receiver subscribed between the cycles and received nothing. Their
--- copies are runs of all replies. The client drew two ids and loaded no heartbeat. There never was another producer.
--- The values are those of these counters. The trailer of what is left of the ring has the ids and the heartbeat.
+-- The claims are only the two commands. They come one after another from the ring's start. The first command was sent
+-- before the first cycle, and the second one between the two cycles. The messages that the cycles took, followed by the
+-- messages that are still in the ring, are the committed messages. Each is there whole and once. The taken messages
+-- make these counters, all value writes, and the replies from four fresh counters. The closed broadcast buffer has
+-- these replies. Two receivers were joined. The client's receiver subscribed at the start and polled once, after both
+-- cycles. The listener's receiver subscribed between the cycles and received nothing. Their copies are runs of all
+-- replies. The client drew two ids and loaded no heartbeat. There never was another producer. The values are those of
+-- these counters. The trailer of what is left of the ring has the ids and the heartbeat.
 pub record Concludes (early late : ℕ) (w : WholeRun) : Type 0 where
   pub begun : HaveBegun w.begun.value
   pub first : IsCycle early w.begun.value w.halfway.value w.first

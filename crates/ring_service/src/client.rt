@@ -26,7 +26,7 @@ pub enum SendFault {
     /// The command takes more than `LONGEST_COMMAND` bytes.
     #[error("the command takes more than 520 bytes")]
     TooLong,
-    /// The ring refused the command with this correlation id. The id stays drawn.
+    /// The ring refused the command with this correlation id. The id is not drawn again.
     #[error("{reason}")]
     Refused { correlation: u64, reason: TryFault },
 }
@@ -34,7 +34,7 @@ pub enum SendFault {
 /// The result of a poll for a reply.
 #[derive(Clone, Copy, Debug, PartialEq, Eq)]
 pub enum Polled {
-    /// The reply to the command that was asked about.
+    /// The reply to the command for which the caller polls.
     Answered(Reply),
     /// The reply to another command, of this client or of another client.
     Another(Reply),
@@ -143,7 +143,7 @@ impl Client {
     ///
     /// Returns `TooLong` if the command has more than `LONGEST_COMMAND` bytes, and `Refused` if `Ring::try_write`
     /// refuses it. No id is drawn for a command that is too long. After an error nothing was written. The id in
-    /// `Refused` stays drawn, and `send_as` can try again with it.
+    /// `Refused` is not drawn again, and `send_as` can try again with it.
     pub fn send<K: Kind, B: Bodies>(
         &mut self,
         ring: &Ring<K, B>,

@@ -66,8 +66,8 @@ pub enum WholeFault {
 /// Moments are in milliseconds, and at most 2^62.
 ///
 /// This function exists to be read. For this one run its contract states what `finish` states to each caller. It also
-/// names what happened, in order: what the client sent, what the conductor did, when the receivers subscribed, and what
-/// each of them received.
+/// names, in order, what the client sent and what the conductor did. And it names when the receivers subscribed, and
+/// what each of them received.
 ///
 /// Returns `OutOfMemory` if memory runs out, and `NotSent` if the ring refuses a command.
 pub fn whole_run(alloc: Global, early: u64, late: u64) -> Result<WholeRun, WholeFault>

@@ -73,8 +73,8 @@ impl Found {
         self.capacity.saturating_add(self.kind.trailer())
     }
 
-    /// Tests whether a counter belongs to these counters. Its record must be a whole number of records after them, and
-    /// at most eight.
+    /// Tests whether a counter belongs to these counters. The counter's record must come a whole number of records
+    /// after these counters, and at most eight.
     pub fn goes_on_at(self, address: u64) -> bool {
         match address.checked_sub(self.end()) {
             Some(gap) => gap % METADATA == 0 && gap <= 8 * METADATA,
@@ -100,7 +100,7 @@ impl Found {
         }
     }
 
-    /// Adds the command that shows this.
+    /// Adds the command that shows this object.
     pub fn push_command(self, text: &mut String, file: &str) -> Result<(), AllocError> {
         let (kind, at, length) = (self.kind.name(), self.at, self.length());
         write!(text, "ring-show {kind} {}", Quoted(file))?;
@@ -134,7 +134,8 @@ impl Found {
         writeln!(text, "  ({})", self.sureness(report))
     }
 
-    /// Adds the lines of this: its address and its capacity, its summary, and the command that shows it.
+    /// Adds the lines of this object, which have its address and its capacity, its summary, and the command that shows
+    /// it.
     pub fn push_lines(
         self,
         text: &mut String,

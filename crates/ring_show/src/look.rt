@@ -33,8 +33,8 @@ struct Seen {
     at: Instant,
 }
 
-/// The conclusion from the looks so far about the consumer of a ring. It says since when the consumer stops at the same
-/// record with the same head.
+/// The conclusion from the looks so far about the consumer of a ring. It has the time from which on the consumer
+/// stopped at the same record with the same head.
 #[derive(Clone, Copy)]
 pub struct Watch {
     seen: Option<Seen>,

@@ -327,7 +327,8 @@ fn watch_wanted<'a>(matches: &ArgMatches<'a>, screen: Screen) -> Result<Wanted, 
 }
 
 /// Returns the task of a subcommand with its arguments. Returns `NotBytes` if an offset or a length is not a number,
-/// `BodiesOfInput` if separate bodies are to be read from standard input, and `NoLook` if the options ask for no look.
+/// and `NoLook` if the options ask for no look. Returns `BodiesOfInput` if separate bodies are to be read from standard
+/// input.
 pub fn task_of<'a>(
     name: &str,
     matches: &ArgMatches<'a>,

@@ -15,8 +15,8 @@ formatted w = if w / 2 ^ 32 == 2 ^ 32 - 2 then w + 2 ^ 32 else w
 abbrev pub header_at : ℕ → List ℕ → ℕ → ℕ
 header_at C words at = formatted (slice_index words (index C at))
 
--- the number of bytes from the begin of a record with this header to the begin of the next one, or 0 if no record at
--- the position has this header
+-- The number of bytes from the begin of a record with this header to the begin of the next one. It is 0 if no record at
+-- the position has this header.
 abbrev pub span_at : ℕ → ℕ → ℕ → ℕ → ℕ
 span_at C tail at w =
     if is_length C tail at (nat_abs (length_in w))

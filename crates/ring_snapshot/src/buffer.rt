@@ -17,7 +17,7 @@ pub trait Buffer: Drop {
     /// The number of bytes of a record, header included.
     ghost size: { Self.Record → ℕ };
 
-    /// What is at a position, if the records end at a tail.
+    /// The entry at a position, if the records end at a tail.
     ghost entry: { Self → ℕ → ℕ → Result Self.Record Self.Finding };
 
     /// Returns what is at a position before the tail.

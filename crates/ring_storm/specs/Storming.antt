@@ -234,7 +234,7 @@ pub record HasSeatsBack (old new : Endpoints) : Type 0 where
   pub receivers : board_shares_of new.conductor ≡ board_shares_of old.conductor
   pub open_claims : open_claims_of new.producer ≡ open_claims_of old.producer
 
--- one share of the ring and one of the board are lent, and nothing else that is counted has changed
+-- one share of the ring and one of the board are lent, and no other count has changed
 pub record LendsSeats (old new : Endpoints) : Type 0 where
   pub producers : shares_of new.producer + 1 ≡ shares_of old.producer
   pub receivers : board_shares_of new.conductor + 1 ≡ board_shares_of old.conductor
@@ -273,7 +273,7 @@ IsEndAt s clients end = IsEndOf s.plan s.ring.now s.board.now s.values.now clien
 
 -- The end of a storm, whether all is done or some threads gave up. The endpoints have all seats of this ring, this
 -- board and these values, with no more claims than all commands. The conductor finished with them. The headline is true
--- of them, and all that they hand on is handed on.
+-- of these, and the result has all parts that a conductor hands on.
 pub record HasFinished {K B : Type 0} {G : Ghosts B} (p : StormPlan) (ring : Ring K B G) (board : Board) (values : CounterValues)
     (e : StormEnd) : Type 0 where
   pub endpoints : Endpoints

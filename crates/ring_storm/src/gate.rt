@@ -3,8 +3,8 @@
 /// Decides the order in which the clients of a storm send. Each client asks the gate on its own thread when it may
 /// send, and reports each reply to the gate there.
 pub trait Gate {
-    /// Returns whether the client may send its command with this number. Clients count from 0 and their commands from
-    /// 1. The client asks again until the result is true.
+    /// Returns whether the client may send its command with this number. The client asks again until the result is
+    /// true. The number of the first client is 0, and the number of its first command is 1.
     fn may_send(&self, client: u32, number: u32) -> bool;
 
     /// Notes that the client's command with this number had its reply.

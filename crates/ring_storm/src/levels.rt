@@ -20,7 +20,7 @@ use std::snapshot::Snapshot;
 use std::thread::{Scope, Threads};
 
 /// Returns the stack of a thread that is to start. If the gate refuses the thread, the stack is larger than any system
-/// gives, so that it cannot be started.
+/// gives, so the thread cannot be started.
 fn stack_of<G: Gate>(gate: &G, thread: u32) -> Stack {
     if gate.may_start(thread) {
         Stack::new()
@@ -114,7 +114,7 @@ fn conduct<'s, E, R: Threads, G: Gate + Sync, B: Bodies + Sync>(
             }
         }
         Err(closure) => {
-            // The closure ends at once, since all threads are stopped, and it returns the conductor.
+            // The closure ends at once, since all threads are stopped. It returns the conductor.
             shared.stop();
             let ConductorEnd { conductor, .. } = (closure.value)();
             give_up(Endpoints {
@@ -188,7 +188,7 @@ pub(crate) fn level<'s, E, R: Threads, G: Gate + Sync, B: Bodies + Sync>(
             (end, child.join(rt))
         }
         Err(closure) => {
-            // The closure ends at once, since all threads are stopped, and it returns the seats.
+            // The closure ends at once, since all threads are stopped. It returns the seats.
             shared.stop();
             let client = (closure.value)();
             (give_up(endpoints), client)

@@ -1,4 +1,4 @@
-//! Storms. Clients on threads of their own send commands to one conductor.
+//! Storms. Clients on several threads send commands to one conductor.
 //!
 //! - `storm`: runs the clients of a `StormPlan`, and reports the results. `storm_over` takes a ring of either form.
 //! - `StormReport`, `StormFault`: the results of a storm, and the reason why there is no report.

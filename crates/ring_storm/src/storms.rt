@@ -1,4 +1,4 @@
-//! Storms. Clients on threads of their own send commands to one conductor.
+//! Storms. Clients on several threads send commands to one conductor.
 ghost use Rattle.std.specs.Prelude.{◌≡◌, ◌↔◌, IfOk, Err};
 ghost use Rattle.ring_storm.specs.declared.plan.StormFault.TheVariants.{BadPlan};
 ghost use Rattle.ring_storm.specs.Storming.{HasAll, HasFinished, IsEndOf, IsFreshOf, IsPlan, IsReportOf};

@@ -16,13 +16,13 @@ messages_in records = map (λ (r : Record). r.message) records
 abbrev pub messages_of : List Taken → List Message
 messages_of copies = map (λ (c : Taken). c.message) copies
 
--- no copy was made after more laps
+-- no copy was made after the receiver was lapped more than this many times
 abbrev pub AreWithin : ℕ → List Taken → Type 0
 AreWithin laps copies = All (λ (c : Taken). c.count ≤ laps) copies
 
 -- The numbers from 1 to `last` were transmitted. The copies of the receiver are runs of these numbers, which are broken
--- only if the receiver's lapped count rose. `laps` is this count at the end, and no copy was made after more laps. The
--- sum is that of the copied numbers.
+-- only if the receiver's lapped count rose. `laps` is this count at the end, and no copy was made after the receiver
+-- was lapped more than this many times. The sum is that of the copied numbers.
 pub record HasCopied (last : ℕ) (h : Overtaken) : Type 0 where
   pub all : messages_in (transmitted h.transmitter.value) ≡ numbers (pos 1) last
   pub runs : AreRuns (transmitted h.transmitter.value) (subscribed_at h.receiver.value) (copied h.receiver.value)

@@ -64,7 +64,7 @@ pub fn read_numbers<K, R: Wait>(
         }
         let end = ring.read(&mut consumer, u32::MAX, &mut sum);
         count = count.saturating_add(u64::from(end.messages));
-        // If no byte was read, no settled record was at the head. A read that only comes to the end of the buffer moves
+        // If no byte was read, no settled record was at the head. A read that only reaches the end of the buffer moves
         // the head too.
         if end.bytes == 0 {
             backoff.snooze();

@@ -36,9 +36,9 @@ impl Caller {
         loop {
             match send(&mut self.client) {
                 Ok(id) => return Some(id),
-                // Another client was faster: try again at once.
+                // Another client was faster. Try again at once.
                 Err(Error::Contended) => {}
-                // The ring is full: the conductor must take a command first.
+                // The ring is full. The conductor must take a command first.
                 Err(Error::InsufficientCapacity) => thread::yield_now(),
                 Err(_) => return None,
             }

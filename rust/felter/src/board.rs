@@ -125,8 +125,8 @@ impl Transmitter {
         joined.map_err(|reason| Refused { reason, back: receiver })
     }
 
-    /// Ends a board whose receivers of both kinds were all taken back or dropped. Returns the tail: the position at
-    /// which the last transmission ended.
+    /// Ends a board whose receivers of both kinds were all taken back or dropped. Returns the tail, which is the
+    /// position at which the last transmission ended.
     ///
     /// Errors: [`Error::ReceiversOut`] while a receiver exists. The error gives the transmitter back, which can go on,
     /// and can be closed later.
@@ -150,17 +150,19 @@ impl Transmitter {
     }
 }
 
-/// The positions that describe a lap of a receiver.
+/// The positions at which a receiver was lapped.
 #[derive(Clone, Copy, Debug, PartialEq, Eq)]
 pub struct Lap {
     /// The position, in bytes, at which the receiver looked for a message.
     pub place: u64,
-    /// The intent that showed the lap, which is the position up to which the transmitter had begun to write.
+    /// The intent that showed that the receiver was lapped. This is the position up to which the transmitter had begun
+    /// to write.
     pub intent: u64,
 }
 
 impl Lap {
-    /// Returns the last lap of a receiver. `call` is the call of the library for this kind of receiver.
+    /// Returns the positions at which a receiver was lapped last. `call` is the call of the library for this kind of
+    /// receiver.
     fn of(
         handle: &mut Handle,
         call: unsafe extern "C" fn(*mut Raw, *mut u64, *mut u64) -> i32,
@@ -175,7 +177,7 @@ impl Lap {
     }
 }
 
-/// Returns the error for a lap that was just found. The receiver goes on from `place`.
+/// Returns the error of a receiver that was just lapped. The receiver goes on from `place`.
 fn lapped_now(count: u64, lap: Result<Option<Lap>, Error>, place: Result<u64, Error>) -> Error {
     let missed_bytes = match (lap, place) {
         (Ok(Some(lap)), Ok(place)) => place - lap.place,
@@ -204,7 +206,7 @@ impl Receiver {
         self.handle.said(raw::felter_receiver_place)
     }
 
-    /// Returns the last lap of the receiver, or `None` if it was never lapped.
+    /// Returns the positions at which the receiver was lapped last, or `None` if it never was.
     pub fn lap(&mut self) -> Result<Option<Lap>, Error> {
         Lap::of(&mut self.handle, raw::felter_receiver_lap)
     }
@@ -282,7 +284,7 @@ impl RawReceiver {
         self.handle.said(raw::felter_raw_receiver_place)
     }
 
-    /// Returns the last lap of the receiver, or `None` if it was never lapped.
+    /// Returns the positions at which the receiver was lapped last, or `None` if it never was.
     pub fn lap(&mut self) -> Result<Option<Lap>, Error> {
         Lap::of(&mut self.handle, raw::felter_raw_receiver_lap)
     }

@@ -167,8 +167,8 @@ impl Counters {
         self.handle.number(id, raw::felter_counter_state)
     }
 
-    /// Returns the moment from which an id may be allocated again. This moment is 0 if the id was never used, and 2^63
-    /// - 1 if its counter is in use.
+    /// Returns the moment from which an id may be allocated again. If the id was never used, this moment is 0. If its
+    /// counter is in use, the moment is 2^63 - 1.
     ///
     /// Errors: [`Error::BadId`].
     pub fn deadline(&mut self, id: u32) -> Result<u64, Error> {

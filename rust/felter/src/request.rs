@@ -115,8 +115,8 @@ impl Client {
     /// faster. The call passes over the replies to other commands. So a client has only one request at a time.
     ///
     /// If the conductor overtakes the client, the reply may be lost. Then the call soon sends a second command, which
-    /// changes nothing: it frees an id that no counter has. Replies to one client come in the order of its commands. So
-    /// the reply to the second command shows that the conductor took the first one before.
+    /// frees an id that no counter has, and so changes nothing. Replies to one client come in the order of its
+    /// commands. So the reply to the second command shows that the conductor took the first one before.
     ///
     /// Errors: see [`RequestError`]. Without a deadline the call waits for ever, and returns neither
     /// [`RequestError::Pending`] nor [`RequestError::Unknown`].

@@ -1,4 +1,4 @@
-//! Rings: many-to-one and one-to-one.
+//! Rings, which are many-to-one or one-to-one.
 use crate::claims::Claim;
 use crate::ends::{Bed, End};
 use crate::error::{BatchRefused, Error, Refused};
@@ -143,7 +143,7 @@ impl Producer {
     /// # Ok::<(), felter::Error>(())
     /// ```
     ///
-    /// A claim borrows its producer, so the producer can do nothing else as long as the claim exists. To have several
+    /// A claim borrows its producer, so no other call can use the producer as long as the claim exists. To have several
     /// claims open at once, [`keep`](Claim::keep) them. This does not compile:
     ///
     /// ```compile_fail,E0499

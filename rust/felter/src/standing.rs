@@ -9,13 +9,13 @@ pub enum Found {
     Message,
     /// Nothing is claimed after the head.
     Nothing,
-    /// A claim that is not settled yet: its producer is slow, or lost.
+    /// A claim that is not settled yet. Its producer is slow, or lost.
     Claim,
     /// Something changed during the call. Call again.
     Change,
 }
 
-/// What is next in a ring, and its position.
+/// The kind of thing that is next in a ring, and its position.
 #[derive(Clone, Copy, Debug, PartialEq, Eq)]
 pub struct Standing {
     /// What is next.

@@ -201,7 +201,7 @@ impl Receiver {
     /// These are the errors:
     /// - [`WaitError::Timeout`] at the deadline;
     /// - [`WaitError::Disconnected`] if the transmitter or the conductor was dropped and all messages were received;
-    /// - [`WaitError::Refused`] for the errors of [`receive`](Receiver::receive), which include a lap.
+    /// - [`WaitError::Refused`] for the errors of [`receive`](Receiver::receive), which include [`Error::Lapped`].
     ///
     /// Without a deadline the call waits for ever.
     ///

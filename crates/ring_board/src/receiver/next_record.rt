@@ -170,8 +170,8 @@ impl Board {
         }
     }
 
-    /// Goes to the record at latest, after a failed validation, and returns its place. Reports the lap with its number,
-    /// which is one more than before.
+    /// Goes to the record at latest, after a failed validation, and returns its place. The count that is reported is
+    /// one more than before.
     pub(crate) fn go_to_latest(
         &self,
         seat: &mut BoardSeat,

@@ -71,9 +71,9 @@ pub enum Stage {
     Behind,
 }
 
-/// What a seat knows. The transmitter knows the list `sent`, and the receivers that were joined to it (`heard`). A
-/// receiver subscribed at `from`, and is now at `at`, before the entry `next` of the list. It was lapped `count` times,
-/// and has its copies. Each seat has a log of its loads.
+/// The knowledge of a seat. The transmitter knows the list `sent`, and the receivers that were joined to it (`heard`).
+/// A receiver subscribed at `from`, and is now at `at`, before the entry `next` of the list. It was lapped `count`
+/// times, and has its copies. Each seat has a log of its loads.
 pub struct View {
     pub stage: Stage,
     pub shares: u64,

@@ -1,4 +1,4 @@
-//! Tests of a claim: whether it is valid, its place, and whether the ring has room for it.
+//! Tests of a claim, its place, and the search for room in the ring.
 ghost use Rattle.ring_layout.specs.Places.{IsCapacity, max_position};
 ghost use Rattle.ring_rings.specs.Claiming.{IsRefusedBy, request_refusal_of, tail_refusal_of};
 ghost use Rattle.ring_rings.specs.Making.{FindsRoom, FindsShortage, GoesBehind};

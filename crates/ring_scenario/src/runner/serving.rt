@@ -199,8 +199,8 @@ fn write_message<R: Wait>(
     ring.write(rt, producer, type_id, body)
 }
 
-/// Draws a correlation id, and writes the command with this id. Returns `None` if the command has no room. The id stays
-/// drawn.
+/// Draws a correlation id, and writes the command with this id. Returns `None` if the command has no room. The id is
+/// not drawn again.
 fn send_request<R: Wait>(
     rt: &R,
     ring: &ManyToOneRing,
@@ -243,8 +243,8 @@ impl CommandService {
         write_message(rt, &self.ring, &mut self.producer, type_id, body)
     }
 
-    /// Draws a correlation id, writes the command with it into the ring, and returns the id. The id stays drawn, even
-    /// if the ring refuses the command as `ManyToOneRing::write` does.
+    /// Draws a correlation id, writes the command with it into the ring, and returns the id. The id is not drawn again,
+    /// even if the ring refuses the command as `ManyToOneRing::write` does.
     ///
     /// Returns `None` if the command takes more than 4,096 bytes. Nothing has then changed.
     pub fn request<R: Wait>(

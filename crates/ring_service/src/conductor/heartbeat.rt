@@ -8,7 +8,7 @@ use crate::conductor::Conductor;
 use ring_rings::Heartbeat;
 
 impl Conductor {
-    /// Stores the ring's heartbeat, by one step. Clients load it with `Ring::heartbeat` on threads of their own. The
+    /// Stores the ring's heartbeat, by one step. Clients load it with `Ring::heartbeat`, on other threads. The
     /// heartbeat is 0 before the first one is stored.
     ///
     /// The caller chooses the value, such as a time in milliseconds, and nothing here reads it. The thread that uses

@@ -40,10 +40,10 @@ impl Conductor {
     ) -> FinishedWithout
         requires conductor { IsConductorOf R.is_consumer ring board values self }
 
-        // The received messages, followed by the messages that are still in the ring, are the committed records of each
-        // history of all claims that the ring had when it was taken apart. The claims of lost producers are among them.
-        // The copies of each joined receiver are runs of the replies. Counters and replies are the fold of the received
-        // messages.
+        // When it was taken apart, the ring had histories of all claims. For each of them, the received messages,
+        // followed by those that are still in the ring, are the committed records. The claims of lost producers are
+        // among them. The copies of each joined receiver are runs of the replies. Counters and replies are the fold of
+        // the received messages.
         ensures headline { HeadlineWithout R.bodies (R.bytes ring) (R.start ring) self result }
 
         // The counters, the replies and the values are handed on.

@@ -104,8 +104,8 @@ fn join_records(words: &mut [u64], slots: &[u64], capacity: u32, head: u64, tail
 /// `capacity / 8` words, which have the bodies at the same indexes. All listings can read the result.
 ///
 /// The call goes from the head to the tail, one record after another. Padding, which has the type id -2, gets the type
-/// id that it has in the format. Any other record gets its body, whatever its state is. The call ends at a header that
-/// no record has, and leaves the header as it is. All other words stay as they are. No word is changed if the positions
+/// id that it has in the format. Any other record gets its body, in each state. The call ends at a header that no
+/// record has, and leaves the header as it is. All other words stay as they are. No word is changed if the positions
 /// make no sense.
 ///
 /// Returns `BadSize` if no ring has this many words. Otherwise returns `BadBodies` if there are not as many slots as
