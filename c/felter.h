@@ -128,7 +128,8 @@ enum felter_code {
     FELTER_NO_MESSAGE = 105,          /* no message is there yet */
     FELTER_SHORT_BUFFER = 106,        /* the message is longer than the buffer, and stays */
     FELTER_BAD_MOMENT = 107,          /* the moment is above 2^62 */
-    FELTER_OTHER_RING = 108,          /* the two handles are of two rings, boards, conductors or sets of counters */
+    FELTER_OTHER_RING = 108,          /* the two handles are of two rings, boards, conductors, sets of counters or
+                                         shared counters */
     FELTER_OTHER_REPLY = 109,         /* the message is the reply to another command, or no reply */
     FELTER_IN_USE = 110,              /* another handle holds what was to be closed */
     FELTER_NULL_POINTER = 111         /* a pointer is NULL */
@@ -147,6 +148,7 @@ typedef struct felter_receiver { felter_handle handle; } felter_receiver;
 typedef struct felter_raw_receiver { felter_handle handle; } felter_raw_receiver;
 typedef struct felter_counters { felter_handle handle; } felter_counters;
 typedef struct felter_reader { felter_handle handle; } felter_reader;
+typedef struct felter_adder { felter_handle handle; } felter_adder;
 typedef struct felter_conductor { felter_handle handle; } felter_conductor;
 typedef struct felter_client { felter_handle handle; } felter_client;
 
@@ -470,6 +472,32 @@ int32_t felter_reader_value(felter_reader *reader, uint32_t id, int64_t *value);
 /* Takes back a reader of these counters with its share, and empties the reader's handle. Codes: FELTER_OTHER_RING if
  * the reader is of other counters, or if felter_conductor_reader made it. */
 int32_t felter_counters_join(felter_counters *counters, felter_reader *reader);
+
+/* Shared counters ------------------------------------------------------------------------------------------------ */
+
+/* A shared counter is one number, to which any thread can add. Each thread adds with an adder of its own. The value of
+ * the shared counter is the sum of all amounts that were added with all of its adders. The sum wraps: above 2^63 - 1 to
+ * -2^63, and below -2^63 to 2^63 - 1. A shared counter is not one of the counters above. It has no id and no readers.
+ * Like a ring, a shared counter has a number, and rule 6 at the head of this file holds for the number.
+ *
+ * felter_adder_new makes a shared counter of the value 0, and its first adder, which holds all 65,536 shares. Codes:
+ * FELTER_HANDLE_IN_USE, FELTER_OUT_OF_MEMORY. */
+int32_t felter_adder_new_numbered(uint64_t number, felter_adder *adder);
+static inline int32_t felter_adder_new(felter_adder *adder);
+/* Makes `other` another adder of the same shared counter, for another thread. `other` gets one share of `adder`. If
+ * `other` is freed without felter_adder_join, its additions stay in the value, and its shares are lost. Codes:
+ * FELTER_NO_SHARES if `adder` has one share, FELTER_OUT_OF_MEMORY, FELTER_HANDLE_IN_USE. */
+int32_t felter_adder_split(felter_adder *adder, felter_adder *other);
+/* Joins `other` to `adder`, which is an adder of the same shared counter. The shares of `other` go to `adder`, and the
+ * handle `other` is empty afterwards. Codes: FELTER_OTHER_RING. */
+int32_t felter_adder_join(felter_adder *adder, felter_adder *other);
+/* Adds to the value, and writes the value before the addition. */
+int32_t felter_adder_add(felter_adder *adder, int64_t delta, int64_t *before);
+/* Loads the value. If the adder holds all 65,536 shares, no other adder exists. The value is then exactly the sum of
+ * the amounts that were added with this adder and with the adders that were joined to it. */
+int32_t felter_adder_value(felter_adder *adder, int64_t *value);
+/* Writes how many of the 65,536 shares the adder holds. */
+int32_t felter_adder_shares(felter_adder *adder, uint32_t *shares);
 
 /* Conductors ----------------------------------------------------------------------------------------------------- */
 

@@ -15,6 +15,7 @@
 #define felter_board_new felter_inline_board_new
 #define felter_board_new_at felter_inline_board_new_at
 #define felter_counters_new felter_inline_counters_new
+#define felter_adder_new felter_inline_adder_new
 #define felter_conductor_new felter_inline_conductor_new
 #include "felter.h"
 #undef felter_text
@@ -27,6 +28,7 @@
 #undef felter_board_new
 #undef felter_board_new_at
 #undef felter_counters_new
+#undef felter_adder_new
 #undef felter_conductor_new
 
 const char *felter_text(int32_t code);
@@ -81,6 +83,11 @@ int32_t felter_board_new_at(uint32_t capacity, uint64_t start, felter_transmitte
 int32_t felter_counters_new(uint32_t count, uint32_t reuse_ms, felter_counters *counters);
 int32_t felter_counters_new(uint32_t count, uint32_t reuse_ms, felter_counters *counters) {
     return felter_inline_counters_new(count, reuse_ms, counters);
+}
+
+int32_t felter_adder_new(felter_adder *adder);
+int32_t felter_adder_new(felter_adder *adder) {
+    return felter_inline_adder_new(adder);
 }
 
 int32_t felter_conductor_new(uint32_t capacity, uint32_t replies, uint32_t counters, uint32_t reuse_ms,

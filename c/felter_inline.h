@@ -63,7 +63,7 @@ static inline const char *felter_text(int32_t code) {
     case 105: return "no message is there yet";
     case 106: return "the message is longer than the buffer, and stays";
     case 107: return "the moment is above 2^62";
-    case 108: return "the two handles are of two rings, boards, conductors or sets of counters";
+    case 108: return "the two handles are of two rings, boards, conductors, sets of counters or shared counters";
     case 109: return "the message is the reply to another command, or no reply";
     case 110: return "another handle holds what was to be closed";
     case 111: return "a pointer is NULL";
@@ -724,6 +724,59 @@ FELTER_GUARD int32_t felter_guarded_counters_join(felter_counters *counters, fel
     return code;
 }
 
+FELTER_GUARD int32_t felter_guarded_adder_new_numbered(uint64_t number, felter_adder *adder) {
+    if (!adder) return felter_refuse("felter_adder_new_numbered", FELTER_NO_HANDLE);
+    FELTER_ENTER1("felter_adder_new_numbered", &adder->handle);
+    int32_t code = felter_adder_new_numbered(number, adder);
+    FELTER_LEAVE1();
+    return code;
+}
+
+FELTER_GUARD int32_t felter_guarded_adder_split(felter_adder *adder, felter_adder *other) {
+    if (!adder) return felter_refuse("felter_adder_split", FELTER_NO_HANDLE);
+    if (!other) return felter_refuse("felter_adder_split", FELTER_NO_HANDLE);
+    FELTER_ENTER2("felter_adder_split", &adder->handle, &other->handle);
+    int32_t code = felter_adder_split(adder, other);
+    FELTER_LEAVE2();
+    return code;
+}
+
+FELTER_GUARD int32_t felter_guarded_adder_join(felter_adder *adder, felter_adder *other) {
+    if (!adder) return felter_refuse("felter_adder_join", FELTER_NO_HANDLE);
+    if (!other) return felter_refuse("felter_adder_join", FELTER_NO_HANDLE);
+    FELTER_ENTER2("felter_adder_join", &adder->handle, &other->handle);
+    int32_t code = felter_adder_join(adder, other);
+    FELTER_LEAVE2();
+    return code;
+}
+
+FELTER_GUARD int32_t felter_guarded_adder_add(felter_adder *adder, int64_t delta, int64_t *before) {
+    if (!adder) return felter_refuse("felter_adder_add", FELTER_NO_HANDLE);
+    if (!before) return felter_refuse("felter_adder_add", FELTER_NULL_POINTER);
+    FELTER_ENTER1("felter_adder_add", &adder->handle);
+    int32_t code = felter_adder_add(adder, delta, before);
+    FELTER_LEAVE1();
+    return code;
+}
+
+FELTER_GUARD int32_t felter_guarded_adder_value(felter_adder *adder, int64_t *value) {
+    if (!adder) return felter_refuse("felter_adder_value", FELTER_NO_HANDLE);
+    if (!value) return felter_refuse("felter_adder_value", FELTER_NULL_POINTER);
+    FELTER_ENTER1("felter_adder_value", &adder->handle);
+    int32_t code = felter_adder_value(adder, value);
+    FELTER_LEAVE1();
+    return code;
+}
+
+FELTER_GUARD int32_t felter_guarded_adder_shares(felter_adder *adder, uint32_t *shares) {
+    if (!adder) return felter_refuse("felter_adder_shares", FELTER_NO_HANDLE);
+    if (!shares) return felter_refuse("felter_adder_shares", FELTER_NULL_POINTER);
+    FELTER_ENTER1("felter_adder_shares", &adder->handle);
+    int32_t code = felter_adder_shares(adder, shares);
+    FELTER_LEAVE1();
+    return code;
+}
+
 FELTER_GUARD int32_t felter_guarded_conductor_new_numbered(uint64_t number, uint32_t capacity, uint32_t replies,
                                                            uint32_t counters, uint32_t reuse_ms,
                                                            felter_conductor *conductor) {
@@ -1014,6 +1067,10 @@ FELTER_GUARD int32_t felter_counters_new(uint32_t count, uint32_t reuse_ms, felt
     return felter_guarded_counters_new_numbered(felter_next_number(), count, reuse_ms, counters);
 }
 
+FELTER_GUARD int32_t felter_adder_new(felter_adder *adder) {
+    return felter_guarded_adder_new_numbered(felter_next_number(), adder);
+}
+
 FELTER_GUARD int32_t felter_conductor_new(uint32_t capacity, uint32_t replies, uint32_t counters, uint32_t reuse_ms,
                                           felter_conductor *conductor) {
     return felter_guarded_conductor_new_numbered(felter_next_number(), capacity, replies, counters, reuse_ms,
@@ -1137,6 +1194,12 @@ FELTER_GUARD int32_t felter_standing(felter_producer *producer, felter_consumer 
 #define felter_counters_reader felter_guarded_counters_reader
 #define felter_reader_value felter_guarded_reader_value
 #define felter_counters_join felter_guarded_counters_join
+#define felter_adder_new_numbered felter_guarded_adder_new_numbered
+#define felter_adder_split felter_guarded_adder_split
+#define felter_adder_join felter_guarded_adder_join
+#define felter_adder_add felter_guarded_adder_add
+#define felter_adder_value felter_guarded_adder_value
+#define felter_adder_shares felter_guarded_adder_shares
 #define felter_conductor_new_numbered felter_guarded_conductor_new_numbered
 #define felter_conductor_client felter_guarded_conductor_client
 #define felter_conductor_work felter_guarded_conductor_work

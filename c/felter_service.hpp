@@ -1,4 +1,5 @@
-// Counters, readers of their values, and conductors with their clients, for C++17. felter.hpp includes this header.
+// Counters, readers of their values, shared counters, and conductors with their clients, for C++17. felter.hpp includes
+// this header.
 #ifndef FELTER_SERVICE_HPP
 #define FELTER_SERVICE_HPP
 
@@ -109,6 +110,29 @@ public:
         return detail::made<felter::reader>([&](felter_reader *it) { return felter_counters_reader(raw(), it); });
     }
     code join(felter::reader &back) { return felter_counters_join(raw(), back.raw()); }
+};
+
+// Adds to a shared counter, to which each thread adds with an adder of its own. `make` makes the shared counter.
+class adder : public owner<felter_adder> {
+public:
+    static result<adder> make() {
+        return detail::made<adder>([](felter_adder *it) { return felter_adder_new(it); });
+    }
+    result<adder> split() {
+        return detail::made<adder>([&](felter_adder *it) { return felter_adder_split(raw(), it); });
+    }
+    code join(adder &other) { return felter_adder_join(raw(), other.raw()); }
+    // Adds to the value, which wraps, and returns the value before the addition.
+    result<std::int64_t> add(std::int64_t delta) {
+        return detail::out<std::int64_t>([&](std::int64_t *it) { return felter_adder_add(raw(), delta, it); });
+    }
+    // The sum of all that was added with all adders.
+    result<std::int64_t> value() {
+        return detail::out<std::int64_t>([&](std::int64_t *it) { return felter_adder_value(raw(), it); });
+    }
+    result<std::uint32_t> shares() {
+        return detail::out<std::uint32_t>([&](std::uint32_t *it) { return felter_adder_shares(raw(), it); });
+    }
 };
 
 struct reply {

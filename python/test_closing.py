@@ -261,6 +261,7 @@ class Closing(Case):
             (boards[0].join, boards[1].subscribe()),
             (boards[0].join_raw, boards[1].subscribe_raw()),
             (counters[0].join, counters[1].reader()),
+            (felter.Adder().join, felter.Adder().split()),
             (conductors[0].join, conductors[1].client()),
             (conductors[0].join_receiver, conductors[1].subscribe()),
             (conductors[0].join_reader, conductors[1].reader()),

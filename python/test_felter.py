@@ -306,6 +306,46 @@ class Boards(Case):
             self.assertEqual(numbers, sorted(set(numbers)))
 
 
+class AdderCase(Case):
+    def test_totals_of_threads_are_exact(self):
+        adder = felter.Adder()
+        amounts = [3, -1, 2**40]
+        others = [adder.split() for _ in amounts]
+
+        def add(other, amount):
+            for _ in range(2000):
+                other.add(amount)
+
+        run(*(lambda it=it: add(*it) for it in zip(others, amounts)))
+        for other in others:
+            adder.join(other)
+            self.refuses(Number.NO_HANDLE, other.value)
+        self.assertEqual((adder.value(), adder.shares()), (2000 * sum(amounts), 65536))
+
+    def test_sums_wrap_and_the_value_before_is_returned(self):
+        adder = felter.Adder()
+        with adder.split() as other:
+            least, most = -(2**63), 2**63 - 1
+            for amount, before in (most, 0), (1, most), (-1, least), (least, most):
+                self.assertEqual(other.add(amount), before)
+            self.assertEqual((adder.value(), other.value()), (-1, -1))
+        with self.assertRaises(OverflowError):
+            adder.add(2**63)
+
+    def test_shares_are_split_and_given_back(self):
+        adder, another = felter.Adder(), felter.Adder()
+        other = adder.split()
+        self.assertEqual((adder.shares(), other.shares()), (65535, 1))
+        self.refuses(Number.NO_SHARES, other.split)
+        other.add(5)
+        self.refuses(Number.OTHER_RING, another.join, other)
+        self.refuses(Number.OTHER_RING, adder.join, adder)
+        self.assertEqual((another.value(), another.shares()), (0, 65536))
+        adder.join(other)
+        adder.split().free()
+        self.assertEqual((adder.value(), adder.shares()), (5, 65535))
+
+
 class CountersCase(Case):
     def test_counters_say_what_they_were_given(self):
         counters = felter.Counters(3, 10)

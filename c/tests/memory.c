@@ -67,6 +67,7 @@ static struct {
     felter_raw_receiver raw;
     felter_counters counters;
     felter_reader reader;
+    felter_adder adder, other_adder;
     felter_conductor conductor;
     felter_client client, other_client;
     felter_receiver replies;
@@ -171,6 +172,20 @@ static int32_t close_board(void) {
 }
 static int32_t give_reader_back(void) { return felter_counters_join(&all.counters, &all.reader); }
 
+static int32_t make_adder(void) { return felter_adder_new(&all.adder); }
+static int32_t split_adder(void) { return felter_adder_split(&all.adder, &all.other_adder); }
+/* Adds by the other adder, and sees that no share was lost. */
+static int32_t add_by_other(void) {
+    int64_t before = 77, value = 77;
+    uint32_t shares = 77;
+    int32_t code = felter_adder_add(&all.other_adder, 3, &before);
+    EXPECT(FELTER_OK, felter_adder_value(&all.adder, &value));
+    EXPECT(FELTER_OK, felter_adder_shares(&all.adder, &shares));
+    CHECK(before == 0 && value == 3 && shares == 65535);
+    return code;
+}
+static int32_t give_adder_back(void) { return felter_adder_join(&all.adder, &all.other_adder); }
+
 static int32_t make_conductor(void) { return felter_conductor_new(256, 256, 2, 0, &all.conductor); }
 static int32_t hire(void) { return felter_conductor_client(&all.conductor, &all.client); }
 static int32_t hire_other(void) { return felter_conductor_client(&all.conductor, &all.other_client); }
@@ -216,18 +231,20 @@ static int32_t (*const steps[])(void) = {
     listen,         lend_values, command,   give_back,  give_replies_back, give_values_back, finish_early,
     finish,         make_conductor, hire,   hire_other, listen,            lend_values,      command,
     abort_all,      write_one,   close_ring, finish_ring, claim_single,    give_receiver_back, give_raw_back,
-    close_board,    make_board,  subscribe, subscribe_raw, give_reader_back, lend,
+    close_board,    make_board,  subscribe, subscribe_raw, give_reader_back, lend,             make_adder,
+    split_adder,    add_by_other, give_adder_back, split_adder,
 };
 
 #define STEPS (sizeof steps / sizeof *steps)
 
-/* The calls of a conductor that take memory, each of which has to be refused some. */
-static int32_t (*const taking[])(void) = {make_conductor, hire, hire_other, listen, lend_values};
+/* The calls of conductors and adders that take memory, each of which has to be refused some. */
+static int32_t (*const taking[])(void) = {make_conductor, hire,       hire_other, listen,
+                                          lend_values,    make_adder, split_adder};
 
 /* The calls that take back and end, which take no memory, so that they can be made if there is none. */
 static int32_t (*const giving[])(void) = {give_back,          give_replies_back, give_values_back, finish,
                                           close_ring,         finish_ring,       close_board,      give_reader_back,
-                                          give_receiver_back, give_raw_back};
+                                          give_receiver_back, give_raw_back,     give_adder_back};
 
 static int refusals_in(int32_t (*step)(void), const int *refusals_of) {
     int refusals = 0;
@@ -245,7 +262,8 @@ static void free_all(void) {
                                 &all.consumer.handle,  &all.of_single.handle, &all.transmitter.handle,
                                 &all.receiver.handle,  &all.raw.handle,       &all.counters.handle,
                                 &all.reader.handle,    &all.client.handle,    &all.other_client.handle,
-                                &all.values.handle,    &all.replies.handle,   &all.conductor.handle};
+                                &all.values.handle,    &all.replies.handle,   &all.conductor.handle,
+                                &all.adder.handle,     &all.other_adder.handle};
     for (size_t i = 0; i < sizeof handles / sizeof *handles; i++) felter_free(handles[i]);
     all.claimed = 0;
 }

@@ -25,6 +25,7 @@ static_assert(!std::is_copy_constructible_v<felter::producer>);
 static_assert(std::is_nothrow_move_constructible_v<felter::producer>);
 static_assert(!std::is_copy_constructible_v<felter::claim>);
 static_assert(sizeof(felter::counters) == sizeof(felter_counters));
+static_assert(sizeof(felter::adder) == sizeof(felter_adder));
 // An array that can be written is no text in quotes: its last byte may be one of the body.
 static_assert(std::is_convertible_v<const char (&)[4], felter::bytes>);
 static_assert(!std::is_convertible_v<char (&)[4], felter::bytes>);
@@ -262,6 +263,23 @@ void waits() {
     working.join();
 }
 
+// Threads add to a shared counter, and the total is exact.
+void adders() {
+    auto adder = felter::adder::make().value();
+    auto one = adder.split().value(), two = adder.split().value();
+    const auto add = [](felter::adder &to, std::int64_t amount) {
+        for (int i = 0; i < 20000; i++) to.add(amount).value();
+    };
+    std::thread thread([&] { add(one, 3); });
+    add(two, -1);
+    thread.join();
+    CHECK(two.split().code() == FELTER_NO_SHARES && two.shares().value() == 1);
+    CHECK(felter::adder::make().value().join(one) == FELTER_OTHER_RING);
+    CHECK(adder.join(one) && adder.join(two) && two.value().code() == FELTER_NO_HANDLE);
+    CHECK(adder.value().value() == 40000 && adder.shares().value() == 65536);
+    CHECK(adder.add(INT64_MAX).value() == 40000 && adder.value().value() == INT64_MIN + 39999);
+}
+
 void boards_and_conductors() {
     auto transmitter = felter::transmitter::make(512).value();
     auto receiver = transmitter.subscribe().value();
@@ -305,6 +323,7 @@ int main() {
     peeks();
     claims();
     threads_and_ends();
+    adders();
     boards_and_conductors();
     return failed != 0;
 }

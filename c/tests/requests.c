@@ -1,6 +1,6 @@
 /* No call requests memory but those that make something: the constructors, felter_split, felter_claim, the calls that
- * subscribe, and those that make clients and readers. Each other call of felter.h is made once or more, with success
- * and with an error, and the requests in it are counted.
+ * subscribe, and those that make clients, readers and adders. Each other call of felter.h is made once or more, with
+ * success and with an error, and the requests in it are counted.
  * Link with -Wl,--wrap=malloc,--wrap=calloc,--wrap=realloc,--wrap=aligned_alloc,--wrap=posix_memalign,--wrap=free. */
 #include "check.h"
 
@@ -217,6 +217,21 @@ static void counters(void) {
     CHECK(felter_text(FELTER_OK) && felter_version() > 0 && requests == before);
 }
 
+static void shared_counters(void) {
+    felter_adder adder = FELTER_EMPTY, other = FELTER_EMPTY, another = FELTER_EMPTY;
+    SOME(felter_adder_new(&adder));
+    SOME(felter_adder_new(&another));
+    SOME(felter_adder_split(&adder, &other));
+    NONE(FELTER_OK, felter_adder_add(&other, 5, &value));
+    NONE(FELTER_OK, felter_adder_value(&adder, &value));
+    CHECK(value == 5);
+    NONE(FELTER_OK, felter_adder_shares(&adder, &count));
+    NONE(FELTER_OTHER_RING, felter_adder_join(&another, &other));
+    NONE(FELTER_OK, felter_adder_join(&adder, &other));
+    felter_free(&adder.handle);
+    felter_free(&another.handle);
+}
+
 /* Asks for everything of the counter 0, which has the key `k` and the label `l`. */
 static void ask(felter_conductor *conductor) {
     NONE(FELTER_OK, felter_conductor_count(conductor, &count));
@@ -281,6 +296,7 @@ int main(void) {
     rings();
     broadcast_buffers();
     counters();
+    shared_counters();
     conductors();
     printf("requests: %d calls requested no memory\n", calls);
     return 0;

@@ -131,4 +131,14 @@ final class Native {
     static native int countersReader(long counters, long reader);
 
     static native int readerValue(long reader, int id, long out);
+
+    static native int adderNew(long adder);
+
+    static native int adderSplit(long adder, long other);
+
+    static native int adderJoin(long adder, long other);
+
+    static native int adderAdd(long adder, long delta, long out);
+
+    static native int adderValue(long adder, long out);
 }

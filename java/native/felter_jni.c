@@ -251,3 +251,30 @@ NATIVE(jint, readerValue)(HERE, jlong reader, jint id, jlong out) {
     (void)env, (void)its;
     return felter_reader_value(at(reader), (uint32_t)id, at(out));
 }
+
+/* Shared counters */
+
+NATIVE(jint, adderNew)(HERE, jlong adder) {
+    (void)env, (void)its;
+    return felter_adder_new(at(adder));
+}
+
+NATIVE(jint, adderSplit)(HERE, jlong adder, jlong other) {
+    (void)env, (void)its;
+    return felter_adder_split(at(adder), at(other));
+}
+
+NATIVE(jint, adderJoin)(HERE, jlong adder, jlong other) {
+    (void)env, (void)its;
+    return felter_adder_join(at(adder), at(other));
+}
+
+NATIVE(jint, adderAdd)(HERE, jlong adder, jlong delta, jlong out) {
+    (void)env, (void)its;
+    return felter_adder_add(at(adder), delta, at(out));
+}
+
+NATIVE(jint, adderValue)(HERE, jlong adder, jlong out) {
+    (void)env, (void)its;
+    return felter_adder_value(at(adder), at(out));
+}

@@ -21,9 +21,9 @@ rules are:
 - A handle must not be copied or pickled.
 - A handle must not be used in a forked child, nor by a signal handler that interrupted a call of the same handle. A
   call that breaks this rule raises RuntimeError.
-- If two handles of a call belong to different rings, boards, sets of counters or conductors, the call raises
-  OTHER_RING. This module gives each of these structures a number, from one count. Both the module and the library
-  compare the numbers.
+- If two handles of a call belong to different rings, boards, sets of counters, shared counters or conductors, the call
+  raises OTHER_RING. This module gives each of these structures a number, from one count. Both the module and the
+  library compare the numbers.
 
 The library. If FELTER_DIR names a folder, the library is libfelter.so in that folder. Otherwise the library is in this
 package, or in the repository's c/out, which c/build fills. `implementation` says how calls reach the library:
@@ -42,6 +42,7 @@ The library is proved. This module is tested and not proved.
 
 from felter._library import implementation
 from felter._owner import Sizes
+from felter.adders import Adder
 from felter.boards import Lap, RawReceiver, RawRecord, Receiver, Transmitter
 from felter.claims import Claim
 from felter.conductor import Client, Conductor, Finished, Outcome, Reply, ReplyKind, Unanswered, Work, WorkStop
@@ -56,6 +57,7 @@ __version__ = "0.1.0"
 
 __all__ = [
     "Action",
+    "Adder",
     "Buffer",
     "Claim",
     "Client",

@@ -71,6 +71,12 @@ felter_counters_close_owner *counters u64 u64 *u32
 felter_counters_reader *counters *reader
 felter_reader_value *reader u32 *i64
 felter_counters_join *counters *reader
+felter_adder_new_numbered u64 *adder
+felter_adder_split *adder *adder
+felter_adder_join *adder *adder
+felter_adder_add *adder i64 *i64
+felter_adder_value *adder *i64
+felter_adder_shares *adder *u32
 felter_conductor_new_numbered u64 u32 u32 u32 u32 *conductor
 felter_conductor_client *conductor *client
 felter_conductor_work *conductor u64 u32 *u64 *i32

@@ -72,7 +72,7 @@ TEXTS = {
     105: "no message is there yet",
     106: "the message is longer than the buffer, and stays",
     107: "the moment is above 2^62",
-    108: "the two handles are of two rings, boards, conductors or sets of counters",
+    108: "the two handles are of two rings, boards, conductors, sets of counters or shared counters",
     109: "the message is the reply to another command, or no reply",
     110: "another handle holds what was to be closed",
     111: "a pointer is NULL",

@@ -20,7 +20,7 @@ from felter.errors import Lapped, refusal
 from felter.message import Message
 
 # Each call, with the words for its parameters. Here all kinds of handles are one kind.
-KINDS = "producer consumer transmitter receiver raw_receiver counters reader conductor client".split()
+KINDS = "producer consumer transmitter receiver raw_receiver counters reader adder conductor client".split()
 TABLE = {
     name: ["*handle" if it.startswith("*") and it[1:] in KINDS else it for it in words]
     for name, *words in map(str.split, CALLS.strip().splitlines())

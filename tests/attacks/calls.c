@@ -157,16 +157,18 @@ void look_at_sizes(felter_handle *handle, uint32_t capacity) {
 /* One sequence: steps of all parts, then all handles are freed and no memory is left. */
 static void run_sequence(int steps) {
     for (int k = 0; k < steps && (!chosen || chosen_left); k++) {
-        switch (pick(8)) {
+        switch (pick(9)) {
         case 0: case 1: case 2: ring_step(); break;
         case 3: case 4: board_step(); break;
         case 5: counter_step(); break;
+        case 6: adder_step(); break;
         default: conductor_step();
         }
     }
     ring_end();
     board_end();
     counter_end();
+    adder_end();
     conductor_end();
     CHECK(live == 0);
     sequence++;

@@ -58,6 +58,8 @@ void board_step(void);
 void board_end(void);
 void counter_step(void);
 void counter_end(void);
+void adder_step(void);
+void adder_end(void);
 void conductor_step(void);
 void conductor_end(void);
 

@@ -1,7 +1,7 @@
 /* Threads that meet in calls of different handles: receivers of both kinds with a transmitter, readers of values with
- * the owner of counters, clients with a conductor, and threads that load positions, heartbeats and ids of a ring with
- * its producers and its consumer. Each thread checks what the documents and felter.h state, and nothing that only the
- * code says.
+ * the owner of counters, adders with each other, clients with a conductor, and threads that load positions, heartbeats
+ * and ids of a ring with its producers and its consumer. Each thread checks what the documents and felter.h state, and
+ * nothing that only the code says.
  *
  *     meetings SECONDS SEED     rounds until the time is over; prints how much that was */
 #include "meetings.h"
@@ -174,6 +174,7 @@ static struct made {
     felter_receiver receiver;
     felter_counters counters;
     felter_reader reader;
+    felter_adder adder, other;
     felter_conductor conductor;
     felter_client client;
 } made[MADE];
@@ -191,9 +192,11 @@ static void *make(void *with) {
                      : felter_many_to_one_new(128, &it->producer, &it->consumer)) == FELTER_OK);
         CHECK(felter_board_new(256, &it->transmitter) == FELTER_OK);
         CHECK(felter_counters_new(1, 0, &it->counters) == FELTER_OK);
+        CHECK(felter_adder_new(&it->adder) == FELTER_OK);
         CHECK(felter_conductor_new(128, 256, 1, 0, &it->conductor) == FELTER_OK);
         CHECK(felter_subscribe(&it->transmitter, &it->receiver) == FELTER_OK);
         CHECK(felter_counters_reader(&it->counters, &it->reader) == FELTER_OK);
+        CHECK(felter_adder_split(&it->adder, &it->other) == FELTER_OK);
         CHECK(felter_conductor_client(&it->conductor, &it->client) == FELTER_OK);
     }
     return NULL;
@@ -205,6 +208,7 @@ static void check_numbers(struct made *one, struct made *other) {
     CHECK(felter_close(&one->consumer, &other->producer) == wanted);
     CHECK(felter_board_join(&one->transmitter, &other->receiver) == wanted);
     CHECK(felter_counters_join(&one->counters, &other->reader) == wanted);
+    CHECK(felter_adder_join(&one->adder, &other->other) == wanted);
     CHECK(felter_conductor_join(&one->conductor, &other->client) == wanted);
 }
 
@@ -221,9 +225,10 @@ static void meet_as_makers(void) {
         felter_free(&made[k].consumer.handle);
         felter_free(&made[k].transmitter.handle);
         felter_free(&made[k].counters.handle);
+        felter_free(&made[k].adder.handle);
         felter_free(&made[k].conductor.handle);
     }
-    totals.structures += 4 * MADE;
+    totals.structures += 5 * MADE;
 }
 
 int main(int count, char **words) {
@@ -237,6 +242,7 @@ int main(int count, char **words) {
     do {
         meet_at_board(&dice);
         meet_at_counters(&dice);
+        meet_at_adders(&dice);
         meet_at_ring(&dice);
         meet_at_conductor(&dice);
         meet_as_makers();
@@ -245,8 +251,8 @@ int main(int count, char **words) {
     const struct totals *it = &totals;
     const struct { const char *name; uint64_t count; } said[] = {
         {"rounds", rounds}, {"copies", it->copies}, {"validated", it->validated}, {"laps", it->laps},
-        {"values", it->values}, {"writes of values", it->writes}, {"messages", it->messages},
-        {"controlled", it->controlled}, {"positions", it->loads}, {"standings", it->asked},
+        {"values", it->values}, {"writes of values", it->writes}, {"additions", it->additions},
+        {"messages", it->messages}, {"controlled", it->controlled}, {"positions", it->loads}, {"standings", it->asked},
         {"commands", it->commands}, {"replies", it->replies}, {"structures", it->structures}};
     for (size_t k = 0; k < sizeof said / sizeof *said; k++)
         printf("%s%llu %s", k ? ", " : "", (unsigned long long)said[k].count, said[k].name);

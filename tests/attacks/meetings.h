@@ -81,6 +81,7 @@ struct worker {
         felter_receiver receiver;
         felter_raw_receiver raw;
         felter_reader reader;
+        felter_adder adder;
         felter_client client;
     } its;
     pthread_mutex_t lock;
@@ -101,12 +102,14 @@ static inline bool all_leave(struct office *office) { return atomic_load(&office
 /* Meetings --------------------------------------------------------------------------------------------------------- */
 
 extern struct totals {
-    uint64_t copies, validated, laps, values, writes, messages, loads, controlled, asked, commands, replies, structures;
+    uint64_t copies, validated, laps, values, writes, additions, messages, loads, controlled, asked, commands, replies,
+        structures;
 } totals;
 
 /* A round of each. */
 void meet_at_board(uint64_t *dice);
 void meet_at_counters(uint64_t *dice);
+void meet_at_adders(uint64_t *dice);
 void meet_at_ring(uint64_t *dice);
 void meet_at_conductor(uint64_t *dice);
 

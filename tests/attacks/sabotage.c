@@ -244,6 +244,38 @@ int32_t __wrap_felter_counter_set(felter_counters *counters, uint32_t id, int64_
 }
 #endif
 
+#if defined SABOTAGE_ADDED_TWICE || defined SABOTAGE_UNADDED
+int32_t __real_felter_adder_add(felter_adder *adder, int64_t delta, int64_t *before);
+
+int32_t __wrap_felter_adder_add(felter_adder *adder, int64_t delta, int64_t *before) {
+#if defined SABOTAGE_ADDED_TWICE
+    int64_t sum;
+    int32_t code = __real_felter_adder_add(adder, delta, before);
+    if (code == FELTER_OK && ONCE_IN(50)) code = __real_felter_adder_add(adder, delta, &sum);
+    return code;
+#else
+    return ONCE_IN(300) ? felter_adder_value(adder, before) : __real_felter_adder_add(adder, delta, before);
+#endif
+}
+#endif
+
+#if defined SABOTAGE_OLD_SUM
+int32_t __real_felter_adder_value(felter_adder *adder, int64_t *value);
+
+/* The sum that the thread saw before the newest one. */
+int32_t __wrap_felter_adder_value(felter_adder *adder, int64_t *value) {
+    static _Thread_local int64_t newest, before;
+    int32_t code = __real_felter_adder_value(adder, value);
+    if (code != FELTER_OK) return code;
+    if (*value != newest) {
+        before = newest;
+        newest = *value;
+    }
+    if (ONCE_IN(20)) *value = before;
+    return code;
+}
+#endif
+
 #if defined SABOTAGE_SAME_ID
 int32_t __real_felter_next_id(felter_producer *producer, uint64_t *id);
 

@@ -24,6 +24,7 @@ IN_CALLS = {
     "UNTAKEN": "felter_take",         # one that is taken stays
     "UNRAISED": "felter_counter_propose_max",         # a value that was raised is said to be as it was
     "SET_ANYWAY": "felter_counter_compare_and_set",   # a value that was not expected is replaced all the same
+    "ADDED_TWICE": "felter_adder_add",                # an amount is added twice
     "SHORT_LAP": "felter_receiver_lap",               # a receiver is said to have been further on when it was lapped
     "EARLY_DEADLINE": "felter_conductor_deadline",    # a freed id is said to rest for less
 }
@@ -35,6 +36,8 @@ IN_MEETINGS = {
     "OVERWRITTEN": "felter_validate",      # a record that is overwritten is said to be whole
     "OLD_VALUE": "felter_reader_value",    # a reader gets an older value of a counter after a newer one
     "UNSET": "felter_counter_set",         # a value is not written
+    "UNADDED": "felter_adder_add",         # an amount is not added
+    "OLD_SUM": "felter_adder_value",       # an adder gets an older sum after a newer one
     "SAME_ID": "felter_next_id",           # a correlation id is drawn twice
     "OLD_HEAD": "felter_positions",        # a head is older than one loaded before
     "OLD_BEAT": "felter_heartbeat",        # and so is a heartbeat

@@ -2,7 +2,8 @@
 
 `threads` frees what it holds under load, and `lanes` sends messages of all kinds through rings whose handles go from
 thread to thread. `meetings` has the other calls that can meet: receivers with a transmitter, readers with the owner of
-counters, clients with a conductor, and loads of positions, heartbeats and ids with writes and reads.
+counters, adders with each other, clients with a conductor, and loads of positions, heartbeats and ids with writes and
+reads.
 """
 import os
 import tempfile
@@ -10,8 +11,8 @@ import tempfile
 from .shared import Finding, compiled, ended, run_program
 from .uncalled import unmet
 
-MEETINGS = ("meetings.c", "meetings_boards.c", "meetings_counters.c", "meetings_rings.c", "meetings_conductor.c",
-            "meetings_callers.c", "meetings_fold.c", "model.c")
+MEETINGS = ("meetings.c", "meetings_boards.c", "meetings_counters.c", "meetings_adders.c", "meetings_rings.c",
+            "meetings_conductor.c", "meetings_callers.c", "meetings_fold.c", "model.c")
 PROGRAMS = {"threads": ("threads.c",), "lanes": ("lanes.c",), "meetings": MEETINGS}
 
 

@@ -7,6 +7,7 @@ import felter.FelterException;
 import felter.ManyToOneRingBuffer;
 import felter.OneToOneRingBuffer;
 import felter.RingBuffer;
+import felter.SharedCounter;
 import java.nio.ByteBuffer;
 import java.nio.ByteOrder;
 import java.util.ArrayList;
@@ -103,6 +104,28 @@ public final class Two {
                 all = ring.read((type, buffer, index, length) -> check(type == 1 && length == 4, "what was written"));
             }
             check(all == 1 && ring.size() == 0, "a claim of a thread that has ended blocks the reader");
+        }
+    }
+
+    /** Threads add to a shared counter, and their adders are given back after they have ended. */
+    private static void adders() throws InterruptedException {
+        try (SharedCounter counter = new SharedCounter()) {
+            final List<Thread> threads = new ArrayList<>();
+            for (int lane = 0; lane < THREADS; lane++) {
+                final long amount = 1L << (20 * lane);
+                threads.add(new Thread(() -> {
+                    for (int i = 0; i < EACH; i++) {
+                        counter.getAndAdd(amount);
+                    }
+                }));
+            }
+            threads.forEach(Thread::start);
+            for (final Thread it : threads) {
+                it.join();
+            }
+            final long sum = EACH * (1L + (1L << 20) + (1L << 40));
+            check(counter.get() == sum && counter.increment() == sum && counter.decrement() == sum + 1, "the total");
+            check(counter.getAndAdd(Long.MAX_VALUE) == sum && counter.get() < 0, "the value wraps");
         }
     }
 
@@ -205,6 +228,7 @@ public final class Two {
     public static void main(final String[] arguments) throws InterruptedException {
         threads();
         endedThread();
+        adders();
         oneThread();
         others();
         System.out.println("1000 messages, in order");

@@ -7,8 +7,8 @@ use Rattle.ring_handles.specs.declared.lending.Shared.{Shared}
 use Rattle.ring_handles.specs.Closing.{TellsEnd, WhyNotFinished}
 use Rattle.ring_handles.specs.Conducting.{IsConductorCode}
 use Rattle.ring_handles.specs.Kinds.{a_conductor, a_producer, capacity_held, HoldsOne}
-use Rattle.ring_handles.specs.Opening.{HoldFresh, HoldFreshCounters, HoldNewBoard, HoldNewConductor}
-use Rattle.ring_handles.specs.Opening.{IsBoardCode, IsCountersCode, IsMakeCode}
+use Rattle.ring_handles.specs.Opening.{HoldFirstAdder, HoldFresh, HoldFreshCounters, HoldNewBoard, HoldNewConductor}
+use Rattle.ring_handles.specs.Opening.{IsAdderCode, IsBoardCode, IsCountersCode, IsMakeCode}
 use Rattle.ring_handles.specs.Producing.{closing}
 use Rattle.ring_handles.specs.Seating.{IsOfThisConductor}
 use Rattle.ring_handles.specs.Side.{identity_of}
@@ -54,6 +54,10 @@ OpensBoard number C start = FillsHandle (IsBoardCode C start) (HoldNewBoard (ide
 abbrev pub OpensCounters : ℕ → ℕ → ℕ → Option Held → Option Held → ℤ → Type 0
 OpensCounters number count reuse_ms =
     FillsHandle (IsCountersCode count) (HoldFreshCounters (identity_of number) count reuse_ms)
+
+-- a shared counter of this number, with its first adder
+abbrev pub OpensAdder : ℕ → Option Held → Option Held → ℤ → Type 0
+OpensAdder number = FillsHandle IsAdderCode (HoldFirstAdder (identity_of number))
 
 -- a conductor of this number
 abbrev pub OpensConductor : ℕ → ℕ → ℕ → ℕ → ℕ → Option Held → Option Held → ℤ → Type 0

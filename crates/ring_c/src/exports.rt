@@ -1,4 +1,5 @@
 //! What C calls.
+pub(crate) mod adding;
 pub(crate) mod asking;
 pub(crate) mod boards;
 pub(crate) mod calling;

@@ -5,6 +5,13 @@
 #![tactic(auto)]
 
 mod exports;
+
+// (in one group `rt fmt` lays out at most 100 names side by side)
+pub use exports::adding::{
+    felter_adder_add, felter_adder_join, felter_adder_new_numbered, felter_adder_shares,
+    felter_adder_split, felter_adder_value,
+};
+
 mod work_on;
 
 pub use exports::asking::{

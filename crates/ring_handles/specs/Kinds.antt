@@ -2,12 +2,13 @@
 use Rattle.std.specs.Prelude.{ℕ, MatchOption}
 use Rattle.std.specs.declared.option.Option.{Option}
 use Rattle.std.specs.declared.option.Option.TheVariants.{None, Some}
+use Rattle.ring_handles.specs.declared.adders.AdderSide.{AdderSide}
 use Rattle.ring_handles.specs.declared.client.ClientSide.{ClientSide}
 use Rattle.ring_handles.specs.declared.conductor.ConductorSide.{ConductorSide}
 use Rattle.ring_handles.specs.declared.counters.CountersSide.{CountersSide}
 use Rattle.ring_handles.specs.declared.counters.ReaderSide.{ReaderSide}
 use Rattle.ring_handles.specs.declared.held.Held.{Held}
-use Rattle.ring_handles.specs.declared.held.Held.TheVariants.{Producer, Consumer, Transmitter, Receiver, RawReceiver, Counters, Reader, Conductor, Client}
+use Rattle.ring_handles.specs.declared.held.Held.TheVariants.{Producer, Consumer, Transmitter, Receiver, RawReceiver, Counters, Reader, Adder, Conductor, Client}
 use Rattle.ring_handles.specs.Boards.{Listening, Sending}
 use Rattle.ring_handles.specs.Raw.{Watching}
 use Rattle.ring_handles.specs.Side.{Reading, Side}
@@ -39,6 +40,10 @@ some_counters _ = None
 abbrev pub a_reader : Held → Option ReaderSide
 a_reader (Reader r) = Some r
 a_reader _ = None
+
+abbrev pub an_adder : Held → Option AdderSide
+an_adder (Adder a) = Some a
+an_adder _ = None
 
 abbrev pub a_conductor : Held → Option ConductorSide
 a_conductor (Conductor c) = Some c

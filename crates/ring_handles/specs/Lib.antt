@@ -1,3 +1,4 @@
+pub mod Adding
 pub mod Batch
 pub mod Boards
 pub mod Calling

@@ -1,4 +1,5 @@
--- What is made for handles: a new ring, broadcast buffer, counters or conductor, and the code if it is refused.
+-- What is made for handles: a new ring, broadcast buffer, counters, shared counter or conductor, and the code if it is
+-- refused.
 use Rattle.std.specs.Prelude.{◌≡◌, ◌⊎◌, ℕ, ℤ, pos, [], MatchOption, Bool}
 use Rattle.std.specs.declared.option.Option.{Option}
 use Rattle.std.specs.declared.option.Option.TheVariants.{None}
@@ -14,8 +15,9 @@ use Rattle.ring_counters.specs.Codes.{make_code as counters_code}
 use Rattle.ring_handles.specs.declared.counters.CountersSide.{CountersSide}
 use Rattle.ring_handles.specs.declared.held.Held.{Held}
 use Rattle.ring_handles.specs.declared.identity.Identity.{Identity}
+use Rattle.ring_handles.specs.Adding.{IsFirst}
 use Rattle.ring_handles.specs.Conducting.{IsNewConductor}
-use Rattle.ring_handles.specs.Kinds.{a_conductor, a_consumer, a_producer, a_transmitter, some_counters, HoldsOne}
+use Rattle.ring_handles.specs.Kinds.{a_conductor, a_consumer, a_producer, a_transmitter, an_adder, some_counters, HoldsOne}
 use Rattle.ring_handles.specs.Side.{Reading, Side}
 
 -- Rings -------------------------------------------------------------------------
@@ -84,6 +86,15 @@ pub record AreNew (i : Identity) (count reuse_ms : ℕ) (c : CountersSide) : Typ
 
 abbrev pub HoldFreshCounters : Identity → ℕ → ℕ → Option Held → Type 0
 HoldFreshCounters i count reuse_ms h = HoldsOne some_counters (AreNew i count reuse_ms) h
+
+-- Shared counters ---------------------------------------------------------------
+
+-- a shared counter is made, unless memory runs out
+abbrev pub IsAdderCode : ℤ → Type 0
+IsAdderCode code = (code ≡ pos 0) ⊎ (code ≡ pos 3)
+
+abbrev pub HoldFirstAdder : Identity → Option Held → Type 0
+HoldFirstAdder i h = HoldsOne an_adder (IsFirst i) h
 
 -- Conductors --------------------------------------------------------------------
 

@@ -21,7 +21,7 @@ pub const NO_MESSAGE: i32 = 105;
 pub const SHORT_BUFFER: i32 = 106;
 /// The moment is above 2^62.
 pub const BAD_MOMENT: i32 = 107;
-/// The two handles are of two rings, broadcast buffers, conductors or sets of counters.
+/// The two handles are of two rings, broadcast buffers, conductors, sets of counters or shared counters.
 pub const OTHER_RING: i32 = 108;
 /// What came is the reply to another command, or none.
 pub const OTHER_REPLY: i32 = 109;

@@ -2,6 +2,7 @@
 ghost use Rattle.std.specs.Prelude.{◌≡◌};
 ghost use Rattle.ring_handles.specs.Kinds.{capacity_held};
 
+use crate::adders::AdderSide;
 use crate::boards::{ReceiverSide, TransmitterSide};
 use crate::client::ClientSide;
 use crate::conductor::ConductorSide;
@@ -22,6 +23,7 @@ pub enum Held {
     RawReceiver(RawReceiverSide),
     Counters(CountersSide),
     Reader(ReaderSide),
+    Adder(AdderSide),
     Conductor(ConductorSide),
     Client(ClientSide),
 }

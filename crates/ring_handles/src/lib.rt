@@ -1,17 +1,19 @@
-//! Rings, broadcast buffers, counters and conductors by *handle*: one pointer that owns an endpoint together with what
-//! it belongs to, so that a program in another language can keep it.
+//! Rings, broadcast buffers, counters, shared counters and conductors by *handle*: one pointer that owns an endpoint
+//! together with what it belongs to, so that a program in another language can keep it.
 //!
 //! - `handle`, `held`, `loose`: what such a program keeps, and what it can be. `identity`: what distinguishes two
 //!   rings. `code`: what calls return. `opening`: what is made for handles.
 //! - `producer`, `claims`, `open_claims`, `consumer`, `copying`, `taking`, `batch`, `closing`, `ring`: handles of a
 //!   ring.
 //! - `boards`, `raw`, `board_ending`: handles of a broadcast buffer. `counters`, `counting`, `reading`: of counters and
-//!   their readers.
+//!   their readers. `adders`, `adding`: of shared counters.
 //! - `conductor`, `client`, `lending`, `finishing`: a conductor, its clients, and what it lends.
 //!
 //! One thread at a time calls with a handle, which may move between threads.
 #![tactic(auto)]
 
+mod adders;
+mod adding;
 mod batch;
 mod board_ending;
 mod boards;
@@ -38,6 +40,7 @@ mod reading;
 mod ring;
 mod taking;
 
+pub use adders::AdderSide;
 pub use boards::{ReceiverSide, TransmitterSide};
 pub use client::ClientSide;
 pub use conductor::ConductorSide;
@@ -50,7 +53,8 @@ pub use handle::{Handle, handle_crosses};
 pub use held::Held;
 pub use identity::Identity;
 pub use opening::{
-    Pair, open_board, open_conductor, open_counters, open_many_to_one, open_one_to_one, room,
+    Pair, open_adder, open_board, open_conductor, open_counters, open_many_to_one, open_one_to_one,
+    room,
 };
 pub use producer::ProducerSide;
 pub use raw::RawReceiverSide;

@@ -1,13 +1,15 @@
-//! What is made for handles: rings, broadcast buffers, counters and conductors, each in a box.
+//! What is made for handles: rings, broadcast buffers, counters, shared counters and conductors, each in a box.
 ghost use Rattle.std.specs.Prelude.{◌≡◌, ◌≢◌, pos, true, false, IfErr, IfOk, MatchResult};
 ghost use Rattle.std.specs.Arc.{arc_value};
 ghost use Rattle.std.specs.declared.option.Option.TheVariants.{Some};
 ghost use Rattle.ring_rings.specs.Seats.{consumer_view, view_of};
 ghost use Rattle.ring_handles.specs.Conducting.{IsConductorCode};
-ghost use Rattle.ring_handles.specs.Opening.{HoldFresh, HoldFreshCounters, HoldNewBoard, HoldNewConductor, HoldPair};
-ghost use Rattle.ring_handles.specs.Opening.{IsBoardCode, IsCountersCode, IsMakeCode};
+ghost use Rattle.ring_handles.specs.Opening.{HoldFirstAdder, HoldFresh, HoldFreshCounters, HoldNewBoard};
+ghost use Rattle.ring_handles.specs.Opening.{HoldNewConductor, HoldPair, IsAdderCode, IsBoardCode, IsCountersCode};
+ghost use Rattle.ring_handles.specs.Opening.{IsMakeCode};
 ghost use Rattle.ring_handles.specs.Side.{capacity_in, is_many, start_in, table_in, IsConsumerIn, IsProducerIn};
 
+use crate::adders::AdderSide;
 use crate::boards::TransmitterSide;
 use crate::code::OUT_OF_MEMORY;
 use crate::conductor::ConductorSide;
@@ -19,6 +21,7 @@ use crate::identity::Identity;
 use crate::open_claims::OpenClaims;
 use crate::producer::ProducerSide;
 use crate::ring::AnyRing;
+use ring_adders::SharedCounter;
 use ring_board::Board;
 use ring_counters::CountersManager;
 use ring_rings::{Consumer, PlainManyToOneRing, PlainOneToOneRing, Producer};
@@ -202,6 +205,27 @@ pub fn open_counters(
             values,
             identity,
             manager,
+        }),
+    )
+}
+
+/// Makes a shared counter of value 0, with an adder that holds all shares. 3 if there is no memory.
+pub fn open_adder(alloc: Global, identity: Identity) -> Result<Box<Held>, i32>
+    ensures made { IfOk result (λ made. HoldFirstAdder identity (Some made.value)) }
+    ensures code { MatchResult result (λ _. IsAdderCode (pos 0)) (λ code. IsAdderCode code × (code ≢ pos 0)) }
+{
+    let Ok((counter, adder)) = SharedCounter::new(alloc) else {
+        return Err(OUT_OF_MEMORY);
+    };
+    let Ok(counter) = Arc::new(alloc, counter) else {
+        return Err(OUT_OF_MEMORY);
+    };
+    boxed(
+        alloc,
+        Held::Adder(AdderSide {
+            counter,
+            identity,
+            adder,
         }),
     )
 }

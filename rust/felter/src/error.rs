@@ -102,7 +102,7 @@ errors! {
     } = 106,
     /// The moment is above 2^62.
     BadMoment = 107,
-    /// The two handles belong to different rings, boards, conductors or sets of counters.
+    /// The two handles belong to different rings, boards, conductors, sets of counters or shared counters.
     OtherRing = 108,
     /// The message is the reply to another command. This crate returns [`Polled::Another`](crate::Polled) instead.
     OtherReply = 109,

@@ -38,13 +38,14 @@
 //!   different.
 //! - Handles cannot be copied.
 //! - Buffers are slices.
-//! - If two handles of a call belong to different rings, boards, conductors or sets of counters, the call returns
-//!   [`Error::OtherRing`]. This crate gives each of these structures a number, from one count. Both the crate and the
-//!   library compare the numbers.
+//! - If two handles of a call belong to different rings, boards, conductors, sets of counters or shared counters, the
+//!   call returns [`Error::OtherRing`]. This crate gives each of these structures a number, from one count. Both the
+//!   crate and the library compare the numbers.
 //!
 //! Users must keep two rules. No call may come from a signal handler or a forked child. The processor must have
 //! x86-64-v2. This crate and its declarations of the library are tested and not proved.
 
+mod adder;
 mod board;
 mod claims;
 mod client;
@@ -65,6 +66,7 @@ mod standing;
 mod taking;
 mod wait;
 
+pub use adder::Adder;
 pub use board::{Lap, RawReceiver, RawRecord, Receiver, Transmitter};
 pub use claims::{Claim, KeptClaim};
 pub use client::{Client, Polled, Reply};

@@ -48,7 +48,7 @@ pub(crate) fn text(code: i32) -> &'static str {
         105 => "no message is there yet",
         106 => "the message is longer than the buffer, and stays",
         107 => "the moment is above 2^62",
-        108 => "the two handles are of two rings, boards, conductors or sets of counters",
+        108 => "the two handles are of two rings, boards, conductors, sets of counters or shared counters",
         109 => "the message is the reply to another command, or no reply",
         110 => "another handle holds what was to be closed",
         111 => "a pointer is NULL",
@@ -207,6 +207,12 @@ extern "C" {
     pub(crate) fn felter_counters_reader(counters: *mut Raw, reader: *mut Raw) -> i32;
     pub(crate) fn felter_reader_value(reader: *mut Raw, id: u32, value: *mut i64) -> i32;
     pub(crate) fn felter_counters_join(counters: *mut Raw, reader: *mut Raw) -> i32;
+    pub(crate) fn felter_adder_new_numbered(number: u64, adder: *mut Raw) -> i32;
+    pub(crate) fn felter_adder_split(adder: *mut Raw, other: *mut Raw) -> i32;
+    pub(crate) fn felter_adder_join(adder: *mut Raw, other: *mut Raw) -> i32;
+    pub(crate) fn felter_adder_add(adder: *mut Raw, delta: i64, before: *mut i64) -> i32;
+    pub(crate) fn felter_adder_value(adder: *mut Raw, value: *mut i64) -> i32;
+    pub(crate) fn felter_adder_shares(adder: *mut Raw, shares: *mut u32) -> i32;
     pub(crate) fn felter_conductor_new_numbered(
         number: u64,
         capacity: u32,

@@ -12,7 +12,7 @@ fn refused_handles_convert_into_boxed_errors() {
         Ok(())
     }
     let refused = join_two_rings().unwrap_err();
-    let text = "the two handles are of two rings, boards, conductors or sets of counters";
+    let text = "the two handles are of two rings, boards, conductors, sets of counters or shared counters";
     assert_eq!(refused.to_string(), text);
     assert_eq!(refused.source().and_then(|it| it.downcast_ref()), Some(&Error::OtherRing));
 }
@@ -28,6 +28,7 @@ fn all_cross_threads() {
     crosses::<felter::Client>();
     crosses::<felter::Counters>();
     crosses::<felter::Reader>();
+    crosses::<Refused<felter::Adder>>();
 }
 
 #[test]
