@@ -370,8 +370,8 @@ int32_t felter_receiver_lap(felter_receiver *receiver, uint64_t *place, uint64_t
 /* Makes a raw receiver, which returns each record without its body. Otherwise the call is the same as
  * felter_subscribe. */
 int32_t felter_subscribe_raw(felter_transmitter *transmitter, felter_raw_receiver *receiver);
-/* Passes the next record, and writes its type id and the length of its body. No byte of the body is copied. Codes:
- * FELTER_NO_MESSAGE, and FELTER_LAPPED as for felter_receive. */
+/* Writes the type id of the next record and the length of its body, and moves past the record. No byte of the body is
+ * copied. Codes: FELTER_NO_MESSAGE, and FELTER_LAPPED as for felter_receive. */
 int32_t felter_receive_next(felter_raw_receiver *receiver, int32_t *type_id, size_t *len, uint64_t *lapped);
 /* Copies the body of the record that felter_receive_next returned last to the front of a buffer. The bytes are certain
  * to be those of this record only if felter_validate then returns FELTER_OK. Codes: FELTER_NO_MESSAGE if no record was

@@ -160,8 +160,8 @@ class RawReceiver(Owner):
         return self._is_abandoned()
 
     def receive_next(self) -> typing.Optional[RawRecord]:
-        """Passes the next record, and returns its type id and the length of its body. Returns None if no record is
-        there. The call raises Lapped as Receiver.receive does."""
+        """Returns the type id of the next record and the length of its body, and moves past the record. Returns None
+        if no record is there. The call raises Lapped as Receiver.receive does."""
         found = self._try("felter_receive_next")
         return found and RawRecord(*found)
 

@@ -273,7 +273,7 @@ impl Receiver {
     }
 }
 
-/// A record that a raw receiver passed, and whose body is not yet copied.
+/// A record that a raw receiver returned. Its body was not copied.
 #[derive(Clone, Copy, Debug, PartialEq, Eq)]
 pub struct RawRecord {
     /// The type id of the record, at least 1.
@@ -312,8 +312,8 @@ impl RawReceiver {
         self.end.is_abandoned()
     }
 
-    /// Passes the next record, and returns its type id and the length of its body. Returns `None` if no record is there
-    /// yet.
+    /// Returns the type id of the next record and the length of its body, and moves past the record. Returns `None` if
+    /// no record is there yet.
     ///
     /// Errors: [`Error::Lapped`] if the transmitter overtook the receiver. The next call goes on with the record that
     /// was transmitted last.
