@@ -212,9 +212,14 @@ static BY_LENGTH: Play<'static> = Play {
 };
 
 static ACROSS_BY_LENGTH: Play<'static> = Play {
-    start: 104,
     longest: 8,
     calls: &[
+        (Abort(1, 16), Made(8)),
+        (Abort(1, 16), Made(32)),
+        (Abort(1, 16), Made(56)),
+        (Abort(1, 16), Made(80)),
+        (Abort(1, 0), Made(104)),
+        (Read(9), Said::Read(0, 104, Stop::Unpublished)),
         (Abort(1, 0), Made(112)),
         (Write(3, &BODY), Done),
         (Write(4, &EIGHT), Done),
