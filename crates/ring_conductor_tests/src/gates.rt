@@ -198,7 +198,7 @@ fn no_answer_is_told_before_the_conductor_works(rt: HostRuntime) {
 const TURNS: u32 = 2_000;
 
 /// Lets no client send. Client 0 spends its turns at once and gives up; client 1 sleeps in each of its own, so that they
-/// would last for 40 seconds. The conductor, which would give up too, is kept back until client 1 asks no more.
+/// would last for 60 seconds. The conductor, which would give up too, is kept back until client 1 asks no more.
 #[derive(Drop)]
 struct GivesUp<'a> {
     rt: &'a HostRuntime,
@@ -221,7 +221,7 @@ impl Gate for GivesUp<'_> {
         if client == 0 {
             self.asked_first.fetch_add(1, SeqCst);
         } else {
-            sleep(self.rt, Duration::from_millis(20));
+            sleep(self.rt, Duration::from_millis(30));
             self.asked_second.fetch_add(1, SeqCst);
         }
         false
@@ -233,7 +233,7 @@ impl Gate for GivesUp<'_> {
         if thread < 2 {
             return true;
         }
-        for _ in 0..60 {
+        for _ in 0..120 {
             if self.has_stopped() {
                 self.stopped.store(true, SeqCst);
                 break;
