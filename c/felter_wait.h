@@ -118,8 +118,8 @@ typedef struct felter_sleepers {
 #define FELTER_NO_SLEEPERS {0, 0}
 
 /* Wakes all readers that sleep. Any thread may call this. A reader that is woken finds the messages that were written
- * before this call. The reason is that a write ends with an exchange, and no x86-64 processor moves an exchange after
- * the load here. */
+ * before this call. The reason is that a write ends with an exchange, and an x86-64 processor never does the load of
+ * this function before that exchange. */
 static inline void felter_wake(felter_sleepers *it) {
     if (__atomic_load_n(&it->count, __ATOMIC_SEQ_CST) == 0) return;
     __atomic_add_fetch(&it->turn, 1, __ATOMIC_SEQ_CST);

@@ -139,7 +139,7 @@ public:
     bool ring() noexcept { return felter_ring_doorbell(descriptor_) == 0; }
     // Clears the doorbell, and returns whether it was rung.
     bool clear() noexcept { return felter_clear_doorbell(descriptor_) == 1; }
-    // Waits until the doorbell is rung, and returns whether it was.
+    // Waits until the doorbell is rung, and returns whether it was rung.
     bool wait(std::chrono::milliseconds timeout) noexcept {
         return felter_wait_doorbell(descriptor_, static_cast<int>(timeout.count())) == 1;
     }

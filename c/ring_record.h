@@ -32,7 +32,8 @@ enum ring_record_kind {
     RING_RECORD_CAUGHT_UP
 };
 
-/* `producer` is the receiver in a line of a receiver, and `number` is its lapped count in a line about a lap. */
+/* In a line of a receiver, `producer` is the number of the receiver. In a line about a lap, `number` is how often the
+ * receiver was lapped. */
 typedef struct ring_record_line {
     uint64_t number, body;
     uint16_t producer;
@@ -88,7 +89,7 @@ static inline void ring_record_nothing(ring_record_log *log) {
     ring_record_note(log, RING_RECORD_NOTHING, 0, 0, 0);
 }
 
-/* Notes that a message was transmitted. `number` is how many messages were transmitted before. */
+/* Notes that a message was transmitted. `number` is the number of messages that were transmitted before this one. */
 static inline void ring_record_transmitted(ring_record_log *log, uint64_t number, uint64_t body) {
     ring_record_note(log, RING_RECORD_TRANSMITTED, 0, number, body);
 }
@@ -98,7 +99,7 @@ static inline void ring_record_received(ring_record_log *log, uint16_t receiver,
     ring_record_note(log, RING_RECORD_RECEIVED, receiver, number, body);
 }
 
-/* Notes that a receiver was lapped. `count` is how often this has happened by now. */
+/* Notes that a receiver was lapped. `count` is how often the receiver was lapped so far. */
 static inline void ring_record_lapped(ring_record_log *log, uint16_t receiver, uint64_t count) {
     ring_record_note(log, RING_RECORD_LAPPED, receiver, count, 0);
 }
