@@ -139,7 +139,7 @@ impl Counters {
         Ok(before)
     }
 
-    /// Raises a counter's value to `value` if it was less. Returns whether the value was raised.
+    /// Raises a counter's value to `value` if the old value was less. Returns whether the value was raised.
     ///
     /// Errors: [`Error::BadId`], [`Error::NotAllocated`].
     pub fn propose_max(&mut self, id: u32, value: i64) -> Result<bool, Error> {
@@ -149,7 +149,7 @@ impl Counters {
         Ok(raised == 1)
     }
 
-    /// Sets a counter's value to `value` if it is `expected`. Returns whether the value was set.
+    /// Sets a counter's value to `value` if the old value is `expected`. Returns whether the value was set.
     ///
     /// Errors: [`Error::BadId`], [`Error::NotAllocated`].
     pub fn compare_and_set(&mut self, id: u32, expected: i64, value: i64) -> Result<bool, Error> {
@@ -279,7 +279,7 @@ impl Counters {
     }
 }
 
-/// Loads values of counters on another thread.
+/// Loads the values of counters on another thread.
 ///
 /// ```
 /// let mut counters = felter::Counters::new(8, 0)?;

@@ -51,7 +51,7 @@ fn made_by(
     Ok((producer, Consumer { handle: consumer, ring, end: reads, sizes }))
 }
 
-/// The head and the tail of a ring, in bytes. Neither of the two ever falls.
+/// The head and the tail of a ring, in bytes. Neither position ever falls.
 #[derive(Clone, Copy, Debug, PartialEq, Eq)]
 pub struct Positions {
     /// The position at which the next read begins.
@@ -186,8 +186,7 @@ impl Producer {
         Ok(())
     }
 
-    /// Makes another producer of a many-to-one ring, with one share. Claims that were kept stay with the first
-    /// producer.
+    /// Makes another producer of a many-to-one ring, with one share. Claims that were kept stay with this producer.
     ///
     /// Errors: [`Error::NoShares`], [`Error::OutOfMemory`], and [`Error::WrongHandle`] if the ring is one-to-one.
     pub fn split(&mut self) -> Result<Producer, Error> {
@@ -286,8 +285,8 @@ impl Consumer {
 
     /// Reads the next message into a buffer. Returns `None` if no message is there yet.
     ///
-    /// Errors: [`Error::ShortBuffer`], after which the message stays in the ring. A buffer of an eighth of the capacity
-    /// is always long enough.
+    /// Errors: [`Error::ShortBuffer`] if the message is longer than the buffer. The message then stays in the ring. A
+    /// buffer of an eighth of the capacity is always long enough.
     pub fn read<'a>(&mut self, buffer: &'a mut [u8]) -> Result<Option<Message<'a>>, Error> {
         let (mut type_id, mut len) = (0, 0);
         let (at, room) = (buffer.as_mut_ptr(), buffer.len());
