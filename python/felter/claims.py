@@ -56,9 +56,9 @@ class Trace(Reference):
 
 
 class Claim(Unique):
-    """Room in a ring for one message. As a context manager, a claim is committed at the end, or aborted after an
-    exception. A claim that is dropped is aborted by the next call of the ring, or earlier. A settled claim no longer
-    keeps its producer alive."""
+    """Room in a ring for one message. A claim that is used as a context manager is committed at the end of the `with`
+    block, or aborted if the block raised an exception. A claim that is dropped is aborted by the next call of the ring,
+    or earlier. A settled claim no longer keeps its producer alive."""
 
     def __init__(self, producer: "Producer") -> None:
         # The trace exists before the claim is made. So the trace is left even if an interrupt comes right after the
@@ -79,7 +79,7 @@ class Claim(Unique):
         self._trace.producer = None
 
     def abort(self) -> None:
-        """Aborts the claim, so that the consumer passes it."""
+        """Aborts the claim, so that the consumer skips it."""
         self._do("felter_abort")
         self._trace.producer = None
 
@@ -101,8 +101,9 @@ class Claim(Unique):
 if fast is not None and not typing.TYPE_CHECKING:
 
     class Claim(Unique, fast.Claim):
-        """Room in a ring for one message. As a context manager, a claim is committed at the end, or aborted after an
-        exception. A claim that is dropped is aborted. A settled claim no longer keeps its producer alive."""
+        """Room in a ring for one message. A claim that is used as a context manager is committed at the end of the
+        `with` block, or aborted if the block raised an exception. A claim that is dropped is aborted. A settled claim
+        no longer keeps its producer alive."""
 
         __slots__ = ("__weakref__",)
 

@@ -98,8 +98,8 @@ async def wait_as_task(
     is_abandoned: typing.Callable[[], bool],
     sleepers: Sleepers,
 ) -> typing.Optional[T]:
-    """Does what `wait_for` does, in a task of asyncio. The loop goes on meanwhile. A write wakes the task by a
-    doorbell."""
+    """Does what `wait_for` does, in a task of asyncio. The event loop runs other tasks meanwhile. A write wakes the
+    task by a doorbell."""
     import asyncio
 
     refuse_none_number(timeout)
