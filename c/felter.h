@@ -26,8 +26,9 @@
  *      x86-64-v2.
  *   6. No two rings, boards, conductors or sets of counters that exist at the same time may have the same number. Calls
  *      that take no number draw a number from a single count, and so keep this rule. A program must keep the rule
- *      itself if it calls a function whose name ends in _numbered. It must also keep the rule itself if it has two such
- *      counts. For example, a library that includes this header and is loaded by dlopen can have a count of its own.
+ *      itself if it calls a function whose name ends in _numbered. A program that has two such counts must also keep
+ *      the rule itself. For example, a library that includes this header and is loaded by dlopen can have a count of
+ *      its own.
  *
  * Messages. A write copies a body into the ring, and a read copies the body out of the ring. The stores that a thread
  * made before its felter_write or felter_commit are visible to the consumer after the read that returned the message.

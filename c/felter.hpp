@@ -101,7 +101,7 @@ public:
         const auto at = positions();
         if (!its) return its.code();
         if (!at) return at.code();
-        // (the head is loaded before the tail, so the loaded tail may be more than a capacity above the loaded head)
+        // The head is loaded before the tail, so the loaded tail may be more than a capacity above the loaded head.
         return std::min<std::uint64_t>((*at).tail - (*at).head, (*its).capacity);
     }
     // Returns how many bytes are free. A message also takes some of these bytes for its header, and for padding.

@@ -112,7 +112,8 @@ public:
     code join(felter::reader &back) { return felter_counters_join(raw(), back.raw()); }
 };
 
-// Adds to a shared counter, to which each thread adds with an adder of its own. `make` makes the shared counter.
+// Adds to a shared counter. Each thread adds with an adder of its own. `make` makes a shared counter with the value 0,
+// and returns its first adder.
 class adder : public owner<felter_adder> {
 public:
     static result<adder> make() {

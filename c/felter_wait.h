@@ -31,11 +31,11 @@
 #ifdef __cplusplus
 extern "C" {
 #else
-/* (unistd.h declares the same, but only together with names that are not in POSIX) */
+/* The header unistd.h declares this function only together with names that are not in POSIX. */
 extern long syscall(long number, ...);
 #endif
 
-/* Stores how long a call has waited. A felter_pause begins as {0, 0, timeout}. */
+/* Stores how long a call has waited. Initialise a felter_pause with {0, 0, timeout}. */
 typedef struct felter_pause {
     int64_t began; /* in nanoseconds, 0 before the first pause */
     int turns;
@@ -55,7 +55,7 @@ static inline int felter_pauses(felter_pause *it) {
         left = (it->timeout < INT64_MAX / 1000000 ? it->timeout * 1000000 : INT64_MAX) - (nanos - it->began);
         if (left <= 0) return 0;
     }
-    /* (the count stays at 16, since a wait may last for months; from then on all pauses are equally long) */
+    /* The count stays at 16, since a wait may last for months. From then on all pauses are equally long. */
     if (it->turns < 16) it->turns++;
     if (it->turns <= 10) {
         sched_yield();
@@ -105,7 +105,7 @@ FELTER_GUARD int32_t felter_receive_wait(felter_receiver *receiver, int32_t *typ
 /* Sleepers ---------------------------------------------------------------------------------------------------------
  *
  * A reader sleeps until a writer wakes it. The reader wakes some tens of microseconds later. The writers and the reader
- * share a felter_sleepers. This object begins as FELTER_NO_SLEEPERS, and must live as long as a thread uses it.
+ * share a felter_sleepers. Initialise this object with FELTER_NO_SLEEPERS. It must live as long as a thread uses it.
  *
  * Each writer calls felter_wake after each write, commit, abort or transmission. The call costs one load if no reader
  * sleeps. Only felter_wake and the timeout wake a reader, so call felter_wake also when the last writer ends.
@@ -196,7 +196,7 @@ enum felter_outcome {
     FELTER_OUTCOME_NOT_SENT = 1, /* the command was not sent: the code of the refusal */
     FELTER_OUTCOME_PENDING = 2,  /* no reply came in time, and the command may still be applied: FELTER_NO_MESSAGE */
     FELTER_OUTCOME_TAKEN = 3,    /* the command was applied or refused, but the reply is lost: FELTER_LAPPED */
-    FELTER_OUTCOME_UNKNOWN = 4   /* PENDING or TAKEN, since replies were lost before the deadline: FELTER_LAPPED */
+    FELTER_OUTCOME_UNKNOWN = 4   /* no reply came in time, and the reply may be lost: FELTER_LAPPED */
 };
 
 typedef struct felter_answer {
@@ -295,8 +295,8 @@ FELTER_GUARD int32_t felter_request_close_owner(felter_client *client, uint64_t 
 /* Doorbells --------------------------------------------------------------------------------------------------------
  *
  * A doorbell is an eventfd, for poll and epoll. The descriptor becomes readable when the doorbell is rung, and stays
- * readable until the doorbell is cleared. Writers ring the doorbell after they have written, since no write does this
- * itself. The reader clears the doorbell first, and then reads until no message is there.
+ * readable until the doorbell is cleared. Writers ring the doorbell after they have written, since a write does not
+ * ring a doorbell. The reader clears the doorbell first, and then reads until no message is there.
  */
 
 /* Opens a doorbell, and returns its descriptor, or -1 with errno. To close the doorbell, call close with the

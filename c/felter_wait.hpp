@@ -27,7 +27,8 @@ template <class End, class Look>
 result<message> until_found(End &end, std::chrono::milliseconds timeout, Look look) {
     felter_pause pause = {0, 0, as_timeout(timeout)};
     for (;;) {
-        // (is_abandoned is called before look, so the last look finds what was written before the other side was gone)
+        // The call of is_abandoned comes before look, so the last look finds what was written before the other side was
+        // gone.
         const bool is_last = end.is_abandoned();
         auto found = look();
         if (found.code() != FELTER_NO_MESSAGE || is_last || !felter_pauses(&pause)) return found;

@@ -33,8 +33,10 @@ public final class CountersManager extends Owner {
     private final ByteBuffer key = buffer(MAX_KEY_LENGTH);
     private final long keyAddress = Native.address(key);
 
-    /** Makes {@code count} counters. A freed id is not allocated again for {@code freeToReuseTimeoutMs}
-     * milliseconds. */
+    /**
+     * Makes {@code count} counters. A freed id is not allocated again for {@code freeToReuseTimeoutMs}
+     * milliseconds.
+     */
     public CountersManager(final int count, final int freeToReuseTimeoutMs) {
         super(1);
         Native.must(Native.countersNew(count, freeToReuseTimeoutMs, handle(0)));
@@ -100,19 +102,28 @@ public final class CountersManager extends Owner {
         Native.must(Native.counterSet(handle(0), counterId, value));
     }
 
-    /** Adds {@code delta} to a counter's value, and returns the value before the addition. The sum wraps. */
+    /**
+     * Adds {@code delta} to a counter's value, and returns the value before the addition. A sum that does not fit in
+     * 64 bits wraps.
+     */
     public long getAndAdd(final int counterId, final long delta) {
         Native.must(Native.counterAdd(handle(0), counterId, delta, outAddress));
         return out.getLong(0);
     }
 
-    /** Adds 1 to a counter's value, and returns the value before the addition. The sum wraps. */
+    /**
+     * Adds 1 to a counter's value, and returns the value before the addition. A sum that does not fit in 64 bits
+     * wraps.
+     */
     public long increment(final int counterId) {
         Native.must(Native.counterIncrement(handle(0), counterId, outAddress));
         return out.getLong(0);
     }
 
-    /** Subtracts 1 from a counter's value, and returns the value before the subtraction. The difference wraps. */
+    /**
+     * Subtracts 1 from a counter's value, and returns the value before the subtraction. A difference that does not fit
+     * in 64 bits wraps.
+     */
     public long decrement(final int counterId) {
         Native.must(Native.counterDecrement(handle(0), counterId, outAddress));
         return out.getLong(0);

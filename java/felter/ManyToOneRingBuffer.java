@@ -36,8 +36,10 @@ public final class ManyToOneRingBuffer extends RingBuffer {
         return producer;
     }
 
-    /** Aborts the open claim of a thread that has ended. Joins the thread's producer, or frees it if the ring is
-     * closed. */
+    /**
+     * Aborts the open claim of a thread that has ended. Joins the thread's producer, or frees it if the ring is
+     * closed.
+     */
     private static void giveBack(
             final Object lock, final Handles first, final Handles its, final Producer.OpenClaim open) {
         try {

@@ -40,17 +40,17 @@ public final class SharedCounter extends Owner {
         Native.must(Native.adderNew(handle(0)));
     }
 
-    /** Adds {@code delta} to the value, and returns the value before the addition. The sum wraps. */
+    /** Adds {@code delta} to the value, and returns the value before the addition. */
     public long getAndAdd(final long delta) {
         return adders.get().add(delta);
     }
 
-    /** Adds 1 to the value, and returns the value before the addition. The sum wraps. */
+    /** Adds 1 to the value, and returns the value before the addition. */
     public long increment() {
         return getAndAdd(1);
     }
 
-    /** Subtracts 1 from the value, and returns the value before the subtraction. The difference wraps. */
+    /** Subtracts 1 from the value, and returns the value before the subtraction. */
     public long decrement() {
         return getAndAdd(-1);
     }

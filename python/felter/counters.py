@@ -43,11 +43,13 @@ class Counters(Owner):
         return self._do("felter_counter_add", counter, delta)
 
     def increment(self, counter: int) -> int:
-        """Adds 1 to a counter's value, and returns the value before the addition. The sum wraps."""
+        """Adds 1 to a counter's value, and returns the value before the addition. A sum that does not fit in 64 bits
+        wraps."""
         return self._do("felter_counter_increment", counter)
 
     def decrement(self, counter: int) -> int:
-        """Subtracts 1 from a counter's value, and returns the value before the subtraction. The difference wraps."""
+        """Subtracts 1 from a counter's value, and returns the value before the subtraction. A difference that does not
+        fit in 64 bits wraps."""
         return self._do("felter_counter_decrement", counter)
 
     def get_and_set(self, counter: int, value: int) -> int:

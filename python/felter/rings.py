@@ -119,7 +119,7 @@ class Consumer(Controlled):
             raise Error(Number.OTHER_RING)
         first, is_message = producer.positions(), False
         try:
-            # (no message has room in this buffer, so a message stays)
+            # No message has room in this buffer, so a message stays.
             self._try("felter_read_batch", 1, 0)
         except Error as refused:
             if refused.number != Number.SHORT_BUFFER:

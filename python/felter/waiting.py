@@ -156,8 +156,8 @@ class Doorbell:
     """An eventfd of Linux, for event loops. The descriptor `fileno` becomes readable when the doorbell is rung, and
     stays readable until the doorbell is cleared.
 
-    Writers ring the doorbell after they have written, since no write does this itself. The reader clears the doorbell
-    first, and then reads until no message is there.
+    Writers ring the doorbell after they have written, since a write does not ring a doorbell. The reader clears the
+    doorbell first, and then reads until no message is there.
 
         loop.add_reader(bell.fileno(), on_ring)     # asyncio
 

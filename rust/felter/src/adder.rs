@@ -4,7 +4,7 @@ use crate::handle::{done, Handle, Number};
 use crate::raw;
 
 /// Adds to a shared counter, which is one number to which any thread can add. Each thread adds with an adder of its
-/// own. The value is the sum of all amounts that were added with all adders. Sums wrap.
+/// own. The value is the sum of all amounts that were added with all adders. A sum that does not fit in 64 bits wraps.
 ///
 /// ```
 /// let mut adder = felter::Adder::new()?;

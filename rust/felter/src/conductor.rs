@@ -92,7 +92,7 @@ impl Conductor {
     ///
     /// - The ring for commands has `capacity` bytes, which must be a power of two from 128 to 2^24.
     /// - The board for replies has `replies` bytes, which must be a power of two from 256 to 2^24.
-    /// - The ids of the counters are below `counters`, which must be at most 4096. A freed id is not allocated again
+    /// - The ids of the counters are below `counters`, which must be from 1 to 4096. A freed id is not allocated again
     ///   for `reuse_ms` milliseconds.
     ///
     /// Errors: [`Error::BadCapacity`], [`Error::BadCount`], [`Error::OutOfMemory`].

@@ -46,7 +46,7 @@ impl Consumer {
     pub fn standing(&mut self, producer: &mut Producer) -> Result<Standing, Error> {
         self.ring.must_be(producer.ring)?;
         let first = producer.positions()?;
-        // (no message has room in this buffer, so a message stays)
+        // No message has room in this buffer, so a message stays.
         let is_message = match self.read_batch(1, &mut []) {
             Err(Error::ShortBuffer { .. }) => true,
             other => other.map(|_| false)?,
