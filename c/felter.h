@@ -35,12 +35,12 @@
  * So a message may hold the address of an object. The consumer gets messages in the order of their claims. felter_write
  * makes a claim too.
  *
- * Numbers. If a call takes two handles, both must be of one ring, board, conductor or set of counters. Each of these
- * structures gets a number when it is made. A call that takes two handles compares the numbers of their structures.
- * felter_close, felter_join and the other joins return FELTER_OTHER_RING if the numbers differ. They also return this
- * code if only one of the two handles belongs to a conductor. Code in several languages can make structures in one
- * process. The library distinguishes these structures only if their numbers differ. So this header counts from 1 on,
- * the Rust crate from 2^62, and the Python module from 2^63.
+ * Numbers. If a call takes two handles, both must be of one ring, board, conductor, set of counters or shared counter.
+ * Each of these structures gets a number when it is made. A call that takes two handles compares the numbers of their
+ * structures. felter_close, felter_join and the other joins return FELTER_OTHER_RING if the numbers differ. They also
+ * return this code if only one of the two handles belongs to a conductor. Code in several languages can make structures
+ * in one process. The library distinguishes these structures only if their numbers differ. So this header counts from 1
+ * on, the Rust crate from 2^62, and the Python module from 2^63.
  *
  * Results. Each call except felter_free and felter_version returns a code of enum felter_code. FELTER_OK is 0.
  * felter_text(code) says in words what a code means. A refused call writes no message, commits no claim, aborts no
@@ -288,9 +288,9 @@ typedef struct felter_record {
  * this message is copied. The call can return fewer messages than are in the ring. After the call returns, producers
  * can reuse the room of the messages that were read.
  *
- * Codes: FELTER_NO_MESSAGE, also if the limit is 0, and FELTER_SHORT_BUFFER if the buffer has no room for the first
- * message. After FELTER_SHORT_BUFFER, felter_read reports the length of that message. A buffer of FELTER_SPAN(capacity
- * / 8) bytes is always long enough for one message.
+ * Codes: FELTER_NO_MESSAGE if no message is there yet or the limit is 0, and FELTER_SHORT_BUFFER if the buffer has no
+ * room for the first message. After FELTER_SHORT_BUFFER, felter_read reports the length of that message. A buffer of
+ * FELTER_SPAN(capacity / 8) bytes is always long enough for one message.
  */
 int32_t felter_read_batch(felter_consumer *consumer, uint32_t limit, uint32_t *count, size_t *used, void *buffer,
                           size_t room);
@@ -457,8 +457,8 @@ int32_t felter_counter_find(felter_counters *counters, int32_t type_id, uint64_t
 /* Writes the number of ids, whether they are in use or not. To list the counters in use, call felter_counter_type_id
  * with each id. The call returns FELTER_NOT_ALLOCATED if the id is not in use. */
 int32_t felter_counters_count(felter_counters *counters, uint32_t *count);
-/* Writes the number of counters that can be allocated at the moment `now`. A freed id is counted if the moment that
- * felter_counter_deadline writes for it has come. */
+/* Writes the number of counters that can be allocated at the moment `now`. A freed id is counted only if `now` is at
+ * least the moment that felter_counter_deadline writes for the id. */
 int32_t felter_counters_available(felter_counters *counters, uint64_t now, uint32_t *available);
 /* Frees each counter of an owner, and writes how many counters were freed. Codes: FELTER_BAD_OWNER,
  * FELTER_BAD_MOMENT. */

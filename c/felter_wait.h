@@ -1,6 +1,6 @@
 /* felter_wait: calls that wait, requests, and doorbells for epoll. The calls of the proved library never wait. The
- * calls of this header use the library. They are tested and not proved. This header needs Linux and the declarations of
- * POSIX. Compile with -D_POSIX_C_SOURCE=200809L, or in the compiler's default mode.
+ * calls of this header are made of calls of the library. They are tested and not proved. This header needs Linux and
+ * the declarations of POSIX. Compile with -D_POSIX_C_SOURCE=200809L, or in the compiler's default mode.
  *
  * A timeout is in milliseconds. With the timeout 0 a call tries once, and with a negative timeout it waits for ever.
  *
@@ -311,7 +311,7 @@ static inline int felter_ring_doorbell(int bell) {
     return write(bell, &one, sizeof one) == (ssize_t)sizeof one || errno == EAGAIN ? 0 : -1;
 }
 
-/* Clears a doorbell. Returns 1 if it was rung, 0 if it was not, or -1 with errno. */
+/* Clears a doorbell. Returns 1 if the doorbell was rung, 0 if it was not rung, or -1 with errno. */
 static inline int felter_clear_doorbell(int bell) {
     uint64_t count;
     if (read(bell, &count, sizeof count) == (ssize_t)sizeof count) return 1;

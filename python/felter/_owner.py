@@ -114,7 +114,8 @@ class Owner(Unique, Handle):
         return Sizes(*self._do("felter_capacity"))
 
     def _with(self, name: str, other: "Owner", *parameters: typing.Any) -> None:
-        """Makes a call with two handles, which must belong to one ring, board, conductor or set of counters."""
+        """Makes a call with two handles, which must belong to one ring, board, conductor, set of counters or shared
+        counter."""
         if self is other or self._number != other._number:
             raise Error(Number.OTHER_RING)
         self._do(name, other, *parameters)

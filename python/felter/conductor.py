@@ -195,8 +195,8 @@ class Conductor(Owner):
         receiver or a reader exists, the call raises an Error, and leaves the conductor as it was. The number of the
         Error is the first of these that applies:
 
-        - PRODUCERS_OUT if a client was not taken back;
-        - RECEIVERS_OUT if a receiver was not taken back;
+        - PRODUCERS_OUT if a client was neither taken back nor freed;
+        - RECEIVERS_OUT if a receiver was neither taken back nor freed;
         - IN_USE otherwise.
         """
         return Finished(*self._do("felter_conductor_finish"))

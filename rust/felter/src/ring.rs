@@ -36,7 +36,7 @@ pub fn one_to_one_at(capacity: u32, start: u64) -> Result<(Producer, Consumer), 
     made_by(raw::felter_one_to_one_new_at_numbered, capacity, start)
 }
 
-/// Makes a ring of one kind, by the call of the library for this kind.
+/// Makes a ring of one kind. `call` is the call of the library for this kind.
 fn made_by(
     call: unsafe extern "C" fn(u64, u32, u64, *mut Raw, *mut Raw) -> i32,
     capacity: u32,
