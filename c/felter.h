@@ -299,7 +299,7 @@ int32_t felter_read_batch(felter_consumer *consumer, uint32_t limit, uint32_t *c
 enum felter_found {
     FELTER_FOUND_MESSAGE = 0, /* a message, which felter_read takes */
     FELTER_FOUND_NONE = 1,    /* nothing is claimed after the head */
-    FELTER_FOUND_CLAIM = 2,   /* a claim that is not settled yet, since its producer is slow or lost */
+    FELTER_FOUND_CLAIM = 2,   /* a claim that is not yet committed or aborted, since its producer is slow or lost */
     FELTER_FOUND_CHANGE = 3   /* something changed meanwhile, so call again */
 };
 

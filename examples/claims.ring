@@ -2,7 +2,7 @@
 # claim.
 # Run it with: ./ring-run examples/claims.ring
 
-# Two claims are open at once, and the second one is settled first.
+# Two claims are open at once, and the second one is committed first.
 claim 1 16
 claim 2 8
 put 1 0 48656c6c6f

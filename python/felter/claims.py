@@ -37,14 +37,14 @@ class Trace(Reference):
 
     def owner(self) -> "typing.Optional[Producer]":
         """Returns the producer of the claim, or the producer to which this producer was joined. Returns None if the
-        claim was settled."""
+        claim was committed or aborted."""
         while self.producer is not None and self.producer._joined is not None:
             self.producer = self.producer._joined
         return self.producer
 
     def is_over(self) -> bool:
-        """Returns whether there is nothing to abort. The result is True if the claim was settled or never made, or if
-        its producer was freed."""
+        """Returns whether there is nothing to abort. The result is True if the claim was committed, aborted or never
+        made, or if its producer was freed."""
         producer = self.owner()
         return producer is None or self.number.value == NONE or producer._is_empty() or producer._is_forked()
 
@@ -58,7 +58,7 @@ class Trace(Reference):
 class Claim(Unique):
     """Room in a ring for one message. A claim that is used as a context manager is committed at the end of the `with`
     block, or aborted if the block raised an exception. A claim that is dropped is aborted by the next call of the ring,
-    or earlier. A settled claim no longer keeps its producer alive."""
+    or earlier. A claim that was committed or aborted no longer keeps its producer alive."""
 
     def __init__(self, producer: "Producer") -> None:
         # The trace exists before the claim is made. So the trace is left even if an interrupt comes right after the
@@ -102,8 +102,8 @@ if fast is not None and not typing.TYPE_CHECKING:
 
     class Claim(Unique, fast.Claim):
         """Room in a ring for one message. A claim that is used as a context manager is committed at the end of the
-        `with` block, or aborted if the block raised an exception. A claim that is dropped is aborted. A settled claim
-        no longer keeps its producer alive."""
+        `with` block, or aborted if the block raised an exception. A claim that is dropped is aborted. A claim that was
+        committed or aborted no longer keeps its producer alive."""
 
         __slots__ = ("__weakref__",)
 

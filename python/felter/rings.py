@@ -30,7 +30,7 @@ class Found(enum.IntEnum):
     MESSAGE = 0
     # Nothing is claimed after the head.
     NONE = 1
-    # A claim that is not settled yet. Its producer is slow, or lost.
+    # A claim that is not yet committed or aborted. Its producer is slow, or lost.
     CLAIM = 2
     # Something changed during the call. Call again.
     CHANGE = 3
@@ -275,8 +275,8 @@ def _ring(name: str, capacity: int, start: int) -> typing.Tuple[Producer, Consum
 
 
 def many_to_one(capacity: int, start: int = 0) -> typing.Tuple[Producer, Consumer]:
-    """Makes a ring for any number of producers. Returns its first producer, which holds all shares, and its
-    consumer."""
+    """Makes a ring for any number of producers. Returns its first producer, which begins with all 65,536 shares of the
+    ring, and its consumer."""
     return _ring("felter_many_to_one_new_at_numbered", capacity, start)
 
 

@@ -8,7 +8,7 @@ use crate::raw::{self, Raw};
 use std::io::IoSlice;
 
 /// Makes a ring for any number of producers, and returns its first producer and its consumer. A ring has 65,536 shares,
-/// and the first producer holds all of them.
+/// and each producer holds at least one of them. The first producer begins with all shares.
 ///
 /// Errors: [`Error::BadCapacity`], [`Error::OutOfMemory`].
 pub fn many_to_one(capacity: u32) -> Result<(Producer, Consumer), Error> {

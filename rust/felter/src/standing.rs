@@ -9,7 +9,7 @@ pub enum Found {
     Message,
     /// Nothing is claimed after the head.
     Nothing,
-    /// A claim that is not settled yet. Its producer is slow, or lost.
+    /// A claim that is not yet committed or aborted. Its producer is slow, or lost.
     Claim,
     /// Something changed during the call. Call again.
     Change,
