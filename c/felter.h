@@ -480,7 +480,7 @@ int32_t felter_counters_join(felter_counters *counters, felter_reader *reader);
 /* A shared counter is one number, to which any thread can add. Each thread adds with an adder of its own. The value of
  * the shared counter is the sum of all amounts that were added with all of its adders. A sum that does not fit in 64
  * bits wraps. A shared counter is not one of the counters above. It has no id and no readers. Like a ring, a shared
- * counter has a number, and rule 6 at the head of this file holds for the number.
+ * counter has a number, and rule 6 at the head of this file applies to this number.
  *
  * felter_adder_new makes a shared counter with the value 0, and its first adder. This adder holds all 65,536 shares of
  * the shared counter. Codes: FELTER_HANDLE_IN_USE, FELTER_OUT_OF_MEMORY. */

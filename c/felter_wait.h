@@ -1,6 +1,6 @@
 /* felter_wait: calls that wait, requests, and doorbells for epoll. The calls of the proved library never wait. The
- * calls of this header are made of calls of the library. They are tested and not proved. This header needs Linux and
- * the declarations of POSIX. Compile with -D_POSIX_C_SOURCE=200809L, or in the compiler's default mode.
+ * functions of this header call the library, and are tested and not proved. This header needs Linux and the
+ * declarations of POSIX. Compile with -D_POSIX_C_SOURCE=200809L, or in the compiler's default mode.
  *
  * A timeout is in milliseconds. With the timeout 0 a call tries once, and with a negative timeout it waits for ever.
  *

@@ -42,7 +42,7 @@ class Unique:
 
 
 class Ends:
-    """The ends of a ring or a board. With ctypes they are stored together with the traces of the ring's claims.
+    """The ends of a ring or a board. With ctypes this object also has the traces of the ring's claims.
 
     The ends are kept as weak references. A weak reference could have a callback, which Python calls when the end is
     gone. Such a callback would swallow an interrupt that came while the callback ran. So there are no callbacks.

@@ -19,8 +19,8 @@ class Lap(typing.NamedTuple):
 
 
 class Transmitter(Owner):
-    """Transmits messages on a board. A transmitter makes its board, whose capacity is a power of two from 256 to 2^24.
-    A transmitter never waits. A receiver that is too slow is overtaken, and learns this from `Lapped`."""
+    """Transmits messages on a board. `Transmitter(capacity)` makes a board. The capacity is a power of two from 256 to
+    2^24. A transmitter never waits. A receiver that is too slow is overtaken, and learns this from `Lapped`."""
 
     def __init__(self, capacity: int, start: int = 0) -> None:
         super().__init__(next(numbers))

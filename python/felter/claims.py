@@ -29,7 +29,7 @@ NONE = 2**64 - 1
 
 
 class Trace(Reference):
-    """The trace of a claim, which stays after the claim was dropped."""
+    """The trace of a claim, with which the claim can be aborted after the claim was dropped."""
 
     # (if an interrupt left the trace in this state, nothing was claimed)
     producer: "typing.Optional[Producer]" = None
