@@ -8,49 +8,50 @@
  *
  * Handles. A handle owns an endpoint (a producer, a consumer, ..) together with its ring. The ring lives as long as one
  * of its handles does. Handles may be freed in any order. These are the rules for callers:
- *   1. Begin each handle as FELTER_EMPTY, and free it by felter_free at the end. Never use two copies of a handle,
- *      since both would free the same object. Never read or write the contents of a handle. A call with an empty or
- *      freed handle returns FELTER_NO_HANDLE.
+ *   1. Initialise each handle with FELTER_EMPTY, and free it by felter_free at the end. Never use two copies of a
+ *      handle, since both would free the same object. Never read or write the contents of a handle. A call with an
+ *      empty or freed handle returns FELTER_NO_HANDLE.
  *   2. Only one call at a time may use a handle. A handle may go to another thread if its last call is ordered before
  *      the first call of that thread. The start or the join of a thread, a lock or a seq_cst atomic can order the two
  *      calls. A message of a ring also orders the two calls, if the message was written after the last call and read
  *      before the first one. Otherwise the two calls race. Different handles may be used at the same time, even if they
  *      are of one ring.
  *   3. The handles of one call must be different handles. The buffers, numbers and handles of a call must not overlap.
- *      If a call reads a buffer, all bytes of its length must be readable. If a call writes a buffer, all bytes of its
- *      room must be writable, and the room must be at most 2^63 - 1 bytes. No other thread may touch a buffer during
- *      the call.
+ *      If a call reads a buffer, all bytes up to the length that the caller passes must be readable. If a call writes a
+ *      buffer, all `room` bytes of the buffer must be writable, and `room` must be at most 2^63 - 1. No other thread
+ *      may touch a buffer during the call.
  *   4. No call may come from a signal handler, or from a forked child of a process with threads. No thread may be
  *      cancelled asynchronously during a call, since the handle of that call would be empty afterwards.
  *   5. malloc, realloc and free must belong to one allocator, and must align to 16 bytes. The processor must have
  *      x86-64-v2.
  *   6. No two rings, boards, conductors or sets of counters that exist at the same time may have the same number. Calls
  *      that take no number draw a number from a single count, and so keep this rule. A program must keep the rule
- *      itself if it calls a function whose name ends in _numbered. It must also keep the rule itself if it has two such
- *      counts. For example, a library that includes this header and is loaded by dlopen can have a count of its own.
+ *      itself if it calls a function whose name ends in _numbered. A program that has two such counts must also keep
+ *      the rule itself. For example, a library that includes this header and is loaded by dlopen can have a count of
+ *      its own.
  *
  * Messages. A write copies a body into the ring, and a read copies the body out of the ring. The stores that a thread
  * made before its felter_write or felter_commit are visible to the consumer after the read that returned the message.
  * So a message may hold the address of an object. The consumer gets messages in the order of their claims. felter_write
  * makes a claim too.
  *
- * Numbers. If a call takes two handles, both must be of one ring, board, conductor or set of counters. Each of these
- * structures gets a number when it is made. A call that takes two handles compares the numbers of their structures.
- * felter_close, felter_join and the other joins return FELTER_OTHER_RING if the numbers differ. They also return this
- * code if only one of the two handles belongs to a conductor. Code in several languages can make structures in one
- * process. The library distinguishes these structures only if their numbers differ. So this header counts from 1 on,
- * the Rust crate from 2^62, and the Python module from 2^63.
+ * Numbers. If a call takes two handles, both must be of one ring, board, conductor, set of counters or shared counter.
+ * Each of these structures gets a number when it is made. A call that takes two handles compares the numbers of their
+ * structures. felter_close, felter_join and the other joins return FELTER_OTHER_RING if the numbers differ. They also
+ * return this code if only one of the two handles belongs to a conductor. Code in several languages can make structures
+ * in one process. The library distinguishes these structures only if their numbers differ. So this header counts from 1
+ * on, the Rust crate from 2^62, and the Python module from 2^63.
  *
  * Results. Each call except felter_free and felter_version returns a code of enum felter_code. FELTER_OK is 0.
- * felter_text(code) says in words what a code means. A refused call writes no message, settles no claim, changes no
- * counter and empties no handle, unless its comment says otherwise. It may have loaded positions, passed padding or
- * aborted claims, or drawn a correlation id. FELTER_LAPPED and FELTER_OTHER_REPLY are not refusals, since the receiver
- * or the client has moved on. A call that does not return FELTER_OK leaves the caller's variables unchanged, unless its
- * comment says otherwise. No call waits. After FELTER_INSUFFICIENT_CAPACITY, FELTER_CONTENDED or FELTER_NO_MESSAGE the
- * caller may pause and try again. Compilers warn if a result is not used.
+ * felter_text(code) says in words what a code means. A refused call writes no message, commits no claim, aborts no
+ * claim, changes no counter and empties no handle, unless its comment says otherwise. It may have loaded positions,
+ * skipped padding, skipped claims that were aborted, or drawn a correlation id. FELTER_LAPPED and FELTER_OTHER_REPLY
+ * are not refusals, since the receiver or the client has moved on. A call that does not return FELTER_OK leaves the
+ * caller's variables unchanged, unless its comment says otherwise. No call waits. After FELTER_INSUFFICIENT_CAPACITY,
+ * FELTER_CONTENDED or FELTER_NO_MESSAGE the caller may pause and try again. Compilers warn if a result is not used.
  *
- * Codes. The comment of a call lists after "Codes:" the codes other than FELTER_OK that it can return. Every call of a
- * handle can also return:
+ * Codes. The comment of a call lists after "Codes:" the codes other than FELTER_OK that the call can return. Every call
+ * that takes a handle can also return:
  *   - FELTER_WRONG_HANDLE, if the handle is of another kind;
  *   - FELTER_NO_HANDLE, if the handle is empty, or is a NULL pointer;
  *   - FELTER_NULL_POINTER, if another pointer is NULL. A buffer may be NULL if its length is 0.
@@ -156,7 +157,7 @@ typedef struct felter_client { felter_handle handle; } felter_client;
 #define FELTER_EMPTY {{0}}
 
 /* Frees what a handle owns, and empties the handle: felter_free(&producer.handle). An empty handle stays empty. The
- * open claims of a producer are aborted, so that the consumer passes them. A ring, a board or a conductor can still be
+ * open claims of a producer are aborted, so that the consumer skips them. A ring, a board or a conductor can still be
  * ended after some of its handles were freed. But the shares of a producer (see felter_many_to_one_new) are lost if the
  * producer is freed without felter_join. After 65,535 producers were split off and freed in this way, felter_split
  * returns FELTER_NO_SHARES. After the consumer of a ring was freed, writes succeed until the ring is full. Messages
@@ -180,9 +181,9 @@ int32_t felter_capacity(felter_handle *handle, uint32_t *capacity, uint32_t *lon
 
 /* Rings ---------------------------------------------------------------------------------------------------------- */
 
-/* Makes a ring with this capacity, its first producer, and its consumer. The capacity is a number of bytes, and a power
- * of two from 128 to 2^24. A ring has 65,536 shares, and each producer holds at least one of them. The first producer
- * holds all shares. Positions begin at `start`, or at 0 if the call takes no start. Codes: FELTER_HANDLE_IN_USE if a
+/* Makes a ring of `capacity` bytes, with its first producer and its consumer. The capacity must be a power of two from
+ * 128 to 2^24. A ring has 65,536 shares, and each producer holds at least one of them. The first producer holds all
+ * shares. Positions begin at `start`, or at 0 if the call has no such parameter. Codes: FELTER_HANDLE_IN_USE if a
  * handle is not empty, FELTER_BAD_CAPACITY, FELTER_BAD_START, FELTER_OUT_OF_MEMORY. */
 int32_t felter_many_to_one_new_numbered(uint64_t number, uint32_t capacity, felter_producer *producer,
                                         felter_consumer *consumer);
@@ -209,8 +210,9 @@ int32_t felter_write(felter_producer *producer, int32_t type_id, const void *bod
 /* Tries once to claim room for a message of `len` bytes. Each byte is 0 until felter_put stores it. Writes the number
  * of the claim, which is the claim's position in the ring. No other claim of the ring ever has this number.
  *
- * Any number of claims may be open at once, and they may be settled in any order. The time to settle a claim does not
- * grow with the number of open claims. The consumer does not pass an open claim, so each claim must be settled.
+ * Any number of claims may be open at once. They may be settled, which means committed or aborted, in any order. The
+ * time to settle a claim does not grow with the number of open claims. The consumer does not go past an open claim, so
+ * each claim must be settled.
  *
  * Codes: those of felter_write. If there is no memory to keep one more claim, the call returns FELTER_OUT_OF_MEMORY,
  * and does not try to make the claim. */
@@ -219,7 +221,7 @@ int32_t felter_claim(felter_producer *producer, int32_t type_id, size_t len, uin
  * FELTER_PUT_RANGE. */
 int32_t felter_put(felter_producer *producer, uint64_t claim, size_t offset, const void *bytes, size_t len);
 /* These calls settle an open claim of the producer. After a commit the consumer is shown the message. After an abort
- * the consumer passes the claim. Codes: FELTER_NO_CLAIM. */
+ * the consumer skips the claim. Codes: FELTER_NO_CLAIM. */
 int32_t felter_commit(felter_producer *producer, uint64_t claim);
 int32_t felter_abort(felter_producer *producer, uint64_t claim);
 
@@ -244,24 +246,24 @@ int32_t felter_set_heartbeat(felter_consumer *consumer, uint64_t value);
 /* Writes how many of the ring's 65,536 shares the producer holds. */
 int32_t felter_shares(felter_producer *producer, uint32_t *shares);
 
-/* Reads the next message into a buffer, and takes it from the ring. Codes: FELTER_NO_MESSAGE, and FELTER_SHORT_BUFFER
- * if the message is longer than the buffer. After FELTER_SHORT_BUFFER, *len is the length of the message, and *type_id
- * is its type id. No byte of the message is copied, and the message stays in the ring. A buffer of an eighth of the
- * capacity is always long enough. */
+/* Reads the next message into a buffer, and removes the message from the ring. Codes: FELTER_NO_MESSAGE, and
+ * FELTER_SHORT_BUFFER if the message is longer than the buffer. After FELTER_SHORT_BUFFER, *len is the length of the
+ * message, and *type_id is its type id. No byte of the message is copied, and the message stays in the ring. A buffer
+ * of an eighth of the capacity is always long enough. */
 int32_t felter_read(felter_consumer *consumer, int32_t *type_id, size_t *len, void *buffer, size_t room);
 
 /* Copies the next message into a buffer as felter_read does, with the same codes, but leaves the message in the ring.
  * The next call finds the message again. */
 int32_t felter_peek(felter_consumer *consumer, int32_t *type_id, size_t *len, void *buffer, size_t room);
-/* Takes the next message, which felter_peek showed. The call copies no byte of the message, so its time does not
- * grow with the length of the message. Codes: FELTER_NO_MESSAGE.
+/* Removes the next message, which felter_peek showed, from the ring. The call copies no byte of the message, so its
+ * time does not grow with the length of the message. Codes: FELTER_NO_MESSAGE.
  *
  * The two calls together are a controlled read. Peek, look at the message, and then do what one of Agrona's actions
  * does:
  *   - ABORT: stop. The message stays.
  *   - BREAK: take the message, and stop.
  *   - COMMIT, CONTINUE: take the message, and go on.
- * The head moves at each take, so the producers get the room of each message that was taken. */
+ * The head moves at each felter_take, so the producers get the room of each message that was taken. */
 int32_t felter_take(felter_consumer *consumer);
 
 /* A felter_record comes before the bytes of each message in a batch. If the buffer is aligned to 8 bytes, the
@@ -281,14 +283,14 @@ typedef struct felter_record {
 
 /* Reads up to `limit` messages into a buffer, one after another. Each message is a felter_record followed by its bytes.
  * The first message begins at the front of the buffer. If a message has the length len, the next message begins
- * FELTER_SPAN(len) bytes after its beginning. The call writes the number of messages, and how many bytes they take. The
- * call stops when the buffer has no room for the next message, which stays in the ring. No byte of this message is
- * copied. The call can return fewer messages than are in the ring. After the call returns, producers can reuse the room
- * of the messages that were read.
+ * FELTER_SPAN(len) bytes after the beginning of this message. The call writes the number of messages, and how many
+ * bytes they take. The call stops when the buffer has no room for the next message, which stays in the ring. No byte of
+ * this message is copied. The call can return fewer messages than are in the ring. After the call returns, producers
+ * can reuse the room of the messages that were read.
  *
- * Codes: FELTER_NO_MESSAGE, also if the limit is 0, and FELTER_SHORT_BUFFER if the buffer has no room for the first
- * message. After FELTER_SHORT_BUFFER, felter_read reports the length of that message. A buffer of FELTER_SPAN(capacity
- * / 8) bytes is always long enough for one message.
+ * Codes: FELTER_NO_MESSAGE if no message is there yet or the limit is 0, and FELTER_SHORT_BUFFER if the buffer has no
+ * room for the first message. After FELTER_SHORT_BUFFER, felter_read reports the length of that message. A buffer of
+ * FELTER_SPAN(capacity / 8) bytes is always long enough for one message.
  */
 int32_t felter_read_batch(felter_consumer *consumer, uint32_t limit, uint32_t *count, size_t *used, void *buffer,
                           size_t room);
@@ -297,20 +299,20 @@ int32_t felter_read_batch(felter_consumer *consumer, uint32_t limit, uint32_t *c
 enum felter_found {
     FELTER_FOUND_MESSAGE = 0, /* a message, which felter_read takes */
     FELTER_FOUND_NONE = 1,    /* nothing is claimed after the head */
-    FELTER_FOUND_CLAIM = 2,   /* a claim that is not settled yet, since its producer is slow or lost */
+    FELTER_FOUND_CLAIM = 2,   /* a claim that is not yet committed or aborted, since its producer is slow or lost */
     FELTER_FOUND_CHANGE = 3   /* something changed meanwhile, so call again */
 };
 
 /* Writes what the consumer finds next (enum felter_found), and the position of the head. If a claim is next, the head
- * is the place of that claim. The call takes a producer and the consumer of one ring. The call loads the positions,
- * reads into a buffer of 0 bytes, and loads the positions again. If a message is next, no byte of the message is copied.
- * The call is a function of this header, so it is not proved. */
+ * is the position of that claim. The call takes a producer and the consumer of one ring. The call loads the positions,
+ * reads into a buffer of 0 bytes, and loads the positions again. If a message is next, no byte of the message is
+ * copied. The call is a function of this header, so it is not proved. */
 static inline int32_t felter_standing(felter_producer *producer, felter_consumer *consumer, int32_t *found,
                                       uint64_t *head);
 
 /* Writes messages, one after another, by felter_write. The buffer must have the layout that felter_read_batch writes.
  * The call stops at the first refusal, and returns its code. Even then it sets `written` to the number of messages that
- * were written. If the batch has no bytes, the call only tests the handle. The call is a loop of this header, so it is
+ * were written. If the batch has no bytes, the call only tests the handle. The call is a loop in this header, so it is
  * not proved. Codes: those of felter_write, and FELTER_PUT_RANGE if a record is not completely inside the bytes. */
 static inline int32_t felter_write_batch(felter_producer *producer, const void *records, size_t bytes,
                                          uint32_t *written);
@@ -415,7 +417,7 @@ int32_t felter_counter_allocate(felter_counters *counters, uint64_t now, int32_t
 int32_t felter_counter_allocate_owned(felter_counters *counters, uint64_t now, int32_t type_id, const void *key,
                                       size_t key_len, const void *label, size_t label_len, uint64_t registration,
                                       uint64_t owner, uint32_t *id);
-/* Each call with an id can return FELTER_BAD_ID and FELTER_NOT_ALLOCATED. felter_counter_free frees a counter, and can
+/* Each call with an id can return FELTER_BAD_ID or FELTER_NOT_ALLOCATED. felter_counter_free frees a counter, and can
  * also return FELTER_BAD_MOMENT. */
 int32_t felter_counter_free(felter_counters *counters, uint64_t now, uint32_t id);
 int32_t felter_counter_set(felter_counters *counters, uint32_t id, int64_t value);
@@ -430,15 +432,17 @@ int32_t felter_counter_value(felter_counters *counters, uint32_t id, int64_t *va
 int32_t felter_counter_type_id(felter_counters *counters, uint32_t id, int32_t *type_id);
 int32_t felter_counter_registration(felter_counters *counters, uint32_t id, uint64_t *registration);
 int32_t felter_counter_owner(felter_counters *counters, uint32_t id, uint64_t *owner);
-/* Raises the counter's value to `value` if it was less. *raised is 1 if the value was raised, and otherwise 0. */
+/* Raises the counter's value to `value` if the old value was less. *raised is 1 if the value was raised, and otherwise
+ * 0. */
 int32_t felter_counter_propose_max(felter_counters *counters, uint32_t id, int64_t value, uint32_t *raised);
-/* Sets the counter's value to `value` if it is `expected`. *was_set is 1 if the value was set, and otherwise 0. */
+/* Sets the counter's value to `value` if the old value is `expected`. *was_set is 1 if the value was set, and otherwise
+ * 0. */
 int32_t felter_counter_compare_and_set(felter_counters *counters, uint32_t id, int64_t expected, int64_t value,
                                        uint32_t *was_set);
 /* felter_counter_state writes the state of an id. The state is 0 if the id was never used, 1 if its counter is in use,
  * and -1 if its counter was freed. felter_counter_deadline writes the moment from which the id may be allocated again.
- * This moment is 0 if the id was never used, and 2^63 - 1 if its counter is in use. Both calls refuse only with
- * FELTER_BAD_ID. */
+ * This moment is 0 if the id was never used, and 2^63 - 1 if its counter is in use. Both calls can return
+ * FELTER_BAD_ID, but never FELTER_NOT_ALLOCATED. */
 int32_t felter_counter_state(felter_counters *counters, uint32_t id, int32_t *state);
 int32_t felter_counter_deadline(felter_counters *counters, uint32_t id, uint64_t *deadline);
 /* Copies the label, which has at most 380 bytes, and writes its length. No 0 is put at the end of the label. Codes:
@@ -453,8 +457,8 @@ int32_t felter_counter_find(felter_counters *counters, int32_t type_id, uint64_t
 /* Writes the number of ids, whether they are in use or not. To list the counters in use, call felter_counter_type_id
  * with each id. The call returns FELTER_NOT_ALLOCATED if the id is not in use. */
 int32_t felter_counters_count(felter_counters *counters, uint32_t *count);
-/* Writes the number of counters that can be allocated at the moment `now`. A freed id is counted from the moment that
- * felter_counter_deadline writes. */
+/* Writes the number of counters that can be allocated at the moment `now`. A freed id is counted only if `now` is at
+ * least the moment that felter_counter_deadline writes for the id. */
 int32_t felter_counters_available(felter_counters *counters, uint64_t now, uint32_t *available);
 /* Frees each counter of an owner, and writes how many counters were freed. Codes: FELTER_BAD_OWNER,
  * FELTER_BAD_MOMENT. */
@@ -474,12 +478,12 @@ int32_t felter_counters_join(felter_counters *counters, felter_reader *reader);
 /* Shared counters ------------------------------------------------------------------------------------------------ */
 
 /* A shared counter is one number, to which any thread can add. Each thread adds with an adder of its own. The value of
- * the shared counter is the sum of all amounts that were added with all of its adders. The sum wraps: above 2^63 - 1 to
- * -2^63, and below -2^63 to 2^63 - 1. A shared counter is not one of the counters above. It has no id and no readers.
- * Like a ring, a shared counter has a number, and rule 6 at the head of this file holds for the number.
+ * the shared counter is the sum of all amounts that were added with all of its adders. A sum that does not fit in 64
+ * bits wraps. A shared counter is not one of the counters above. It has no id and no readers. Like a ring, a shared
+ * counter has a number, and rule 6 at the head of this file applies to this number.
  *
- * felter_adder_new makes a shared counter of the value 0, and its first adder, which holds all 65,536 shares. Codes:
- * FELTER_HANDLE_IN_USE, FELTER_OUT_OF_MEMORY. */
+ * felter_adder_new makes a shared counter with the value 0, and its first adder. This adder holds all 65,536 shares of
+ * the shared counter. Codes: FELTER_HANDLE_IN_USE, FELTER_OUT_OF_MEMORY. */
 int32_t felter_adder_new_numbered(uint64_t number, felter_adder *adder);
 static inline int32_t felter_adder_new(felter_adder *adder);
 /* Makes `other` another adder of the same shared counter, for another thread. `other` gets one share of `adder`. If
@@ -489,7 +493,7 @@ int32_t felter_adder_split(felter_adder *adder, felter_adder *other);
 /* Joins `other` to `adder`, which is an adder of the same shared counter. The shares of `other` go to `adder`, and the
  * handle `other` is empty afterwards. Codes: FELTER_OTHER_RING. */
 int32_t felter_adder_join(felter_adder *adder, felter_adder *other);
-/* Adds to the value, and writes the value before the addition. */
+/* Adds `delta` to the value of the shared counter, and writes the value before the addition. */
 int32_t felter_adder_add(felter_adder *adder, int64_t delta, int64_t *before);
 /* Loads the value. If the adder holds all 65,536 shares, no other adder exists. The value is then exactly the sum of
  * the amounts that were added with this adder and with the adders that were joined to it. */
@@ -569,8 +573,8 @@ int32_t felter_conductor_join_reader(felter_conductor *conductor, felter_reader 
  *
  * If a client, a receiver or a reader is still in a handle, the call refuses, and can be made again later. Codes, in
  * this order:
- *   - FELTER_PRODUCERS_OUT if a client was not taken back;
- *   - FELTER_RECEIVERS_OUT if a receiver was not taken back;
+ *   - FELTER_PRODUCERS_OUT if a client is still in a handle;
+ *   - FELTER_RECEIVERS_OUT if a receiver is still in a handle;
  *   - FELTER_IN_USE otherwise. */
 int32_t felter_conductor_finish(felter_conductor *conductor, uint64_t *received, uint64_t *left);
 
@@ -608,8 +612,8 @@ enum felter_reply {
 /* Takes the next message of the board. `correlation` is the id of the command whose reply the caller waits for. If the
  * message is this reply, the call writes the kind (enum felter_reply) and the number of the reply. Codes:
  *   - FELTER_NO_MESSAGE if no message is there yet;
- *   - FELTER_OTHER_REPLY if the message is the reply to another command, or is not a reply. The message was passed
- *     over, so poll again;
+ *   - FELTER_OTHER_REPLY if the message is the reply to another command, or is not a reply. The client skips this
+ *     message, so poll again;
  *   - FELTER_LAPPED if the conductor overtook the client. *lapped is then the number of times that the client was
  *     lapped. The next call goes on with the reply that was transmitted last. The client does not learn the results of
  *     the commands that had no reply yet. */

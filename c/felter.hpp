@@ -7,8 +7,8 @@
 //     std::array<std::uint8_t, 64> room;
 //     if (auto message = ring.consumer.read(room)) use(message->type_id, message->body);
 //
-// The rules of felter.h apply here too. For example, one thread at a time uses a handle. This header is tested and not
-// proved.
+// The rules of felter.h apply here too. For example, only one thread at a time may use a handle. This header is tested
+// and not proved.
 #ifndef FELTER_HPP
 #define FELTER_HPP
 
@@ -101,7 +101,7 @@ public:
         const auto at = positions();
         if (!its) return its.code();
         if (!at) return at.code();
-        // (the head is loaded before the tail, so the loaded tail may be more than a capacity above the loaded head)
+        // The head is loaded before the tail, so the loaded tail may be more than a capacity above the loaded head.
         return std::min<std::uint64_t>((*at).tail - (*at).head, (*its).capacity);
     }
     // Returns how many bytes are free. A message also takes some of these bytes for its header, and for padding.
@@ -137,12 +137,12 @@ struct standing {
 class consumer : public detail::end_of<felter_consumer> {
 public:
     result<felter::sizes> sizes() { return detail::sizes_of(raw()->handle); }
-    // Reads the next message into a buffer, and takes it from the ring.
+    // Reads the next message into a buffer, and removes the message from the ring.
     result<message> read(buffer into) { return copied(felter_read, into); }
     // Copies the next message into a buffer, and leaves it in the ring.
     result<message> peek(buffer into) { return copied(felter_peek, into); }
-    // Takes the next message from the ring. No byte of the message reaches the caller. But the call takes time in
-    // proportion to the length of the message.
+    // Removes the next message from the ring. The call copies no byte of the message, so its time does not grow with
+    // the length of the message.
     code take() { return felter_take(raw()); }
     // Reads up to `limit` messages into a buffer. To see the messages, iterate over the batch: for (auto message :
     // *batch). The batch is valid as long as the buffer is.

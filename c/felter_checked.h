@@ -46,7 +46,8 @@ static inline void felter_unlock(void) {
     __atomic_clear(&felter_check_lock, __ATOMIC_RELEASE);
 }
 
-/* Returns the link to the object at an address, or the end of the list of its bucket. */
+/* Returns the link to the object at an address. If there is no such object, returns the link at the end of the list in
+ * which the object would be. */
 static inline struct felter_owned **felter_find_owned(void *at) {
     struct felter_owned **it = &felter_all_owned[(uintptr_t)at / 16 % FELTER_BUCKETS];
     while (*it && (*it)->at != at) it = &(*it)->next;

@@ -1,5 +1,6 @@
-// Counts of the ends of a ring, a broadcast buffer or a conductor, for is_abandoned. The library does not count
-// handles, so only the handles of felter.hpp are counted. felter.hpp includes this header.
+// This header counts the ends of a ring, a broadcast buffer or a conductor, for is_abandoned. An end is a handle that
+// writes, or a handle that reads. The library does not count handles, so only the handles of felter.hpp are counted.
+// felter.hpp includes this header.
 #ifndef FELTER_ENDS_HPP
 #define FELTER_ENDS_HPP
 
@@ -58,13 +59,13 @@ private:
     bool writes_ = false;
 };
 
-// (bases are destroyed in reverse order, so this base is destroyed after the handle)
+// Bases are destroyed in reverse order, so this base is destroyed after the handle.
 struct with_end {
     end end_;
 };
 
-// A handle that is an end of a structure. The claims of a producer are settled when its object is freed. So the count
-// of ends falls only after the object was freed. When the other side finds the lower count, the claims are settled.
+// A handle that is an end of a structure. The open claims of a producer are aborted when its object is freed. The count
+// of ends falls only after that. So when the other side finds the lower count, no claim of the producer is open.
 template <class Raw>
 class end_of : private with_end, public owner<Raw> {
 public:
@@ -90,8 +91,8 @@ public:
         return true;
     }
     const end &its_end() const noexcept { return end_; }
-    // If a call that takes this handle has succeeded, this end is no longer counted. Both functions return the result
-    // of the call.
+    // These functions get the result of a call to which this handle was given. If the call has succeeded, this end is
+    // no longer counted. Both functions return the result of the call.
     felter::code given(felter::code why) noexcept {
         if (why) end_.leave();
         return why;

@@ -1084,7 +1084,7 @@ FELTER_GUARD int32_t felter_write_batch(felter_producer *producer, const void *r
     if (!producer) return felter_refuse("felter_write_batch", FELTER_NO_HANDLE);
     if (!written || (!records && bytes)) return felter_refuse("felter_write_batch", FELTER_NULL_POINTER);
     *written = 0;
-    /* (nothing is written, so no write tests the handle) */
+    /* Nothing is written, so no write tests the handle. */
     if (bytes == 0) return felter_guarded_shares(producer, &shares);
     while (bytes > 0) {
         felter_record record;
@@ -1112,7 +1112,7 @@ FELTER_GUARD int32_t felter_standing(felter_producer *producer, felter_consumer 
     if (!found || !head) return felter_refuse("felter_standing", FELTER_NULL_POINTER);
     code = felter_guarded_positions(producer, &first, &claimed);
     if (code != FELTER_OK) return code;
-    /* (no message has room in this buffer, so a message stays) */
+    /* No message has room in this buffer, so a message stays. */
     why = felter_guarded_read_batch(consumer, 1, &count, &used, NULL, 0);
     if (why != FELTER_NO_MESSAGE && why != FELTER_SHORT_BUFFER) return why;
     code = felter_guarded_positions(producer, &last, &tail);

@@ -112,7 +112,8 @@ public:
     code join(felter::reader &back) { return felter_counters_join(raw(), back.raw()); }
 };
 
-// Adds to a shared counter, to which each thread adds with an adder of its own. `make` makes the shared counter.
+// Adds to a shared counter. Each thread adds with an adder of its own. `make` makes a shared counter with the value 0,
+// and returns its first adder.
 class adder : public owner<felter_adder> {
 public:
     static result<adder> make() {
@@ -122,11 +123,11 @@ public:
         return detail::made<adder>([&](felter_adder *it) { return felter_adder_split(raw(), it); });
     }
     code join(adder &other) { return felter_adder_join(raw(), other.raw()); }
-    // Adds to the value, which wraps, and returns the value before the addition.
+    // Adds `delta` to the value, and returns the value before the addition. A sum that does not fit in 64 bits wraps.
     result<std::int64_t> add(std::int64_t delta) {
         return detail::out<std::int64_t>([&](std::int64_t *it) { return felter_adder_add(raw(), delta, it); });
     }
-    // The sum of all that was added with all adders.
+    // Returns the sum of all amounts that were added with all adders.
     result<std::int64_t> value() {
         return detail::out<std::int64_t>([&](std::int64_t *it) { return felter_adder_value(raw(), it); });
     }

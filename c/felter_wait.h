@@ -1,6 +1,6 @@
 /* felter_wait: calls that wait, requests, and doorbells for epoll. The calls of the proved library never wait. The
- * calls of this header use the library. They are tested and not proved. This header needs Linux and the declarations of
- * POSIX. Compile with -D_POSIX_C_SOURCE=200809L, or in the compiler's default mode.
+ * functions of this header call the library, and are tested and not proved. This header needs Linux and the
+ * declarations of POSIX. Compile with -D_POSIX_C_SOURCE=200809L, or in the compiler's default mode.
  *
  * A timeout is in milliseconds. With the timeout 0 a call tries once, and with a negative timeout it waits for ever.
  *
@@ -31,11 +31,11 @@
 #ifdef __cplusplus
 extern "C" {
 #else
-/* (unistd.h declares the same, but only together with names that are not in POSIX) */
+/* The header unistd.h declares this function only together with names that are not in POSIX. */
 extern long syscall(long number, ...);
 #endif
 
-/* Stores how long a call has waited. A felter_pause begins as {0, 0, timeout}. */
+/* Stores how long a call has waited. Initialise a felter_pause with {0, 0, timeout}. */
 typedef struct felter_pause {
     int64_t began; /* in nanoseconds, 0 before the first pause */
     int turns;
@@ -55,7 +55,7 @@ static inline int felter_pauses(felter_pause *it) {
         left = (it->timeout < INT64_MAX / 1000000 ? it->timeout * 1000000 : INT64_MAX) - (nanos - it->began);
         if (left <= 0) return 0;
     }
-    /* (the count stays at 16, since a wait may last for months; from then on all pauses are equally long) */
+    /* The count stays at 16, since a wait may last for months. From then on all pauses are equally long. */
     if (it->turns < 16) it->turns++;
     if (it->turns <= 10) {
         sched_yield();
@@ -105,7 +105,7 @@ FELTER_GUARD int32_t felter_receive_wait(felter_receiver *receiver, int32_t *typ
 /* Sleepers ---------------------------------------------------------------------------------------------------------
  *
  * A reader sleeps until a writer wakes it. The reader wakes some tens of microseconds later. The writers and the reader
- * share a felter_sleepers. This object begins as FELTER_NO_SLEEPERS, and must live as long as a thread uses it.
+ * share a felter_sleepers. Initialise this object with FELTER_NO_SLEEPERS. It must live as long as a thread uses it.
  *
  * Each writer calls felter_wake after each write, commit, abort or transmission. The call costs one load if no reader
  * sleeps. Only felter_wake and the timeout wake a reader, so call felter_wake also when the last writer ends.
@@ -118,8 +118,8 @@ typedef struct felter_sleepers {
 #define FELTER_NO_SLEEPERS {0, 0}
 
 /* Wakes all readers that sleep. Any thread may call this. A reader that is woken finds the messages that were written
- * before this call. The reason is that a write ends with an exchange, and no x86-64 processor moves an exchange after
- * the load here. */
+ * before this call. The reason is that a write ends with an exchange, and an x86-64 processor never does the load of
+ * this function before that exchange. */
 static inline void felter_wake(felter_sleepers *it) {
     if (__atomic_load_n(&it->count, __ATOMIC_SEQ_CST) == 0) return;
     __atomic_add_fetch(&it->turn, 1, __ATOMIC_SEQ_CST);
@@ -196,7 +196,7 @@ enum felter_outcome {
     FELTER_OUTCOME_NOT_SENT = 1, /* the command was not sent: the code of the refusal */
     FELTER_OUTCOME_PENDING = 2,  /* no reply came in time, and the command may still be applied: FELTER_NO_MESSAGE */
     FELTER_OUTCOME_TAKEN = 3,    /* the command was applied or refused, but the reply is lost: FELTER_LAPPED */
-    FELTER_OUTCOME_UNKNOWN = 4   /* PENDING or TAKEN, since replies were lost before the deadline: FELTER_LAPPED */
+    FELTER_OUTCOME_UNKNOWN = 4   /* no reply came in time, and the reply may be lost: FELTER_LAPPED */
 };
 
 typedef struct felter_answer {
@@ -295,8 +295,8 @@ FELTER_GUARD int32_t felter_request_close_owner(felter_client *client, uint64_t 
 /* Doorbells --------------------------------------------------------------------------------------------------------
  *
  * A doorbell is an eventfd, for poll and epoll. The descriptor becomes readable when the doorbell is rung, and stays
- * readable until the doorbell is cleared. Writers ring the doorbell after they have written, since no write does this
- * itself. The reader clears the doorbell first, and then reads until no message is there.
+ * readable until the doorbell is cleared. Writers ring the doorbell after they have written, since a write does not
+ * ring a doorbell. The reader clears the doorbell first, and then reads until no message is there.
  */
 
 /* Opens a doorbell, and returns its descriptor, or -1 with errno. To close the doorbell, call close with the
@@ -311,7 +311,7 @@ static inline int felter_ring_doorbell(int bell) {
     return write(bell, &one, sizeof one) == (ssize_t)sizeof one || errno == EAGAIN ? 0 : -1;
 }
 
-/* Clears a doorbell. Returns 1 if it was rung, 0 if it was not, or -1 with errno. */
+/* Clears a doorbell. Returns 1 if the doorbell was rung, 0 if it was not rung, or -1 with errno. */
 static inline int felter_clear_doorbell(int bell) {
     uint64_t count;
     if (read(bell, &count, sizeof count) == (ssize_t)sizeof count) return 1;

@@ -27,7 +27,8 @@ template <class End, class Look>
 result<message> until_found(End &end, std::chrono::milliseconds timeout, Look look) {
     felter_pause pause = {0, 0, as_timeout(timeout)};
     for (;;) {
-        // (is_abandoned is called before look, so the last look finds what was written before the other side was gone)
+        // The call of is_abandoned comes before look, so the last look finds what was written before the other side was
+        // gone.
         const bool is_last = end.is_abandoned();
         auto found = look();
         if (found.code() != FELTER_NO_MESSAGE || is_last || !felter_pauses(&pause)) return found;
@@ -139,7 +140,7 @@ public:
     bool ring() noexcept { return felter_ring_doorbell(descriptor_) == 0; }
     // Clears the doorbell, and returns whether it was rung.
     bool clear() noexcept { return felter_clear_doorbell(descriptor_) == 1; }
-    // Waits until the doorbell is rung, and returns whether it was.
+    // Waits until the doorbell is rung, and returns whether it was rung.
     bool wait(std::chrono::milliseconds timeout) noexcept {
         return felter_wait_doorbell(descriptor_, static_cast<int>(timeout.count())) == 1;
     }

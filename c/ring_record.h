@@ -1,8 +1,8 @@
 /* ring_record: records a run of any ring or queue for the program ring-check.
  *
- * Each thread has a log of its own. The log begins as RING_RECORD_EMPTY. The thread notes the result of each of its
- * calls in the log. After all threads have ended, ring_record_write writes the logs into a file, one after another. A
- * message is named by its producer, by a number that the producer gave to the call, and by a checksum of its bytes.
+ * Each thread has a log of its own. Initialise the log with RING_RECORD_EMPTY. The thread notes the result of each of
+ * its calls in the log. After all threads have ended, ring_record_write writes the logs into a file, one after another.
+ * A message is named by its producer, by a number that the producer gave to the call, and by a checksum of its bytes.
  * ring_record_sum returns such a checksum. A call that is tried again may keep its number. Note each refusal with this
  * number, and then the call that was accepted. In a run of a broadcast buffer, a message is named by its number alone.
  * The first message that was transmitted is message 0.
@@ -18,9 +18,10 @@
 #include <stdlib.h>
 
 /* The kinds of lines of a log. A line says that a call of a producer was accepted, that such a call was refused, that
- * the consumer was shown a message, or that the consumer found nothing after all producers had returned. In a run of a
- * broadcast buffer a line says that a message was transmitted, that a receiver was given a copy, that a receiver was
- * lapped, or that a receiver found nothing after the transmitter had returned. */
+ * the consumer was shown a message, or that the consumer found nothing after the last calls of all producers had
+ * returned. In a run of a broadcast buffer a line says that a message was transmitted, that a receiver was given a
+ * copy, that a receiver was lapped, or that a receiver found nothing after the last call of the transmitter had
+ * returned. */
 enum ring_record_kind {
     RING_RECORD_SENT,
     RING_RECORD_REFUSED,
@@ -32,7 +33,8 @@ enum ring_record_kind {
     RING_RECORD_CAUGHT_UP
 };
 
-/* `producer` is the receiver in a line of a receiver, and `number` is its lapped count in a line about a lap. */
+/* In a line of a receiver, `producer` is the number of the receiver. In a line about a lap, `number` is how often the
+ * receiver was lapped. */
 typedef struct ring_record_line {
     uint64_t number, body;
     uint16_t producer;
@@ -83,12 +85,12 @@ static inline void ring_record_got(ring_record_log *log, uint16_t producer, uint
     ring_record_note(log, RING_RECORD_GOT, producer, number, body);
 }
 
-/* Notes that the consumer found nothing, although all producers had returned before it looked. */
+/* Notes that the consumer found nothing, although the last calls of all producers had returned before it looked. */
 static inline void ring_record_nothing(ring_record_log *log) {
     ring_record_note(log, RING_RECORD_NOTHING, 0, 0, 0);
 }
 
-/* Notes that a message was transmitted. `number` is how many messages were transmitted before. */
+/* Notes that a message was transmitted. `number` is the number of messages that were transmitted before this one. */
 static inline void ring_record_transmitted(ring_record_log *log, uint64_t number, uint64_t body) {
     ring_record_note(log, RING_RECORD_TRANSMITTED, 0, number, body);
 }
@@ -98,12 +100,13 @@ static inline void ring_record_received(ring_record_log *log, uint16_t receiver,
     ring_record_note(log, RING_RECORD_RECEIVED, receiver, number, body);
 }
 
-/* Notes that a receiver was lapped. `count` is how often this has happened by now. */
+/* Notes that a receiver was lapped. `count` is how often the receiver was lapped so far. */
 static inline void ring_record_lapped(ring_record_log *log, uint16_t receiver, uint64_t count) {
     ring_record_note(log, RING_RECORD_LAPPED, receiver, count, 0);
 }
 
-/* Notes that a receiver found nothing, although the transmitter had returned before the receiver looked. */
+/* Notes that a receiver found nothing, although the last call of the transmitter had returned before the receiver
+ * looked. */
 static inline void ring_record_caught_up(ring_record_log *log, uint16_t receiver) {
     ring_record_note(log, RING_RECORD_CAUGHT_UP, receiver, 0, 0);
 }

@@ -1,7 +1,8 @@
-# Claims. Room is claimed first, and the body is put later. No read goes past an open claim.
+# Claims. Room for a message is claimed first, and the body is put into the claim later. No read goes past an open
+# claim.
 # Run it with: ./ring-run examples/claims.ring
 
-# Two claims are open at once, and the second one is settled first.
+# Two claims are open at once, and the second one is committed first.
 claim 1 16
 claim 2 8
 put 1 0 48656c6c6f
@@ -17,7 +18,7 @@ commit 1
 read 9
 positions
 
-# The reader passes an aborted claim, and its message is never shown.
+# The reader skips an aborted claim, and never shows its message.
 claim 3 4
 abort 3
 write 3 01
@@ -32,8 +33,8 @@ control 9 nb
 control 9 a
 control 9 -
 
-# The end of the buffer is 8 bytes ahead. The next record would cross that end, so padding comes first. A read stops at
-# the end of the buffer, and the next read goes on after it.
+# The tail is 8 bytes before the end of the buffer. The next record would cross that end, so padding comes first. A read
+# stops at the end of the buffer, and the next read goes on after it.
 claim 1 4
 put 4 2 616263
 put 4 1 616263
@@ -41,7 +42,8 @@ read 9
 commit 4
 read 9
 
-# The trailer has correlation ids and the reader's heartbeat. Each correlation id is given only once.
+# The trailer, which follows the buffer, has the next correlation id and the reader's heartbeat. No correlation id is
+# given twice.
 correlation
 correlation
 heartbeat

@@ -2,7 +2,7 @@
 # broadcast buffer.
 # Run it with: ./ring-run examples/conductor.ring
 
-# A listener gets the replies that come after it was made. A watcher reads values.
+# A listener gets the replies that are transmitted after the listener was made. A watcher reads the values of counters.
 listen
 watch
 

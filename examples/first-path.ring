@@ -20,7 +20,7 @@ read 9
 # begins at the start of the buffer.
 write 1 505152535455565758595a5b5c5d5e5f
 
-# A read does not cross the end of the buffer. The first read passes the padding, and the second one shows the message.
+# A read does not cross the end of the buffer. The first read skips the padding, and the second one shows the message.
 read 9
 read 9
 

@@ -10,7 +10,7 @@ storm 1 1
 storm 4 1000
 storm 64 10
 
-# A plan that is not valid is refused before anything is done.
+# A storm with too many clients, or with no command for a client, is refused before anything is done.
 storm 65 1
 storm 1 0
 end

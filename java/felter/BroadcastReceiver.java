@@ -17,7 +17,7 @@ import java.nio.ByteBuffer;
  * }
  * }</pre>
  *
- * <p>One thread at a time uses a receiver.
+ * <p>Only one thread at a time may use a receiver.
  */
 public final class BroadcastReceiver extends Owner {
     private final int capacity;
@@ -41,7 +41,7 @@ public final class BroadcastReceiver extends Owner {
     }
 
     /**
-     * Passes the next record, and returns whether there was one. If the transmitter overtook the receiver, {@link
+     * Moves past the next record, and returns whether there was one. If the transmitter overtook the receiver, {@link
      * #lappedCount} rises, and the receiver goes on with the record that was transmitted last.
      */
     public boolean receiveNext() {
@@ -72,15 +72,15 @@ public final class BroadcastReceiver extends Owner {
         return length;
     }
 
-    /** Returns the index at which the body is in the {@link #buffer}. */
+    /** Returns the index of the first byte of the body in the {@link #buffer}. */
     public int offset() {
         return 0;
     }
 
     /**
      * Returns a buffer with a copy of the body of the record that was received last. The first call for a record makes
-     * the copy. The copy is certain to be right only if {@link #validate} then returns true. The next record overwrites
-     * the buffer.
+     * the copy. The copy is certain to be right only if {@link #validate} then returns true. The body of the next
+     * record overwrites the buffer.
      */
     public ByteBuffer buffer() {
         if (!isCopied) {
@@ -94,8 +94,8 @@ public final class BroadcastReceiver extends Owner {
     }
 
     /**
-     * Tests that the record that was received last is not yet overwritten. If the result is true, the copy that {@link
-     * #buffer} has returned is the body that was transmitted.
+     * Returns true if the record that was received last was not overwritten, and false if it may have been overwritten.
+     * If the result is true, the copy that {@link #buffer} has returned is the body that was transmitted.
      *
      * @throws FelterException if no record was received yet.
      */

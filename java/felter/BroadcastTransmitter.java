@@ -3,8 +3,8 @@ package felter;
 import java.nio.ByteBuffer;
 
 /**
- * Transmits messages on a broadcast buffer. A transmitter never waits, so a receiver that is too slow is overtaken. One
- * thread at a time uses a transmitter.
+ * Transmits messages on a broadcast buffer. A transmitter never waits, so a receiver that is too slow is overtaken.
+ * Only one thread at a time may use a transmitter.
  */
 public final class BroadcastTransmitter extends Owner {
     private final int capacity;
@@ -42,8 +42,9 @@ public final class BroadcastTransmitter extends Owner {
     }
 
     /**
-     * Takes back a receiver of this buffer, which receives nothing more. A buffer has 65,536 shares. Each receiver has
-     * one of them. The share is lost if a receiver is closed, or is no longer referred to, and was not taken back.
+     * Takes back a receiver of this buffer. The receiver receives nothing more. A buffer has 65,536 shares, and each
+     * receiver has one of them. If a receiver was not taken back, its share is lost when the receiver is closed, or
+     * when nothing refers to the receiver any longer.
      *
      * @throws FelterException if the receiver belongs to another buffer.
      */
@@ -51,7 +52,10 @@ public final class BroadcastTransmitter extends Owner {
         Native.must(Native.boardJoin(handle(0), receiver.handle(0)));
     }
 
-    /** Takes back a receiver of records of this buffer. The rest is as for the other form. */
+    /**
+     * Takes back a receiver of records of this buffer. Otherwise the call is the same as
+     * {@link #join(CopyBroadcastReceiver)}.
+     */
     public void join(final BroadcastReceiver receiver) {
         Native.must(Native.boardJoinRaw(handle(0), receiver.handle(0)));
     }

@@ -16,9 +16,9 @@ public final class CountersManager extends Owner {
     /** The state that {@link #getCounterState} returns for a counter that was freed. */
     public static final int RECORD_RECLAIMED = -1;
 
-    /** What {@link #findByTypeIdAndRegistrationId} returns if no counter fits. */
+    /** The value that {@link #findByTypeIdAndRegistrationId} returns if it finds no counter. */
     public static final int NULL_COUNTER_ID = -1;
-    /** What {@link #getFreeForReuseDeadline} returns for a counter that is in use. */
+    /** The value that {@link #getFreeForReuseDeadline} returns for a counter that is in use. */
     public static final long NOT_FREE_TO_REUSE = Long.MAX_VALUE;
     /** The length of the longest label, in bytes. */
     public static final int MAX_LABEL_LENGTH = 380;
@@ -33,8 +33,10 @@ public final class CountersManager extends Owner {
     private final ByteBuffer key = buffer(MAX_KEY_LENGTH);
     private final long keyAddress = Native.address(key);
 
-    /** Makes {@code count} counters. A freed id is not allocated again for {@code freeToReuseTimeoutMs}
-     * milliseconds. */
+    /**
+     * Makes {@code count} counters. A freed id is not allocated again for {@code freeToReuseTimeoutMs}
+     * milliseconds.
+     */
     public CountersManager(final int count, final int freeToReuseTimeoutMs) {
         super(1);
         Native.must(Native.countersNew(count, freeToReuseTimeoutMs, handle(0)));
@@ -83,7 +85,7 @@ public final class CountersManager extends Owner {
         Native.must(Native.counterFree(handle(0), now, counterId));
     }
 
-    /** Frees each counter of an owner at a moment, and returns how many there were. */
+    /** Frees each counter of an owner at a moment, and returns how many counters were freed. */
     public int closeOwner(final long ownerId, final long now) {
         Native.must(Native.countersCloseOwner(handle(0), now, ownerId, outAddress));
         return out.getInt(0);
@@ -100,19 +102,28 @@ public final class CountersManager extends Owner {
         Native.must(Native.counterSet(handle(0), counterId, value));
     }
 
-    /** Adds {@code delta} to a counter's value, and returns the value before the addition. The sum wraps. */
+    /**
+     * Adds {@code delta} to a counter's value, and returns the value before the addition. A sum that does not fit in
+     * 64 bits wraps.
+     */
     public long getAndAdd(final int counterId, final long delta) {
         Native.must(Native.counterAdd(handle(0), counterId, delta, outAddress));
         return out.getLong(0);
     }
 
-    /** Adds 1 to a counter's value, and returns the value before the addition. The sum wraps. */
+    /**
+     * Adds 1 to a counter's value, and returns the value before the addition. A sum that does not fit in 64 bits
+     * wraps.
+     */
     public long increment(final int counterId) {
         Native.must(Native.counterIncrement(handle(0), counterId, outAddress));
         return out.getLong(0);
     }
 
-    /** Subtracts 1 from a counter's value, and returns the value before the subtraction. The difference wraps. */
+    /**
+     * Subtracts 1 from a counter's value, and returns the value before the subtraction. A difference that does not fit
+     * in 64 bits wraps.
+     */
     public long decrement(final int counterId) {
         Native.must(Native.counterDecrement(handle(0), counterId, outAddress));
         return out.getLong(0);
@@ -124,13 +135,13 @@ public final class CountersManager extends Owner {
         return out.getLong(0);
     }
 
-    /** Sets a counter's value if the counter has the expected value. Returns whether the value was set. */
+    /** Sets a counter's value if the old value is the expected one. Returns whether the value was set. */
     public boolean compareAndSet(final int counterId, final long expectedValue, final long updateValue) {
         Native.must(Native.counterCompareAndSet(handle(0), counterId, expectedValue, updateValue, outAddress));
         return out.getInt(0) == 1;
     }
 
-    /** Raises a counter's value to the proposed one if the counter is below it. Returns whether that was so. */
+    /** Raises a counter's value to the proposed value if the old value was less. Returns whether that happened. */
     public boolean proposeMax(final int counterId, final long proposedValue) {
         Native.must(Native.counterProposeMax(handle(0), counterId, proposedValue, outAddress));
         return out.getInt(0) == 1;
@@ -161,7 +172,7 @@ public final class CountersManager extends Owner {
     }
 
     /**
-     * Returns the moment from which an id may be allocated again. That is 0 if the id was never used, and {@link
+     * Returns the moment from which an id may be allocated again. This moment is 0 if the id was never used, and {@link
      * #NOT_FREE_TO_REUSE} if its counter is in use.
      */
     public long getFreeForReuseDeadline(final int counterId) {
@@ -217,19 +228,20 @@ public final class CountersManager extends Owner {
         }
     }
 
-    /** Calls the consumer with the value, the id and the label of each counter in use, by rising id. */
+    /** Calls the consumer with the value, the id and the label of each counter in use, from the lowest id on. */
     public void forEach(final CountersReader.CounterConsumer consumer) {
         forEach(id -> consumer.accept(getCounterValue(id), id, getCounterLabel(id)));
     }
 
-    /** Calls the consumer with the type id, the key and the label of each counter in use, by rising id. */
+    /** Calls the consumer with the type id, the key and the label of each counter in use, from the lowest id on. */
     public void forEach(final CountersReader.MetaData consumer) {
         forEach(id -> consumer.accept(id, getCounterTypeId(id), keyOf(id), getCounterLabel(id)));
     }
 
     /**
-     * Takes back a reader of these counters, which loads nothing more. Counters have 65,536 shares. Each reader has one
-     * of them. The share is lost if a reader is closed, or is no longer referred to, and was not taken back.
+     * Takes back a reader of these counters. The reader loads nothing more. The counters have 65,536 shares, and each
+     * reader has one of them. If a reader was not taken back, its share is lost when the reader is closed, or when
+     * nothing refers to the reader any longer.
      *
      * @throws FelterException if the reader belongs to other counters.
      */

@@ -4,14 +4,14 @@ import java.nio.ByteBuffer;
 
 /** Loads the values of counters on another thread. {@link CountersManager#reader} makes a reader. */
 public final class CountersReader extends Owner {
-    /** Gets the value, the id and the label of a counter. See {@link CountersManager#forEach(CounterConsumer)}. */
+    /** Receives the value, the id and the label of a counter. See {@link CountersManager#forEach(CounterConsumer)}. */
     @FunctionalInterface
     public interface CounterConsumer {
         /** Handles a counter that is in use. */
         void accept(long value, int counterId, String label);
     }
 
-    /** Gets the type id, the key and the label of a counter. See {@link CountersManager#forEach(MetaData)}. */
+    /** Receives the type id, the key and the label of a counter. See {@link CountersManager#forEach(MetaData)}. */
     @FunctionalInterface
     public interface MetaData {
         /**

@@ -1,9 +1,9 @@
 package felter;
 
 /**
- * A ring that any number of threads write, and that one thread reads. Each thread that writes gets a producer of its
- * own. After a thread has ended, the garbage collector finds its producer. A claim that the thread left open is then
- * aborted, and the producer goes back to the ring. There are at most 65,536 producers at a time.
+ * A ring to which any number of threads write, and from which one thread reads. Each thread that writes gets a producer
+ * of its own. After a thread has ended, the garbage collector finds its producer. A claim that the thread left open is
+ * then aborted, and the producer goes back to the ring. There are at most 65,536 producers at a time.
  */
 public final class ManyToOneRingBuffer extends RingBuffer {
     private final Object lock = new Object();
@@ -36,8 +36,10 @@ public final class ManyToOneRingBuffer extends RingBuffer {
         return producer;
     }
 
-    /** Aborts the open claim of a thread that has ended. Joins the thread's producer, or frees it if the ring is
-     * closed. */
+    /**
+     * Aborts the open claim of a thread that has ended. Joins the thread's producer, or frees it if the ring is
+     * closed.
+     */
     private static void giveBack(
             final Object lock, final Handles first, final Handles its, final Producer.OpenClaim open) {
         try {

@@ -1,6 +1,6 @@
 package felter;
 
-/** A ring that one thread at a time writes, and that another thread reads. */
+/** A ring to which one thread at a time writes, and from which another thread reads. */
 public final class OneToOneRingBuffer extends RingBuffer {
     private final Producer producer;
 

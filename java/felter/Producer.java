@@ -2,7 +2,7 @@ package felter;
 
 import java.nio.ByteBuffer;
 
-/** The objects by which a thread writes: a handle, and a buffer for the claim of the thread. */
+/** The objects with which a thread writes, which are a handle, and a buffer for the claim of the thread. */
 final class Producer {
     /**
      * The number of the open claim of a producer, if there is one. This object does not refer to the producer. So the

@@ -94,7 +94,7 @@ public abstract class RingBuffer extends Owner {
         producer().commit(index);
     }
 
-    /** Aborts the claim of the calling thread, so that the consumer passes it. */
+    /** Aborts the claim of the calling thread, so that the consumer skips it. */
     public final void abort(final int index) {
         producer().abort(index);
     }

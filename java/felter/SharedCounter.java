@@ -3,13 +3,14 @@ package felter;
 import java.nio.ByteBuffer;
 
 /**
- * A number to which any threads add. Its value is the sum of all that was added, which wraps. Each thread that uses it
- * gets an adder of its own. After the thread has ended and the garbage collector has found its adder, the adder goes
- * back to the shared counter. What was added stays in the value. There are at most 65,535 adders of threads at a time. A
- * shared counter is none of the counters of a {@link CountersManager}.
+ * A number to which any thread can add. The value of a shared counter is the sum of all amounts that were added. A sum
+ * that does not fit in 64 bits wraps. Each thread that uses the shared counter gets an adder of its own. After the
+ * thread has ended and the garbage collector has found its adder, the adder goes back to the shared counter. The
+ * amounts that the thread added stay in the value. There are at most 65,535 adders of threads at a time. A shared
+ * counter is not one of the counters of a {@link CountersManager}.
  */
 public final class SharedCounter extends Owner {
-    /** What one thread adds with: a handle, and room for the number that a call writes. */
+    /** The objects with which one thread adds, which are a handle, and room for the number that a call writes. */
     private static final class Adder {
         private final Handles handles;
         private final ByteBuffer out = buffer(8);
@@ -33,28 +34,28 @@ public final class SharedCounter extends Owner {
     private final Object lock = new Object();
     private final ThreadLocal<Adder> adders = ThreadLocal.withInitial(this::split);
 
-    /** Makes a shared counter of the value 0. */
+    /** Makes a shared counter with the value 0. */
     public SharedCounter() {
         super(1);
         Native.must(Native.adderNew(handle(0)));
     }
 
-    /** Adds to the value, which wraps, and returns the value before the addition. */
+    /** Adds {@code delta} to the value, and returns the value before the addition. */
     public long getAndAdd(final long delta) {
         return adders.get().add(delta);
     }
 
-    /** Adds 1 to the value, which wraps, and returns the value before. */
+    /** Adds 1 to the value, and returns the value before the addition. */
     public long increment() {
         return getAndAdd(1);
     }
 
-    /** Subtracts 1 from the value, which wraps, and returns the value before. */
+    /** Subtracts 1 from the value, and returns the value before the subtraction. */
     public long decrement() {
         return getAndAdd(-1);
     }
 
-    /** Returns the value: the sum of all that was added. */
+    /** Returns the value, which is the sum of all amounts that were added. */
     public long get() {
         return adders.get().value();
     }

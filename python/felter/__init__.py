@@ -15,8 +15,8 @@ Layouts. The bodies of messages are stored separately from the words of headers 
 memory layout of Agrona's rings.
 
 Handles. A handle is a producer, a consumer, or another object with calls. Any thread may use a handle, but only one
-call at a time works on it. Handles are context managers, and free what they own at the end of the `with` block. The
-rules are:
+call at a time uses it. Handles are context managers, and free what they own at the end of the `with` block. The rules
+are:
 
 - A handle must not be copied or pickled.
 - A handle must not be used in a forked child, nor by a signal handler that interrupted a call of the same handle. A

@@ -42,7 +42,7 @@ class Unique:
 
 
 class Ends:
-    """The ends of a ring or a board, and the traces of its claims.
+    """The ends of a ring or a board. With ctypes this object also has the traces of the ring's claims.
 
     The ends are kept as weak references. A weak reference could have a callback, which Python calls when the end is
     gone. Such a callback would swallow an interrupt that came while the callback ran. So there are no callbacks.
@@ -114,7 +114,8 @@ class Owner(Unique, Handle):
         return Sizes(*self._do("felter_capacity"))
 
     def _with(self, name: str, other: "Owner", *parameters: typing.Any) -> None:
-        """Makes a call with two handles, which must belong to one ring, board, conductor or set of counters."""
+        """Makes a call with two handles, which must belong to one ring, board, conductor, set of counters or shared
+        counter."""
         if self is other or self._number != other._number:
             raise Error(Number.OTHER_RING)
         self._do(name, other, *parameters)

@@ -81,7 +81,7 @@ def open(
 
 
 def forked() -> None:
-    """This function is called in a forked child. Calls with the parent's handles are refused there."""
+    """This function is called in a forked child. Afterwards the child refuses calls with the parent's handles."""
     global forks
     forks += 1
     # (a forked child owns nothing)
@@ -242,8 +242,8 @@ else:
 
 class Freeing(Reference):
     """Frees what a handle owns when the handle is gone. The callback of this weak reference is a function of the
-    library. Its parameter is the reference itself, which ctypes replaces by the handle. So no Python code runs, in
-    which an interrupt would be swallowed."""
+    library. Python passes the reference to the callback, and ctypes passes the handle instead. So no Python code runs
+    that would swallow an interrupt."""
 
     _as_parameter_: typing.Any = None
 

@@ -1,4 +1,4 @@
-"""Boards, which are broadcast buffers. A transmitter never waits, and a receiver learns what it missed."""
+"""Boards, which are broadcast buffers. A transmitter never waits, and a receiver learns how many bytes it missed."""
 
 import contextlib
 import typing
@@ -19,8 +19,8 @@ class Lap(typing.NamedTuple):
 
 
 class Transmitter(Owner):
-    """Transmits messages on a board. A transmitter makes its board, whose capacity is a power of two from 256 to 2^24.
-    A transmitter never waits. A receiver that is too slow is overtaken, and learns this from `Lapped`."""
+    """Transmits messages on a board. `Transmitter(capacity)` makes a board. The capacity is a power of two from 256 to
+    2^24. A transmitter never waits. A receiver that is too slow is overtaken, and learns this from `Lapped`."""
 
     def __init__(self, capacity: int, start: int = 0) -> None:
         super().__init__(next(numbers))
@@ -108,19 +108,19 @@ class Receiver(Owner):
         return found
 
     def __iter__(self) -> typing.Iterator[Message]:
-        """Returns an iterator over the messages that are there, which takes each message. It does not wait."""
+        """Returns an iterator over the messages that are there. The iterator does not wait."""
         return iter(self._receive, None)
 
     def messages(self, timeout: typing.Optional[float] = None) -> typing.Iterator[Message]:
         """Returns an iterator that waits for each message, as `receive` does with a timeout. The iterator ends when no
-        message came within `timeout` seconds, or when the transmitter is gone and all messages were received. After it
-        has raised Lapped, another call goes on with the message that was transmitted last."""
+        message came within `timeout` seconds, or when the transmitter is gone and all messages were received. If the
+        iterator raises Lapped, it has ended. A new iterator goes on with the message that was transmitted last."""
         with contextlib.suppress(Disconnected):
             yield from iter(lambda: self.receive(timeout), None)
 
     async def __aiter__(self) -> typing.AsyncIterator[Message]:
-        """Waits for each message, until the transmitter is gone and all messages were received. After it has raised
-        Lapped, another `async for` goes on with the message that was transmitted last."""
+        """Waits for each message, until the transmitter is gone and all messages were received. If the iterator raises
+        Lapped, it has ended. A new `async for` goes on with the message that was transmitted last."""
         with contextlib.suppress(Disconnected):
             while True:
                 message = await self.receive_async()
@@ -133,7 +133,7 @@ class Receiver(Owner):
 
 
 class RawRecord(typing.NamedTuple):
-    """A record that a raw receiver passed, and whose body is not yet copied."""
+    """A record that a raw receiver returned. The body of the record is not yet copied."""
 
     type_id: int
     length: int

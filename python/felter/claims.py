@@ -29,7 +29,7 @@ NONE = 2**64 - 1
 
 
 class Trace(Reference):
-    """The trace of a claim, which stays after the claim was dropped."""
+    """The trace of a claim, with which the claim can be aborted after the claim was dropped."""
 
     # (if an interrupt left the trace in this state, nothing was claimed)
     producer: "typing.Optional[Producer]" = None
@@ -37,14 +37,14 @@ class Trace(Reference):
 
     def owner(self) -> "typing.Optional[Producer]":
         """Returns the producer of the claim, or the producer to which this producer was joined. Returns None if the
-        claim was settled."""
+        claim was committed or aborted."""
         while self.producer is not None and self.producer._joined is not None:
             self.producer = self.producer._joined
         return self.producer
 
     def is_over(self) -> bool:
-        """Returns whether there is nothing to abort. The result is True if the claim was settled or never made, or if
-        its producer was freed."""
+        """Returns whether there is nothing to abort. The result is True if the claim was committed, aborted or never
+        made, or if its producer was freed."""
         producer = self.owner()
         return producer is None or self.number.value == NONE or producer._is_empty() or producer._is_forked()
 
@@ -56,9 +56,9 @@ class Trace(Reference):
 
 
 class Claim(Unique):
-    """Room in a ring for one message. As a context manager, a claim is committed at the end, or aborted after an
-    exception. A claim that is dropped is aborted by the next call of the ring, or earlier. A settled claim no longer
-    keeps its producer alive."""
+    """Room in a ring for one message. A claim that is used as a context manager is committed at the end of the `with`
+    block, or aborted if the block raised an exception. A claim that is dropped is aborted by the next call of the ring,
+    or earlier. A claim that was committed or aborted no longer keeps its producer alive."""
 
     def __init__(self, producer: "Producer") -> None:
         # The trace exists before the claim is made. So the trace is left even if an interrupt comes right after the
@@ -79,7 +79,7 @@ class Claim(Unique):
         self._trace.producer = None
 
     def abort(self) -> None:
-        """Aborts the claim, so that the consumer passes it."""
+        """Aborts the claim, so that the consumer skips it."""
         self._do("felter_abort")
         self._trace.producer = None
 
@@ -101,8 +101,9 @@ class Claim(Unique):
 if fast is not None and not typing.TYPE_CHECKING:
 
     class Claim(Unique, fast.Claim):
-        """Room in a ring for one message. As a context manager, a claim is committed at the end, or aborted after an
-        exception. A claim that is dropped is aborted. A settled claim no longer keeps its producer alive."""
+        """Room in a ring for one message. A claim that is used as a context manager is committed at the end of the
+        `with` block, or aborted if the block raised an exception. A claim that is dropped is aborted. A claim that was
+        committed or aborted no longer keeps its producer alive."""
 
         __slots__ = ("__weakref__",)
 

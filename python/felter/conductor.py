@@ -195,8 +195,8 @@ class Conductor(Owner):
         receiver or a reader exists, the call raises an Error, and leaves the conductor as it was. The number of the
         Error is the first of these that applies:
 
-        - PRODUCERS_OUT if a client was not taken back;
-        - RECEIVERS_OUT if a receiver was not taken back;
+        - PRODUCERS_OUT if a client was neither taken back nor freed;
+        - RECEIVERS_OUT if a receiver was neither taken back nor freed;
         - IN_USE otherwise.
         """
         return Finished(*self._do("felter_conductor_finish"))
@@ -204,12 +204,13 @@ class Conductor(Owner):
 
 class Client(Owner):
     """Sends commands to a conductor, and receives the replies. Each call that sends a command tries once, and returns
-    the correlation id that was drawn for the command. `poll` asks for the reply."""
+    the correlation id that was drawn for the command. `poll` returns the reply after the conductor has transmitted
+    it."""
 
     def allocate(self, type_id: int, key: Buffer = b"", label: Buffer = b"", owner: int = 0) -> int:
-        """Asks for a counter with the value 0. The registration id of the counter is the correlation id of the command.
-        The owner 0 means that the counter has no owner. The command takes 20 bytes, plus the bytes of the key and the
-        label. The command for a counter with an owner takes 8 bytes more."""
+        """Asks the conductor to allocate a counter with the value 0. The registration id of the counter is the
+        correlation id of the command. The owner 0 means that the counter has no owner. The command takes 20 bytes, plus
+        the bytes of the key and the label. The command for a counter with an owner takes 8 bytes more."""
         if owner == 0:
             return self._do("felter_send_allocate", type_id, key, label)
         return self._do("felter_send_allocate_owned", type_id, owner, key, label)
@@ -232,8 +233,8 @@ class Client(Owner):
 
     def poll(self, correlation: int) -> typing.Optional[Reply]:
         """Returns the reply to the command with this correlation id, or None if it is not there yet. The call passes
-        over replies to other commands. So ask for the replies of one client in the order in which its commands were
-        sent.
+        over replies to other commands. So poll for the replies to one client's commands in the order in which the
+        commands were sent.
 
         The call raises Lapped if the conductor overtook the client. The next call goes on with the reply that was
         transmitted last. The client does not learn the results of the commands that had no reply yet."""

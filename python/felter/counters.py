@@ -43,11 +43,13 @@ class Counters(Owner):
         return self._do("felter_counter_add", counter, delta)
 
     def increment(self, counter: int) -> int:
-        """Adds 1 to a counter's value, and returns the value before the addition. The sum wraps."""
+        """Adds 1 to a counter's value, and returns the value before the addition. A sum that does not fit in 64 bits
+        wraps."""
         return self._do("felter_counter_increment", counter)
 
     def decrement(self, counter: int) -> int:
-        """Subtracts 1 from a counter's value, and returns the value before the subtraction. The difference wraps."""
+        """Subtracts 1 from a counter's value, and returns the value before the subtraction. A difference that does not
+        fit in 64 bits wraps."""
         return self._do("felter_counter_decrement", counter)
 
     def get_and_set(self, counter: int, value: int) -> int:
@@ -79,11 +81,11 @@ class Counters(Owner):
         return self._do("felter_counter_key", counter, 112)
 
     def propose_max(self, counter: int, value: int) -> bool:
-        """Raises a counter's value to `value` if it was less. Returns whether the value was raised."""
+        """Raises a counter's value to `value` if the old value was less. Returns whether the value was raised."""
         return self._do("felter_counter_propose_max", counter, value) == 1
 
     def compare_and_set(self, counter: int, expected: int, value: int) -> bool:
-        """Sets a counter's value to `value` if it is `expected`. Returns whether the value was set."""
+        """Sets a counter's value to `value` if the old value is `expected`. Returns whether the value was set."""
         return self._do("felter_counter_compare_and_set", counter, expected, value) == 1
 
     def state(self, counter: int) -> int:
@@ -142,7 +144,7 @@ class Counters(Owner):
 
 
 class Reader(Owner):
-    """Loads values of counters."""
+    """Loads the values of counters."""
 
     def value(self, counter: int) -> int:
         """Loads a value. The value of an id that was never used is 0. The value of a freed id is its last value."""

@@ -30,15 +30,15 @@ class Found(enum.IntEnum):
     MESSAGE = 0
     # Nothing is claimed after the head.
     NONE = 1
-    # A claim that is not settled yet. Its producer is slow, or lost.
+    # A claim that is not yet committed or aborted. Its producer is slow, or lost.
     CLAIM = 2
     # Something changed during the call. Call again.
     CHANGE = 3
 
 
 class Standing(typing.NamedTuple):
-    """Says what is next in a ring, and gives the head, in bytes. If a claim is next, the head is the position of this
-    claim."""
+    """The kind of thing that is next in a ring, and the position of the head in bytes. If a claim is next, the head is
+    the position of this claim."""
 
     found: Found
     head: int
@@ -61,9 +61,9 @@ class Consumer(Controlled):
 
     @direct
     def read(self, timeout: typing.Optional[float] = 0) -> typing.Optional[Message]:
-        """Reads the next message, and takes it from the ring. Returns None if no message came within `timeout` seconds.
-        With the timeout 0 the call does not wait. With None it waits for ever. A call that waits raises Disconnected if
-        every producer is gone and all messages were read."""
+        """Reads the next message, and removes it from the ring. Returns None if no message came within `timeout`
+        seconds. With the timeout 0 the call does not wait. With None it waits for ever. A call that waits raises
+        Disconnected if every producer is gone and all messages were read."""
         return self._read() if timeout == 0 else self._next_within(timeout)
 
     def _next_within(self, timeout: typing.Optional[float]) -> typing.Optional[Message]:
@@ -87,7 +87,8 @@ class Consumer(Controlled):
         return found
 
     def __iter__(self) -> typing.Iterator[Message]:
-        """Returns an iterator over the messages that are there, which takes each message. It does not wait."""
+        """Returns an iterator over the messages that are there. The iterator removes each message from the ring, and
+        does not wait."""
         return iter(self._read, None)
 
     def messages(self, timeout: typing.Optional[float] = None) -> typing.Iterator[Message]:
@@ -118,7 +119,7 @@ class Consumer(Controlled):
             raise Error(Number.OTHER_RING)
         first, is_message = producer.positions(), False
         try:
-            # (no message has room in this buffer, so a message stays)
+            # No message has room in this buffer, so a message stays.
             self._try("felter_read_batch", 1, 0)
         except Error as refused:
             if refused.number != Number.SHORT_BUFFER:
@@ -136,10 +137,10 @@ class Consumer(Controlled):
         self._do("felter_set_heartbeat", value)
 
     def close(self, producer: "Producer") -> None:
-        """Closes the ring with its last producer. Nothing can be written afterwards. The calls of the producer raise
-        `Closed`. The messages in the ring can still be read. The call raises CLAIMS_OPEN if a claim of the producer is
-        open. It raises PRODUCERS_OUT if another producer was neither joined nor freed. After such an error the consumer
-        and the producer are as before."""
+        """Closes the ring with its last producer. Afterwards nothing can be written, and the calls of the producer
+        raise `Closed`. The messages in the ring can still be read. The call raises CLAIMS_OPEN if a claim of the
+        producer is open. It raises PRODUCERS_OUT if another producer was neither joined nor freed. After such an error
+        the consumer and the producer are as before."""
         if isinstance(producer, Producer):
             settle_dropped(self._ends)
         self._with("felter_close", producer)
@@ -173,8 +174,8 @@ class Producer(Settling):
     def write(self, type_id: int, body: Buffer, timeout: typing.Optional[float] = 0) -> None:
         """Writes a message. The body is any object that has a buffer of bytes, such as a `bytes`, a `bytearray` or an
         `array`. While the ring is full, or another producer is faster, the call tries again for `timeout` seconds.
-        After that it raises Full or Contended. With the timeout 0 the call tries once. With None it tries for ever. The
-        call raises Disconnected if it would have to wait and the consumer is gone."""
+        After that the call raises Full or Contended. With the timeout 0 the call tries once. With None the call tries
+        for ever. The call raises Disconnected if it would have to wait and the consumer is gone."""
         if timeout == 0:
             self._do("felter_write", type_id, body)
             self._wake()
@@ -274,8 +275,8 @@ def _ring(name: str, capacity: int, start: int) -> typing.Tuple[Producer, Consum
 
 
 def many_to_one(capacity: int, start: int = 0) -> typing.Tuple[Producer, Consumer]:
-    """Makes a ring for any number of producers. Returns its first producer, which holds all shares, and its
-    consumer."""
+    """Makes a ring for any number of producers. Returns its first producer, which begins with all 65,536 shares of the
+    ring, and its consumer."""
     return _ring("felter_many_to_one_new_at_numbered", capacity, start)
 
 

@@ -98,8 +98,8 @@ async def wait_as_task(
     is_abandoned: typing.Callable[[], bool],
     sleepers: Sleepers,
 ) -> typing.Optional[T]:
-    """Does what `wait_for` does, in a task of asyncio. The loop goes on meanwhile. A write wakes the task by a
-    doorbell."""
+    """Does what `wait_for` does, in a task of asyncio. The event loop runs other tasks meanwhile. A write wakes the
+    task by a doorbell."""
     import asyncio
 
     refuse_none_number(timeout)
@@ -129,8 +129,8 @@ async def wait_as_task(
 
 
 class Listed:
-    """Puts a doorbell into a list of sleepers, so that the next wake rings it. The wake runs no Python code, since the
-    destructors of claims and handles wake sleepers too."""
+    """Puts a doorbell into a list of sleepers, so that the next wake rings it. The wake must run no Python code, since
+    the destructors of claims and handles also wake sleepers."""
 
     def __init__(self, sleepers: Sleepers, bell: "Doorbell") -> None:
         self._sleepers, self._bell = sleepers, bell
@@ -156,8 +156,8 @@ class Doorbell:
     """An eventfd of Linux, for event loops. The descriptor `fileno` becomes readable when the doorbell is rung, and
     stays readable until the doorbell is cleared.
 
-    Writers ring the doorbell after they have written, since no write does this itself. The reader clears the doorbell
-    first, and then reads until no message is there.
+    Writers ring the doorbell after they have written, since a write does not ring a doorbell. The reader clears the
+    doorbell first, and then reads until no message is there.
 
         loop.add_reader(bell.fileno(), on_ring)     # asyncio
 

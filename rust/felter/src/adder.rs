@@ -3,8 +3,8 @@ use crate::error::{Error, Refused};
 use crate::handle::{done, Handle, Number};
 use crate::raw;
 
-/// Adds to a shared counter: one number, to which any threads add. Each thread adds with an adder of its own. The value
-/// is the sum of all that was added with all adders. Sums wrap.
+/// Adds to a shared counter, which is one number to which any thread can add. Each thread adds with an adder of its
+/// own. The value is the sum of all amounts that were added with all adders. A sum that does not fit in 64 bits wraps.
 ///
 /// ```
 /// let mut adder = felter::Adder::new()?;
@@ -29,7 +29,8 @@ pub struct Adder {
 }
 
 impl Adder {
-    /// Makes a shared counter of the value 0, with its first adder, which holds all 65,536 shares.
+    /// Makes a shared counter with the value 0, and returns its first adder. This adder holds all 65,536 shares of the
+    /// shared counter.
     ///
     /// Errors: [`Error::OutOfMemory`].
     pub fn new() -> Result<Adder, Error> {
@@ -39,8 +40,8 @@ impl Adder {
         Ok(Adder { handle, number })
     }
 
-    /// Makes another adder of the same shared counter, for another thread, with one share. If it is dropped, what was
-    /// added with it stays in the value, and its share is lost. [`join`](Adder::join) gives the share back.
+    /// Makes another adder of the same shared counter, for another thread, with one share. If the new adder is dropped,
+    /// the amounts that it added stay in the value, and its share is lost. [`join`](Adder::join) gives the share back.
     ///
     /// Errors: [`Error::NoShares`] if this adder has one share, [`Error::OutOfMemory`].
     pub fn split(&mut self) -> Result<Adder, Error> {
@@ -50,9 +51,10 @@ impl Adder {
         Ok(Adder { handle: other, number: self.number })
     }
 
-    /// Joins another adder of the same shared counter to this one, with its shares.
+    /// Joins another adder of the same shared counter to this one. This adder gets the shares of the other one.
     ///
-    /// Errors: [`Error::OtherRing`] if the other adder is of another shared counter. The error gives it back.
+    /// Errors: [`Error::OtherRing`] if the other adder is of another shared counter. The error gives the other adder
+    /// back.
     ///
     /// ```
     /// let mut adder = felter::Adder::new()?;
@@ -70,7 +72,7 @@ impl Adder {
         joined.map_err(|reason| Refused { reason, back: other })
     }
 
-    /// Adds to the value, which wraps, and returns the value before the addition.
+    /// Adds `delta` to the value, and returns the value before the addition. A sum that does not fit in 64 bits wraps.
     pub fn add(&mut self, delta: i64) -> Result<i64, Error> {
         let mut before = 0;
         // SAFETY: our handle, and a number of ours.
@@ -78,13 +80,13 @@ impl Adder {
         Ok(before)
     }
 
-    /// The value: the sum of all that was added with all adders. If this adder has all shares, no other adder is left,
-    /// and the value is exactly the sum of what was added with this adder and with those that were joined to it.
+    /// Loads the value. If this adder holds all 65,536 shares, no other adder exists. The value is then exactly the sum
+    /// of the amounts that were added with this adder and with the adders that were joined to it.
     pub fn value(&mut self) -> Result<i64, Error> {
         self.handle.said(raw::felter_adder_value)
     }
 
-    /// How many of the 65,536 shares this adder holds.
+    /// Returns how many of the 65,536 shares this adder holds.
     pub fn shares(&mut self) -> Result<u32, Error> {
         self.handle.said(raw::felter_adder_shares)
     }

@@ -201,7 +201,7 @@ pub struct Receiver {
 }
 
 impl Receiver {
-    /// Returns a receiver of a board or a conductor, by its handle.
+    /// Returns a receiver of a board or a conductor, from its handle.
     pub(crate) fn of(mut handle: Handle, board: Number, end: End) -> Result<Receiver, Error> {
         let sizes = handle.sizes()?;
         Ok(Receiver { handle, board, end, sizes, room: Vec::new() })

@@ -1,12 +1,12 @@
-//! Claims. A claim is room in a ring for a message. The bytes of the message are put later. After that the claim is
-//! committed or aborted.
+//! Claims. A claim is room in a ring for a message. The bytes of the message are put into the claim later. After that
+//! the claim is committed or aborted.
 use crate::error::{Error, Refused};
 use crate::handle::{done, Number};
 use crate::raw::{self, Raw};
 use crate::ring::Producer;
 use std::io::{self, Write};
 
-/// Room in a ring for one message. A claim that is dropped is aborted, and the consumer then passes it. A claim that is
+/// Room in a ring for one message. A claim that is dropped is aborted, and the consumer then skips it. A claim that is
 /// forgotten (`mem::forget`) stays open until its producer is dropped.
 ///
 /// [`put`](Claim::put) and the calls of [`Write`] copy bytes into the message. No call lends the bytes of a claim as a
@@ -17,13 +17,13 @@ pub struct Claim<'a> {
     producer: &'a mut Producer,
     number: u64,
     len: usize,
-    /// How many bytes the calls of `Write` have put.
+    /// The number of bytes that the calls of `Write` have put.
     written: usize,
     is_open: bool,
 }
 
 impl<'a> Claim<'a> {
-    /// Returns an open claim of a producer, by its number and its length.
+    /// Returns the open claim of a producer that has this number and this length.
     pub(crate) fn of(producer: &'a mut Producer, number: u64, len: usize) -> Claim<'a> {
         Claim { producer, number, len, written: 0, is_open: true }
     }
@@ -81,9 +81,9 @@ impl<'a> Claim<'a> {
 /// A claim that stays open until it is committed or aborted. If its producer is dropped, the claim is aborted. The
 /// consumer does not pass an open claim.
 ///
-/// The calls of a claim take its producer, or the producer to which its producer was [joined](Producer::join). With
-/// another producer of the same ring they return [`Error::NoClaim`]. With a producer of another ring they return
-/// [`Error::OtherRing`].
+/// The calls of a claim need the producer that made the claim, or the producer to which that one was
+/// [joined](Producer::join). With another producer of the same ring they return [`Error::NoClaim`]. With a producer of
+/// another ring they return [`Error::OtherRing`].
 #[derive(Debug)]
 #[must_use = "the consumer passes no open claim: commit or abort it"]
 pub struct KeptClaim {
@@ -112,7 +112,7 @@ impl KeptClaim {
         self.settle(producer, |raw, number| unsafe { raw::felter_commit(raw, number) })
     }
 
-    /// Aborts the claim, so that the consumer passes it.
+    /// Aborts the claim, so that the consumer skips it.
     ///
     /// Errors: [`Error::NoClaim`] or [`Error::OtherRing`] if `producer` is another producer, as [`KeptClaim`]
     /// describes. The error gives the claim back.

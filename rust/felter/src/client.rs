@@ -7,7 +7,8 @@ use crate::raw::{self, Raw};
 /// Sends commands to a conductor, and receives the replies.
 ///
 /// Each call that sends a command tries once, and returns the correlation id that was drawn for the command. The reply
-/// says whether the conductor applied or refused the command. [`poll`](Client::poll) asks for the reply.
+/// says whether the conductor applied or refused the command. [`poll`](Client::poll) returns the reply after the
+/// conductor has transmitted it.
 ///
 /// Errors of each call that sends a command:
 ///
@@ -38,7 +39,7 @@ pub enum Reply {
     Done,
     /// The conductor did nothing.
     Refused {
-        /// The reason, which is an error that a call of [`Counters`](crate::Counters) returns too.
+        /// The reason for the refusal.
         reason: Error,
     },
     /// The owner's counters were freed.
@@ -65,7 +66,7 @@ impl Reply {
 pub enum Polled {
     /// The reply to the command.
     Answered(Reply),
-    /// The reply to another command, of this client or of another one. The message was passed over, so poll again.
+    /// The reply to another command, of this client or of another one. The client skips this message, so poll again.
     Another,
     /// No message is there yet.
     Nothing,
@@ -77,8 +78,9 @@ impl Client {
         self.end.is_abandoned()
     }
 
-    /// Asks for a counter with the value 0, a type id, a key and a label. The registration id of the counter is the
-    /// correlation id of the command. The command takes 20 bytes, plus the bytes of the key and the label.
+    /// Asks the conductor to allocate a counter with the value 0, a type id, a key and a label. The registration id of
+    /// the counter is the correlation id of the command. The command takes 20 bytes, plus the bytes of the key and the
+    /// label.
     ///
     /// The reply is [`Reply::Allocated`], or [`Reply::Refused`] with [`Error::KeyTooLong`], [`Error::LabelTooLong`],
     /// [`Error::LabelNotAscii`] or [`Error::NoFreeCounter`].
@@ -91,8 +93,8 @@ impl Client {
         })
     }
 
-    /// Asks for a counter with an owner. Otherwise the call is the same as [`allocate`](Client::allocate). The owner 0
-    /// means that the counter has no owner. The command takes 8 bytes more.
+    /// Asks the conductor to allocate a counter with an owner. Otherwise the call is the same as
+    /// [`allocate`](Client::allocate). The owner 0 means that the counter has no owner. The command takes 8 bytes more.
     pub fn allocate_owned(&mut self, type_id: i32, owner: u64, key: &[u8], label: &[u8]) -> Result<u64, Error> {
         let (key_at, key_len) = (key.as_ptr(), key.len());
         let (label_at, label_len) = (label.as_ptr(), label.len());
@@ -135,7 +137,7 @@ impl Client {
     }
 
     /// Takes the next message of the board. `correlation` is the id of the command whose reply the caller waits for.
-    /// The conductor replies to the commands of a client in the order in which they were sent. So ask for the replies
+    /// The conductor replies to the commands of a client in the order in which they were sent. So poll for the replies
     /// in that order.
     ///
     /// Errors: [`Error::Lapped`] if the conductor overtook the client. The next call goes on with the reply that was

@@ -7,8 +7,8 @@ use crate::error::{Error, Refused};
 use crate::handle::{done, Handle, Number};
 use crate::raw;
 
-/// Owns counters, and applies the commands of its clients to them. A conductor transmits one reply to each command on a
-/// board.
+/// Owns counters, and applies the commands of its clients to the counters. A conductor transmits one reply to each
+/// command on a board.
 ///
 /// Clients, receivers of the replies and readers of the counters' values can be used on other threads. If a client or a
 /// receiver is dropped, its shares are lost, and the conductor can finish without it.
@@ -92,7 +92,7 @@ impl Conductor {
     ///
     /// - The ring for commands has `capacity` bytes, which must be a power of two from 128 to 2^24.
     /// - The board for replies has `replies` bytes, which must be a power of two from 256 to 2^24.
-    /// - The ids of the counters are below `counters`, which must be at most 4096. A freed id is not allocated again
+    /// - The ids of the counters are below `counters`, which must be from 1 to 4096. A freed id is not allocated again
     ///   for `reuse_ms` milliseconds.
     ///
     /// Errors: [`Error::BadCapacity`], [`Error::BadCount`], [`Error::OutOfMemory`].
@@ -193,8 +193,8 @@ impl Conductor {
     /// Ends a conductor whose clients, receivers and readers were all taken back or dropped.
     ///
     /// These are the errors while a client, a receiver or a reader exists, in this order:
-    /// - [`Error::ProducersOut`] if a client was not taken back;
-    /// - [`Error::ReceiversOut`] if a receiver was not taken back;
+    /// - [`Error::ProducersOut`] if a client was neither taken back nor dropped;
+    /// - [`Error::ReceiversOut`] if a receiver was neither taken back nor dropped;
     /// - [`Error::InUse`] otherwise.
     ///
     /// The error gives the conductor back. The caller can go on using the conductor, and can finish it later.

@@ -25,7 +25,7 @@ pub struct Counters {
 }
 
 impl Counters {
-    /// Makes counters with the ids below `count`, which must be at most 4096. A freed id is not allocated again for
+    /// Makes counters with the ids below `count`, which must be from 1 to 4096. A freed id is not allocated again for
     /// `reuse_ms` milliseconds.
     ///
     /// Errors: [`Error::BadCount`], [`Error::OutOfMemory`].
@@ -115,14 +115,16 @@ impl Counters {
         Ok(before)
     }
 
-    /// Adds 1 to a counter's value, and returns the value before the addition. The sum wraps.
+    /// Adds 1 to a counter's value, and returns the value before the addition. A sum that does not fit in 64 bits
+    /// wraps.
     ///
     /// Errors: [`Error::BadId`], [`Error::NotAllocated`].
     pub fn increment(&mut self, id: u32) -> Result<i64, Error> {
         self.handle.number(id, raw::felter_counter_increment)
     }
 
-    /// Subtracts 1 from a counter's value, and returns the value before the subtraction. The difference wraps.
+    /// Subtracts 1 from a counter's value, and returns the value before the subtraction. A difference that does not fit
+    /// in 64 bits wraps.
     ///
     /// Errors: [`Error::BadId`], [`Error::NotAllocated`].
     pub fn decrement(&mut self, id: u32) -> Result<i64, Error> {
@@ -139,7 +141,7 @@ impl Counters {
         Ok(before)
     }
 
-    /// Raises a counter's value to `value` if it was less. Returns whether the value was raised.
+    /// Raises a counter's value to `value` if the old value was less. Returns whether the value was raised.
     ///
     /// Errors: [`Error::BadId`], [`Error::NotAllocated`].
     pub fn propose_max(&mut self, id: u32, value: i64) -> Result<bool, Error> {
@@ -149,7 +151,7 @@ impl Counters {
         Ok(raised == 1)
     }
 
-    /// Sets a counter's value to `value` if it is `expected`. Returns whether the value was set.
+    /// Sets a counter's value to `value` if the old value is `expected`. Returns whether the value was set.
     ///
     /// Errors: [`Error::BadId`], [`Error::NotAllocated`].
     pub fn compare_and_set(&mut self, id: u32, expected: i64, value: i64) -> Result<bool, Error> {
@@ -279,7 +281,7 @@ impl Counters {
     }
 }
 
-/// Loads values of counters on another thread.
+/// Loads the values of counters on another thread.
 ///
 /// ```
 /// let mut counters = felter::Counters::new(8, 0)?;

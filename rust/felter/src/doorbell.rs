@@ -7,8 +7,8 @@ use std::time::Duration;
 /// An eventfd of Linux. The descriptor becomes readable when the doorbell is rung, and stays readable until the
 /// doorbell is cleared.
 ///
-/// Writers ring the doorbell after they have written, since no write does this itself. The reader clears the doorbell
-/// first, and then reads until no message is there. So no message is missed.
+/// Writers ring the doorbell after they have written, since a write does not ring a doorbell. The reader clears the
+/// doorbell first, and then reads until no message is there. So no message is missed.
 ///
 /// ```
 /// let (mut producer, mut consumer) = felter::one_to_one(1024)?;

@@ -14,7 +14,8 @@
 //! ```
 //!
 //! The calls of the proved library never wait. If the ring is full or empty, or if another producer was
-//! faster, the result of a call says so. The caller may then try again. Other calls wait or wake:
+//! faster, the result of a call says so. The caller may then try again. The crate adds these calls to the calls of the
+//! library:
 //! - [`Producer::send`] and [`Consumer::recv`] try until a deadline.
 //! - `is_abandoned` returns whether the other side is gone.
 //! - A [`Doorbell`] wakes event loops.

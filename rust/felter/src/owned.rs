@@ -20,7 +20,7 @@ impl From<Message<'_>> for OwnedMessage {
     }
 }
 
-/// The length of a message up to which `read_owned` reads it by one call.
+/// The length of the longest message that `read_owned` reads by one call, in bytes.
 const SHORT: usize = 256;
 
 impl Consumer {
@@ -48,8 +48,8 @@ impl Consumer {
 }
 
 impl Receiver {
-    /// Receives the next message. Returns `None` if no message is there yet. The receiver has a buffer of an eighth of
-    /// the capacity for these calls, which the first of them allocates.
+    /// Receives the next message. Returns `None` if no message is there yet. The first call of `receive_owned`
+    /// allocates a buffer of an eighth of the capacity, and the receiver keeps this buffer.
     ///
     /// Errors: [`Error::Lapped`] if the transmitter overtook the receiver. The next call goes on with the message that
     /// was transmitted last.
@@ -69,8 +69,9 @@ impl Receiver {
         found
     }
 
-    /// Returns an iterator over the messages that are there. The iterator returns `None` if no message is there, and
-    /// may be asked again later. A lap is an item, and the iterator goes on after it.
+    /// Returns an iterator over the messages that are there. The iterator returns `None` if no message is there. A
+    /// later call of the iterator may still return a message. If the receiver was lapped, the item is an error, and the
+    /// iterator goes on afterwards.
     ///
     /// ```
     /// let mut transmitter = felter::Transmitter::new(256)?;
@@ -84,9 +85,9 @@ impl Receiver {
         ReceiverTryIter { receiver: self }
     }
 
-    /// Returns an iterator that waits for each message as [`recv_owned`](Receiver::recv_owned) does. A lap is an item,
-    /// and the iterator goes on after it. The iterator ends if the transmitter is gone and all messages were received.
-    /// `for message in &mut receiver` does the same.
+    /// Returns an iterator that waits for each message as [`recv_owned`](Receiver::recv_owned) does. If the receiver
+    /// was lapped, the item is an error, and the iterator goes on afterwards. The iterator ends if the transmitter is
+    /// gone and all messages were received. `for message in &mut receiver` does the same.
     ///
     /// ```
     /// let mut transmitter = felter::Transmitter::new(4096)?;

@@ -8,7 +8,7 @@ use crate::raw::{self, Raw};
 use std::io::IoSlice;
 
 /// Makes a ring for any number of producers, and returns its first producer and its consumer. A ring has 65,536 shares,
-/// and the first producer holds all of them.
+/// and each producer holds at least one of them. The first producer begins with all shares.
 ///
 /// Errors: [`Error::BadCapacity`], [`Error::OutOfMemory`].
 pub fn many_to_one(capacity: u32) -> Result<(Producer, Consumer), Error> {
@@ -36,7 +36,7 @@ pub fn one_to_one_at(capacity: u32, start: u64) -> Result<(Producer, Consumer), 
     made_by(raw::felter_one_to_one_new_at_numbered, capacity, start)
 }
 
-/// Makes a ring of one kind, by the call of the library for this kind.
+/// Makes a ring of one kind. `call` is the call of the library for this kind.
 fn made_by(
     call: unsafe extern "C" fn(u64, u32, u64, *mut Raw, *mut Raw) -> i32,
     capacity: u32,
@@ -51,7 +51,7 @@ fn made_by(
     Ok((producer, Consumer { handle: consumer, ring, end: reads, sizes }))
 }
 
-/// The head and the tail of a ring, in bytes. Neither of the two ever falls.
+/// The head and the tail of a ring, in bytes. Neither position ever falls.
 #[derive(Clone, Copy, Debug, PartialEq, Eq)]
 pub struct Positions {
     /// The position at which the next read begins.
@@ -186,8 +186,7 @@ impl Producer {
         Ok(())
     }
 
-    /// Makes another producer of a many-to-one ring, with one share. Claims that were kept stay with the first
-    /// producer.
+    /// Makes another producer of a many-to-one ring, with one share. Claims that were kept stay with this producer.
     ///
     /// Errors: [`Error::NoShares`], [`Error::OutOfMemory`], and [`Error::WrongHandle`] if the ring is one-to-one.
     pub fn split(&mut self) -> Result<Producer, Error> {
@@ -286,8 +285,8 @@ impl Consumer {
 
     /// Reads the next message into a buffer. Returns `None` if no message is there yet.
     ///
-    /// Errors: [`Error::ShortBuffer`], after which the message stays in the ring. A buffer of an eighth of the capacity
-    /// is always long enough.
+    /// Errors: [`Error::ShortBuffer`] if the message is longer than the buffer. The message then stays in the ring. A
+    /// buffer of an eighth of the capacity is always long enough.
     pub fn read<'a>(&mut self, buffer: &'a mut [u8]) -> Result<Option<Message<'a>>, Error> {
         let (mut type_id, mut len) = (0, 0);
         let (at, room) = (buffer.as_mut_ptr(), buffer.len());

@@ -9,7 +9,7 @@ pub enum Found {
     Message,
     /// Nothing is claimed after the head.
     Nothing,
-    /// A claim that is not settled yet. Its producer is slow, or lost.
+    /// A claim that is not yet committed or aborted. Its producer is slow, or lost.
     Claim,
     /// Something changed during the call. Call again.
     Change,
@@ -46,7 +46,7 @@ impl Consumer {
     pub fn standing(&mut self, producer: &mut Producer) -> Result<Standing, Error> {
         self.ring.must_be(producer.ring)?;
         let first = producer.positions()?;
-        // (no message has room in this buffer, so a message stays)
+        // No message has room in this buffer, so a message stays.
         let is_message = match self.read_batch(1, &mut []) {
             Err(Error::ShortBuffer { .. }) => true,
             other => other.map(|_| false)?,

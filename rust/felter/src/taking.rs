@@ -3,7 +3,7 @@ use crate::owned::OwnedMessage;
 use crate::ring::Consumer;
 use std::iter::FusedIterator;
 
-/// An iterator over the messages that are in the ring, which takes each message from the ring. See
+/// An iterator over the messages that are in the ring. The iterator removes each message from the ring. See
 /// [`Consumer::try_iter`].
 #[derive(Debug)]
 pub struct TryIter<'a> {

@@ -150,7 +150,7 @@ impl Consumer {
         Ok(Message { type_id, body: &buffer[..len] })
     }
 
-    /// Waits for a message, however long it is. The rest is as for [`recv`](Consumer::recv).
+    /// Waits for a message, however long it is. Otherwise the call is the same as [`recv`](Consumer::recv).
     ///
     /// ```
     /// let (mut producer, mut consumer) = felter::one_to_one(8192)?;
@@ -248,8 +248,8 @@ impl Receiver {
         Ok(Message { type_id, body: &buffer[..len] })
     }
 
-    /// Waits for a message, in a buffer of the receiver, as [`receive_owned`](Receiver::receive_owned) does. The rest
-    /// is as for [`recv`](Receiver::recv).
+    /// Waits for a message, in a buffer of the receiver, as [`receive_owned`](Receiver::receive_owned) does. Otherwise
+    /// the call is the same as [`recv`](Receiver::recv).
     pub fn recv_owned(&mut self, deadline: Option<Instant>) -> Result<OwnedMessage, WaitError> {
         let bed = self.bed();
         until_found(&bed, deadline, || {
