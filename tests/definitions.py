@@ -37,10 +37,11 @@ Some facts are not in the lists and must be read too:
   `crates/ring_rings/src/source.rt`. For a ring they are the capacity (`capacity_of`), the start (`start_of`),
   `IsConsumerOf` and `IsProducerOf`. All four are in `crates/ring_rings/specs/Seats.antt`.
 - `Producer` and `Consumer` have ghost fields (`crates/ring_rings/src/ring.rt`). What a ghost field states is true of
-  every value of its type. Some of the other types that are named [at the end](#all-of-them) also have ghost fields.
+  every value of the type that has the field. Some of the other types that are named [at the end](#all-of-them) also
+  have ghost fields.
 - Ghost fields name further definitions.
 
-The crates have more than %s definitions in `specs`. All others do not change what these three contracts say.
+The crates have more than %s definitions in `specs`. No other definition changes what these three contracts say.
 """
 
 
