@@ -79,7 +79,7 @@ def about(run, what):
     """On which machine and how `what` was measured, and what else the machine did meanwhile."""
     it = run.about
     sets = f"{it['sets']} sets" if it["sets"] > 1 else "one set"
-    fifo = " With `--fifo`, the programs had priority over all ordinary programs." if it["fifo"] else ""
+    fifo = " The option `--fifo` gave the programs priority over all ordinary programs." if it["fifo"] else ""
     said = (f"{what} measured on a virtual machine with {it['cores']} processors ({it['cpu']}) and Linux "
             f"{it['kernel']}, in {sets} of {it['reps']} rounds.{fifo} The twins were {it['twins']}." + gated(it))
     yield from textwrap.fill(said, 120).split("\n")
