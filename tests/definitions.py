@@ -34,8 +34,8 @@ definitions, in the order in which a reader meets them. `tests/cone` writes this
 Some facts are not in the lists and must be read too:
 
 - The contracts name `R.bytes`, `R.start`, `R.is_consumer` and `R.is_producer`. These are members of traits in
-  `crates/ring_rings/src/source.rt`. For a ring they are the capacity (`capacity_of`), the start (`start_of`),
-  `IsConsumerOf` and `IsProducerOf`. All four are in `crates/ring_rings/specs/Seats.antt`.
+  `crates/ring_rings/src/source.rt`. For a ring these members are the capacity (`capacity_of`), the start
+  (`start_of`), `IsConsumerOf` and `IsProducerOf`. All four are in `crates/ring_rings/specs/Seats.antt`.
 - `Producer` and `Consumer` have ghost fields (`crates/ring_rings/src/ring.rt`). What a ghost field states is true of
   every value of the type that has the field. Some of the other types that are named [at the end](#all-of-them) also
   have ghost fields.
