@@ -65,8 +65,8 @@ def used_columns(head, lines):
 def gated(it):
     """How sets were gated, or that they were not."""
     if not it.get("gated"):
-        return (" The sets were not gated: they count every measurement, even if a processor was slow. So a row may be "
-                "off by a third or more.")
+        return (" The sets were not gated. This means that every measurement counts, even if a processor was slow at "
+                "that time. So a row may be off by a third or more.")
     best, two = ", ".join(f"{best:.3f}" for best in it["best"]), it["processors"][:2]
     shares = any(set(two) <= set(core) for core in it["shared_cores"])
     where = "which share a core" if shares else "on cores of their own"
@@ -79,12 +79,12 @@ def about(run, what):
     """On which machine and how `what` was measured, and what else the machine did meanwhile."""
     it = run.about
     sets = f"{it['sets']} sets" if it["sets"] > 1 else "one set"
-    fifo = " With `--fifo`, the programs had priority over all ordinary programs." if it["fifo"] else ""
+    fifo = " The option `--fifo` gave the programs priority over all ordinary programs." if it["fifo"] else ""
     said = (f"{what} measured on a virtual machine with {it['cores']} processors ({it['cpu']}) and Linux "
             f"{it['kernel']}, in {sets} of {it['reps']} rounds.{fifo} The twins were {it['twins']}." + gated(it))
     yield from textwrap.fill(said, 120).split("\n")
     yield ""
-    yield "Meanwhile other programs and the host of the machine used these numbers of processors:"
+    yield "During the measurements, other programs and the host of the machine used this many processors:"
     yield ""
     rows = [("other programs, median", "others", 0), ("other programs, at worst", "others", 1),
             ("the host, median", "steal", 0), ("the host, at worst", "steal", 1)]

@@ -35,7 +35,7 @@ SECTIONS = (
     ("Counters: ns",
      [(said, "counters", "ours-counters", 8, 2, metric) for said, metric in (
          ("allocate and free", "alloc_free"), ("get", "get"), ("set", "set"),
-         ("set that two threads watch", "set_watched"))]),
+         ("set while two threads read the value", "set_watched"))]),
     ("Storms: ns a command",
      [(f"{n} client{'' if n == 1 else 's'}{said}", "storm", "ours-storm", COMMAND, n, metric)
       for said, metric in (("", "ns"), (", whole call", "whole")) for n in (1, 2, 4, 16, 64)]),
@@ -62,7 +62,7 @@ OTHER_ROWS = (
     ("counter: allocate and free", "counters", "ours-counters", 8, 2, "alloc_free"),
     ("counter: get", "counters", "ours-counters", 8, 2, "get"),
     ("counter: set", "counters", "ours-counters", 8, 2, "set"),
-    ("counter: set that two threads watch", "counters", "ours-counters", 8, 2, "set_watched"),
+    ("counter: set while two threads read the value", "counters", "ours-counters", 8, 2, "set_watched"),
     *((f"storm of {n} client{'' if n == 1 else 's'}", "storm", "ours-storm", COMMAND, n, "ns") for n in (1, 4, 16, 64)),
 )
 

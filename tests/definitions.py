@@ -34,13 +34,14 @@ definitions, in the order in which a reader meets them. `tests/cone` writes this
 Some facts are not in the lists and must be read too:
 
 - The contracts name `R.bytes`, `R.start`, `R.is_consumer` and `R.is_producer`. These are members of traits in
-  `crates/ring_rings/src/source.rt`. For a ring they are the capacity (`capacity_of`), the start (`start_of`),
-  `IsConsumerOf` and `IsProducerOf`. All four are in `crates/ring_rings/specs/Seats.antt`.
+  `crates/ring_rings/src/source.rt`. For a ring these members are the capacity (`capacity_of`), the start
+  (`start_of`), `IsConsumerOf` and `IsProducerOf`. All four are in `crates/ring_rings/specs/Seats.antt`.
 - `Producer` and `Consumer` have ghost fields (`crates/ring_rings/src/ring.rt`). What a ghost field states is true of
-  every value of its type. Some of the other types that are named [at the end](#all-of-them) also have ghost fields.
+  every value of the type that has the field. Some of the other types that are named [at the end](#all-of-them) also
+  have ghost fields.
 - Ghost fields name further definitions.
 
-The crates have more than %s definitions in `specs`. All others do not change what these three contracts say.
+The crates have more than %s definitions in `specs`. No other definition changes what these three contracts say.
 """
 
 
