@@ -281,5 +281,5 @@ def many_to_one(capacity: int, start: int = 0) -> typing.Tuple[Producer, Consume
 
 
 def one_to_one(capacity: int, start: int = 0) -> typing.Tuple[Producer, Consumer]:
-    """Makes a ring for one producer, which cannot be split. Returns the producer and the consumer."""
+    """Makes a one-to-one ring, whose only producer cannot be split. Returns the producer and the consumer."""
     return _ring("felter_one_to_one_new_at_numbered", capacity, start)

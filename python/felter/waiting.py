@@ -129,8 +129,8 @@ async def wait_as_task(
 
 
 class Listed:
-    """Puts a doorbell into a list of sleepers, so that the next wake rings it. The wake must run no Python code, since
-    the destructors of claims and handles also wake sleepers."""
+    """Puts a doorbell into a list of sleepers. When the sleepers are woken the next time, the doorbell is rung. The
+    destructors of claims and handles also wake sleepers. So waking a sleeper must run no Python code."""
 
     def __init__(self, sleepers: Sleepers, bell: "Doorbell") -> None:
         self._sleepers, self._bell = sleepers, bell

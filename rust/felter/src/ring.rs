@@ -22,7 +22,7 @@ pub fn many_to_one_at(capacity: u32, start: u64) -> Result<(Producer, Consumer),
     made_by(raw::felter_many_to_one_new_at_numbered, capacity, start)
 }
 
-/// Makes a ring for one producer, which cannot be split.
+/// Makes a one-to-one ring. The producer of this ring cannot be [split](Producer::split).
 ///
 /// Errors: [`Error::BadCapacity`], [`Error::OutOfMemory`].
 pub fn one_to_one(capacity: u32) -> Result<(Producer, Consumer), Error> {
