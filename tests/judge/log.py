@@ -35,18 +35,13 @@ class Log:
             self.functions[name] = self.functions[name].replace("not proved", "proved, but for the mark")
 
     def read_lines(self, text):
-        """Sorts the goals that failed by function, and returns the errors in proof files, each with all its lines."""
-        goals, errors, is_within = [], [], False
+        """Sorts the goals that failed by function, and returns the errors in proof files."""
+        goals, errors = [], []
         for line in text.split("\n"):
-            is_next, is_within = is_within and line.startswith(" "), False
             if goal := GOAL.match(line):
                 goals.append(goal[1])
             elif error := ERROR.match(line):
-                is_within = not FOLLOWS.search(error[2])
-                errors += [error.groups()] if is_within else []
-            elif is_next:
-                is_within = True
-                errors[-1] = errors[-1][0], f"{errors[-1][1]} {line.strip()}"
+                errors += [error.groups()] if not FOLLOWS.search(error[2]) else []
             elif item := ITEM.match(line):
                 # (goals are printed right above their function)
                 if line.startswith("fn "):
