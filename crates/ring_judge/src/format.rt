@@ -3,6 +3,7 @@
 pub mod broadcast_text;
 pub mod fault;
 pub mod kind;
+pub mod lines;
 pub mod numbers;
 pub mod queue_text;
 pub mod words;

@@ -3,6 +3,7 @@
 use crate::broadcast::{BroadcastLine, MessageCopy, ReceiverEvent};
 use crate::format::fault::{BadLine, LineFault};
 use crate::format::kind::{Kind, kind_in};
+use crate::format::lines::{ParseLine, parse_lines};
 use crate::format::words::Words;
 use std::alloc::Global;
 
@@ -13,46 +14,34 @@ use std::alloc::Global;
 /// The first line that is not one of a recorded run, or out of memory. The n-th line `transmitted`, counted from 0, has
 /// the number n.
 pub fn parse_broadcast(alloc: Global, text: &[u8]) -> Result<Vec<BroadcastLine>, BadLine> {
-    let mut lines = Vec::new(alloc);
-    let mut sent = None;
-    for line in text.split(|letter| *letter == b'\n') {
-        match push_line(&mut lines, &mut sent, line) {
-            Ok(()) => {}
-            Err(fault) => return Err(BadLine {
-                line: lines.len().saturating_add(1),
-                fault,
-            }),
-        }
-    }
-    if sent.is_some() {
-        Ok(lines)
-    } else {
-        Err(BadLine {
-            line: lines.len(),
-            fault: LineFault::NoKind,
-        })
-    }
+    parse_lines(alloc, text, BroadcastText { sent: None })
 }
 
-/// Parses a line of the text, and pushes it. `sent` is how many messages were transmitted, or `None` before the line
+/// The state between two lines. `sent` is the number of messages that were transmitted, or `None` before the line
 /// `broadcast`.
-fn push_line(
-    lines: &mut Vec<BroadcastLine>,
-    sent: &mut Option<u64>,
-    line: &[u8],
-) -> Result<(), LineFault> {
-    let parsed = match *sent {
-        Some(count) => line_of(line, count)?,
-        None => {
-            *sent = first_count(line)?;
-            BroadcastLine::Blank
+#[derive(Drop)]
+struct BroadcastText {
+    sent: Option<u64>,
+}
+
+impl ParseLine for BroadcastText {
+    type Line = BroadcastLine;
+
+    fn parse(&mut self, line: &[u8]) -> Result<BroadcastLine, LineFault> {
+        let Some(count) = self.sent else {
+            self.sent = first_count(line)?;
+            return Ok(BroadcastLine::Blank);
+        };
+        let parsed = line_of(line, count)?;
+        if let BroadcastLine::Transmitted(_) = parsed {
+            self.sent = Some(count.saturating_add(1));
         }
-    };
-    if let BroadcastLine::Transmitted(_) = parsed {
-        *sent = sent.map(|count| count.saturating_add(1));
+        Ok(parsed)
     }
-    lines.push(parsed)?;
-    Ok(())
+
+    fn has_kind(&self) -> bool {
+        self.sent.is_some()
+    }
 }
 
 /// 0 after the line `broadcast`, or `None` after one that is empty or a comment.

@@ -2,6 +2,7 @@
 
 use crate::format::fault::{BadLine, LineFault};
 use crate::format::kind::{Kind, kind_in};
+use crate::format::lines::{ParseLine, parse_lines};
 use crate::format::words::Words;
 use crate::message::Message;
 use crate::queue::QueueLine;
@@ -13,41 +14,29 @@ use std::alloc::Global;
 /// # Errors
 /// The first line that is not one of a recorded run, or out of memory.
 pub fn parse_queue(alloc: Global, text: &[u8]) -> Result<Vec<QueueLine>, BadLine> {
-    let mut lines = Vec::new(alloc);
-    let mut has_kind = false;
-    for line in text.split(|letter| *letter == b'\n') {
-        match push_line(&mut lines, &mut has_kind, line) {
-            Ok(()) => {}
-            Err(fault) => return Err(BadLine {
-                line: lines.len().saturating_add(1),
-                fault,
-            }),
-        }
-    }
-    if has_kind {
-        Ok(lines)
-    } else {
-        Err(BadLine {
-            line: lines.len(),
-            fault: LineFault::NoKind,
-        })
-    }
+    parse_lines(alloc, text, QueueText { has_kind: false })
 }
 
-/// Parses a line of the text, and pushes it.
-fn push_line(
-    lines: &mut Vec<QueueLine>,
-    has_kind: &mut bool,
-    line: &[u8],
-) -> Result<(), LineFault> {
-    let parsed = if *has_kind {
-        line_of(line)?
-    } else {
-        *has_kind = is_kind(line)?;
-        QueueLine::Blank
-    };
-    lines.push(parsed)?;
-    Ok(())
+/// The state between two lines: whether the line `queue` was read.
+#[derive(Drop)]
+struct QueueText {
+    has_kind: bool,
+}
+
+impl ParseLine for QueueText {
+    type Line = QueueLine;
+
+    fn parse(&mut self, line: &[u8]) -> Result<QueueLine, LineFault> {
+        if self.has_kind {
+            return line_of(line);
+        }
+        self.has_kind = is_kind(line)?;
+        Ok(QueueLine::Blank)
+    }
+
+    fn has_kind(&self) -> bool {
+        self.has_kind
+    }
 }
 
 /// Tests whether a line says that a queue was recorded: otherwise it is empty, or a comment.
