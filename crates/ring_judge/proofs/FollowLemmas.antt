@@ -5,7 +5,8 @@ use Rattle.std.proofs.lemmas.List.{take_more, take-append-drop, append-nil, take
 use Rattle.ring_judge.specs.declared.message.Message.{Message}
 use Rattle.ring_judge.specs.declared.queue.QueueLine.{QueueLine}
 use Rattle.ring_judge.specs.declared.queue.QueueLine.TheVariants.{Got, Empty}
-use Rattle.ring_judge.specs.Queue.{part_of, sent_in, IsExplained, IsFirstUnexplained, CanShow, Follows, Refuses}
+use Rattle.ring_judge.specs.Queue.{part_of, sent_in, IsExplained, CanShow, Follows, Refuses}
+use Rattle.ring_judge.specs.Verdicts.{IsFirstUnexplained}
 use Rattle.ring_judge.proofs.PartLemmas.{part_of-own, part_of-other, IsWithout, none_left, some_left}
 
 -- a message that is the first of its producer's is taken
@@ -89,7 +90,7 @@ pub explained_all : (run : List QueueLine) (k : ℕ) (w : List Message) → leng
 explained_all run k w le left = subst (IsExplained run) (take_all k run le) (explained run k w left)
 
 pub first_unexplained : (run : List QueueLine) (k : ℕ) (d : QueueLine) (w : List Message) → k < length run
-    → AreLeft run k w → Refuses w (get_or run k d) → IsFirstUnexplained run k
+    → AreLeft run k w → Refuses w (get_or run k d) → IsFirstUnexplained IsExplained run k
 first_unexplained run k d w lt left refuses =
     let none : (lines : List QueueLine) → CanShow (sent_in run) (take k run ++ get_or run k d ∷ lines) → ⊥ =
     λ lines shown. refuses lines (left.forward (get_or run k d ∷ lines) shown) in

@@ -4,7 +4,8 @@ use Rattle.std.proofs.lemmas.List.{take-append-drop, append-nil, take_all}
 use Rattle.ring_judge.specs.declared.broadcast.ReceiverEvent.{ReceiverEvent}
 use Rattle.ring_judge.specs.declared.broadcast.BroadcastLine.{BroadcastLine}
 use Rattle.ring_judge.specs.declared.broadcast.place.Place.{Place}
-use Rattle.ring_judge.specs.Broadcast.{transmitted_in, events_of, Receives, IsExplained, IsFirstUnexplained, CanNote, LeadsTo, EndsAt, AreWithin, anywhere, place_of}
+use Rattle.ring_judge.specs.Broadcast.{transmitted_in, events_of, Receives, IsExplained, CanNote, LeadsTo, EndsAt, AreWithin, anywhere, place_of}
+use Rattle.ring_judge.specs.Verdicts.{IsFirstUnexplained}
 use Rattle.ring_judge.proofs.EventLemmas.{can_be_next}
 use Rattle.ring_judge.proofs.PlaceLemmas.{events_of-append, events_more, joined, stays}
 
@@ -63,7 +64,7 @@ unexplained run lines r p xs ys later leads ends e is = let its = is r in let bo
 
 pub first_unexplained : (run : List BroadcastLine) (k : ℕ) (d : BroadcastLine) (places : List Place) (r : ℕ)
     → k < length run → AreRead run k places
-    → EndsAt (transmitted_in run) (place_of places r) (events_of r (get_or run k d ∷ [])) → IsFirstUnexplained run k
+    → EndsAt (transmitted_in run) (place_of places r) (events_of r (get_or run k d ∷ [])) → IsFirstUnexplained IsExplained run k
 first_unexplained run k d places r lt read ends =
     let xs = events_of r (take k run) in let ys = events_of r (get_or run k d ∷ []) in
     let rest = events_of r (drop (k + 1) run) in

@@ -1,12 +1,12 @@
 -- What a recorded run of a broadcast buffer says, and what explains it.
-use Rattle.std.specs.Prelude.{◌≡◌, ℕ, ◌+◌, ◌<◌, ◌≤◌, ◌==◌, List, [], ◌∷◌, ◌++◌, length, take, Some, slice_get, slice_index_or, Bool, true, if◌then◌else◌, MatchBool}
+use Rattle.std.specs.Prelude.{◌≡◌, ℕ, ◌+◌, ◌<◌, ◌≤◌, ◌==◌, List, [], ◌∷◌, ◌++◌, length, Some, slice_get, slice_index_or, Bool, true, if◌then◌else◌, MatchBool}
 use Rattle.ring_judge.specs.declared.broadcast.ReceiverEvent.{ReceiverEvent}
 use Rattle.ring_judge.specs.declared.broadcast.ReceiverEvent.TheVariants.{Copied, Lapped, Empty}
 use Rattle.ring_judge.specs.declared.broadcast.BroadcastLine.{BroadcastLine}
 use Rattle.ring_judge.specs.declared.broadcast.BroadcastLine.TheVariants.{Transmitted, Receiver, Blank}
 use Rattle.ring_judge.specs.declared.broadcast.place.Place.{Place}
 use Rattle.ring_judge.specs.declared.verdict.Verdict.{Verdict}
-use Rattle.ring_judge.specs.declared.verdict.Verdict.TheVariants.{Yes, No}
+use Rattle.ring_judge.specs.Verdicts.{IsRightVerdict}
 
 -- the bodies of the messages that were transmitted, of which the first is message 0
 abbrev pub transmitted_in : List BroadcastLine → List ℕ
@@ -43,18 +43,9 @@ abbrev pub IsExplained : List BroadcastLine → List BroadcastLine → Type 0
 IsExplained run lines = let bodies = transmitted_in run in
     (r : ℕ) → (first : ℕ) × (first ≤ length bodies) × Receives bodies first 0 (events_of r lines)
 
--- nothing explains the run; what the receivers noted before the k-th line is explained, and what they noted up to that
--- line is not
-pub record IsFirstUnexplained (run : List BroadcastLine) (k : ℕ) : Type 0 where
-  pub within : k < length run
-  pub before : IsExplained run (take k run)
-  pub at_line : IsExplained run (take (k + 1) run) → ⊥
-  pub whole : IsExplained run run → ⊥
-
 -- the verdict is right
 abbrev pub JudgesBroadcast : List BroadcastLine → Verdict → Type 0
-JudgesBroadcast run Yes = IsExplained run run
-JudgesBroadcast run (No k) = IsFirstUnexplained run k
+JudgesBroadcast = IsRightVerdict IsExplained
 
 -- ---- what the judge knows of a receiver
 

@@ -1,10 +1,10 @@
 -- What a recorded run of a queue says, and what explains it.
-use Rattle.std.specs.Prelude.{◌≡◌, ℕ, ◌+◌, ◌<◌, ◌==◌, List, [], ◌∷◌, length, take, drop, slice_index, slice_index_or, Bool, if◌then◌else◌, MatchBool}
+use Rattle.std.specs.Prelude.{◌≡◌, ℕ, ◌<◌, ◌==◌, List, [], ◌∷◌, length, drop, slice_index, slice_index_or, Bool, if◌then◌else◌, MatchBool}
 use Rattle.ring_judge.specs.declared.message.Message.{Message}
 use Rattle.ring_judge.specs.declared.queue.QueueLine.{QueueLine}
 use Rattle.ring_judge.specs.declared.queue.QueueLine.TheVariants.{Sent, Refused, Got, Empty, Blank}
 use Rattle.ring_judge.specs.declared.verdict.Verdict.{Verdict}
-use Rattle.ring_judge.specs.declared.verdict.Verdict.TheVariants.{Yes, No}
+use Rattle.ring_judge.specs.Verdicts.{IsRightVerdict}
 
 -- the messages that one producer sent, of these
 abbrev pub part_of : ℕ → List Message → List Message
@@ -55,18 +55,9 @@ pub record Explains (run lines : List QueueLine) (h : List Message) : Type 0 whe
 abbrev pub IsExplained : List QueueLine → List QueueLine → Type 0
 IsExplained run lines = (h : List Message) × Explains run lines h
 
--- no history explains the run; some one explains what the consumer recorded before the k-th line, and none what it
--- recorded up to that line
-pub record IsFirstUnexplained (run : List QueueLine) (k : ℕ) : Type 0 where
-  pub within : k < length run
-  pub before : IsExplained run (take k run)
-  pub at_line : IsExplained run (take (k + 1) run) → ⊥
-  pub whole : IsExplained run run → ⊥
-
 -- the verdict is right
 abbrev pub Judges : List QueueLine → Verdict → Type 0
-Judges run Yes = IsExplained run run
-Judges run (No k) = IsFirstUnexplained run k
+Judges = IsRightVerdict IsExplained
 
 -- what is left are the messages w: of each producer's those that were not taken yet
 pub record AreWaiting (lists : List (List Message)) (taken : List ℕ) (left : ℕ) (w : List Message) : Type 0 where
