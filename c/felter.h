@@ -1,6 +1,7 @@
 /* felter: rings, boards, counters and conductors for the threads of one process. A board is a broadcast buffer.
  *
- * The library of this header is proved. This header is not proved. Callers must keep the rules below.
+ * The library of this header is proved, except the functions of the last part, "Memory of the caller". This header is
+ * not proved. Callers must keep the rules below.
  *
  * Layouts. The bodies of messages are stored separately from the words of headers and positions. Padding has the type
  * id -2. So the memory of these rings does not have the layout of Agrona's rings. Boards and the metadata of counters
@@ -133,7 +134,8 @@ enum felter_code {
                                          shared counters */
     FELTER_OTHER_REPLY = 109,         /* the message is the reply to another command, or no reply */
     FELTER_IN_USE = 110,              /* another handle holds what was to be closed */
-    FELTER_NULL_POINTER = 111         /* a pointer is NULL */
+    FELTER_NULL_POINTER = 111,        /* a pointer is NULL */
+    FELTER_BAD_MEMORY = 112           /* the memory is too short, does not begin at a multiple of 64, or is in use */
 };
 
 /* Returns what a code means, in words. */
@@ -618,6 +620,69 @@ enum felter_reply {
  *     lapped. The next call goes on with the reply that was transmitted last. The client does not learn the results of
  *     the commands that had no reply yet. */
 int32_t felter_poll(felter_client *client, uint64_t correlation, int32_t *kind, int64_t *number, uint64_t *lapped);
+
+/* Memory of the caller ------------------------------------------------------------------------------------------- */
+
+/* The calls of this part make a ring, a board or counters in memory that the caller passes, for example in a file that
+ * the caller has mapped. Then the words and the bodies of a ring, the words of a board, or the value records and the
+ * metadata of counters lie in this memory. Everything else is requested from malloc. After a process has died, the file
+ * has what the process had stored. Another process can map the file and look at it, but must not write to it. No second
+ * process can make handles of the structure.
+ *
+ * The functions of this part are not proved. docs/FORMATS.md describes the memory. It begins with a header of 128 bytes,
+ * whose first 8 bytes are "FELTERIM" as soon as the structure was made.
+ *
+ * These are the rules for callers, besides those at the head of this file:
+ *   7. The memory stays where it is, and can be read and written, until each handle of the structure was freed.
+ *      felter_close, felter_finish, felter_board_close and the joins free handles too.
+ *   8. Only the calls of the structure write to the memory. If the memory is a file, no other process writes to the
+ *      file or makes it shorter.
+ *
+ * If a ring is freed, the messages that are left stay in the memory. After felter_close the memory does not change. It
+ * still has each message that was left at that moment, even if felter_read returns the message later.
+ *
+ * A mapped file survives the death of the process, but not a crash of the machine. Call msync to write the file to the
+ * disk.
+ *
+ * These calls write how many bytes of memory a ring of either kind, a board and counters need. Codes:
+ * FELTER_BAD_CAPACITY, and FELTER_BAD_COUNT for counters. */
+int32_t felter_ring_memory(uint32_t capacity, size_t *length);
+int32_t felter_board_memory(uint32_t capacity, size_t *length);
+int32_t felter_counters_memory(uint32_t count, size_t *length);
+
+/* These calls do the same as the calls without _in in their names, but in the `length` bytes of memory at `memory`,
+ * which must begin at a multiple of 64 bytes. Positions begin at 0. What was in the memory before is lost, also the
+ * messages of an earlier ring. After a refusal the memory has the bytes that it had before the call.
+ *
+ * Codes, in this order:
+ *   - FELTER_NULL_POINTER if `memory` is NULL;
+ *   - FELTER_NO_HANDLE if the pointer to a handle is NULL;
+ *   - FELTER_HANDLE_IN_USE if a handle is not empty;
+ *   - FELTER_BAD_CAPACITY, or FELTER_BAD_COUNT for counters;
+ *   - FELTER_BAD_MEMORY if the memory does not begin at a multiple of 64, if it has fewer bytes than the structure
+ *     needs, or if another structure that begins at the same place still has a handle;
+ *   - FELTER_OUT_OF_MEMORY. */
+int32_t felter_many_to_one_new_in_numbered(uint64_t number, void *memory, size_t length, uint32_t capacity,
+                                           felter_producer *producer, felter_consumer *consumer);
+int32_t felter_one_to_one_new_in_numbered(uint64_t number, void *memory, size_t length, uint32_t capacity,
+                                          felter_producer *producer, felter_consumer *consumer);
+int32_t felter_board_new_in_numbered(uint64_t number, void *memory, size_t length, uint32_t capacity,
+                                     felter_transmitter *transmitter);
+int32_t felter_counters_new_in_numbered(uint64_t number, void *memory, size_t length, uint32_t count,
+                                        uint32_t reuse_ms, felter_counters *counters);
+static inline int32_t felter_many_to_one_new_in(void *memory, size_t length, uint32_t capacity,
+                                                felter_producer *producer, felter_consumer *consumer);
+static inline int32_t felter_one_to_one_new_in(void *memory, size_t length, uint32_t capacity,
+                                               felter_producer *producer, felter_consumer *consumer);
+static inline int32_t felter_board_new_in(void *memory, size_t length, uint32_t capacity,
+                                          felter_transmitter *transmitter);
+static inline int32_t felter_counters_new_in(void *memory, size_t length, uint32_t count, uint32_t reuse_ms,
+                                             felter_counters *counters);
+
+/* Lets the library unmap memory that the caller has mapped, since the library knows when the last handle was freed. The
+ * library then calls munmap(memory, length). A structure must lie at the beginning of the memory. Codes:
+ * FELTER_BAD_MEMORY if no structure with a handle lies there, or the length is 0. */
+int32_t felter_unmap_at_end(void *memory, size_t length);
 
 #include "felter_inline.h"
 

@@ -190,11 +190,11 @@ struct ring {
 };
 
 namespace detail {
-template <class Call>
-result<ring> ring_by(Call call, std::uint32_t capacity, std::uint64_t start) {
+template <class Call, class... Its>
+result<ring> ring_by(Call call, Its... its) {
     ring made;
     if (!made.producer.begin(true) || !made.consumer.follow(made.producer, false)) return code(FELTER_OUT_OF_MEMORY);
-    const std::int32_t why = call(capacity, start, made.producer.raw(), made.consumer.raw());
+    const std::int32_t why = call(its..., made.producer.raw(), made.consumer.raw());
     return answer(why, std::move(made));
 }
 } // namespace detail
@@ -205,6 +205,15 @@ inline result<ring> many_to_one(std::uint32_t capacity, std::uint64_t start = 0)
 
 inline result<ring> one_to_one(std::uint32_t capacity, std::uint64_t start = 0) {
     return detail::ring_by(felter_one_to_one_new_at, capacity, start);
+}
+
+// Make a ring in `length` bytes of memory, which must stay until each handle was freed (rules 7 and 8 of felter.h).
+inline result<ring> many_to_one_in(void *memory, std::size_t length, std::uint32_t capacity) {
+    return detail::ring_by([=](auto... its) { return felter_many_to_one_new_in(memory, length, its...); }, capacity);
+}
+
+inline result<ring> one_to_one_in(void *memory, std::size_t length, std::uint32_t capacity) {
+    return detail::ring_by([=](auto... its) { return felter_one_to_one_new_in(memory, length, its...); }, capacity);
 }
 
 // The place at which a receiver was lapped, and the intent that showed the lap.
@@ -271,6 +280,12 @@ public:
     static result<transmitter> make(std::uint32_t capacity, std::uint64_t start = 0) {
         return detail::first<transmitter>(
             [&](felter_transmitter *it) { return felter_board_new_at(capacity, start, it); });
+    }
+    // Makes a board in `length` bytes of memory, which must stay until each handle was freed (rules 7 and 8 of
+    // felter.h).
+    static result<transmitter> make_in(void *memory, std::size_t length, std::uint32_t capacity) {
+        return detail::first<transmitter>(
+            [&](felter_transmitter *it) { return felter_board_new_in(memory, length, capacity, it); });
     }
     result<felter::sizes> sizes() { return detail::sizes_of(raw()->handle); }
     code transmit(std::int32_t type_id, bytes body) {

@@ -17,6 +17,10 @@
 #define felter_counters_new felter_inline_counters_new
 #define felter_adder_new felter_inline_adder_new
 #define felter_conductor_new felter_inline_conductor_new
+#define felter_many_to_one_new_in felter_inline_many_to_one_new_in
+#define felter_one_to_one_new_in felter_inline_one_to_one_new_in
+#define felter_board_new_in felter_inline_board_new_in
+#define felter_counters_new_in felter_inline_counters_new_in
 #include "felter.h"
 #undef felter_text
 #undef felter_many_to_one_new
@@ -30,6 +34,10 @@
 #undef felter_counters_new
 #undef felter_adder_new
 #undef felter_conductor_new
+#undef felter_many_to_one_new_in
+#undef felter_one_to_one_new_in
+#undef felter_board_new_in
+#undef felter_counters_new_in
 
 const char *felter_text(int32_t code);
 const char *felter_text(int32_t code) {
@@ -95,4 +103,30 @@ int32_t felter_conductor_new(uint32_t capacity, uint32_t replies, uint32_t count
 int32_t felter_conductor_new(uint32_t capacity, uint32_t replies, uint32_t counters, uint32_t reuse_ms,
                              felter_conductor *conductor) {
     return felter_inline_conductor_new(capacity, replies, counters, reuse_ms, conductor);
+}
+
+int32_t felter_many_to_one_new_in(void *memory, size_t length, uint32_t capacity, felter_producer *producer,
+                                  felter_consumer *consumer);
+int32_t felter_many_to_one_new_in(void *memory, size_t length, uint32_t capacity, felter_producer *producer,
+                                  felter_consumer *consumer) {
+    return felter_inline_many_to_one_new_in(memory, length, capacity, producer, consumer);
+}
+
+int32_t felter_one_to_one_new_in(void *memory, size_t length, uint32_t capacity, felter_producer *producer,
+                                 felter_consumer *consumer);
+int32_t felter_one_to_one_new_in(void *memory, size_t length, uint32_t capacity, felter_producer *producer,
+                                 felter_consumer *consumer) {
+    return felter_inline_one_to_one_new_in(memory, length, capacity, producer, consumer);
+}
+
+int32_t felter_board_new_in(void *memory, size_t length, uint32_t capacity, felter_transmitter *transmitter);
+int32_t felter_board_new_in(void *memory, size_t length, uint32_t capacity, felter_transmitter *transmitter) {
+    return felter_inline_board_new_in(memory, length, capacity, transmitter);
+}
+
+int32_t felter_counters_new_in(void *memory, size_t length, uint32_t count, uint32_t reuse_ms,
+                               felter_counters *counters);
+int32_t felter_counters_new_in(void *memory, size_t length, uint32_t count, uint32_t reuse_ms,
+                               felter_counters *counters) {
+    return felter_inline_counters_new_in(memory, length, count, reuse_ms, counters);
 }

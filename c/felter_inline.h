@@ -67,6 +67,7 @@ static inline const char *felter_text(int32_t code) {
     case 109: return "the message is the reply to another command, or no reply";
     case 110: return "another handle holds what was to be closed";
     case 111: return "a pointer is NULL";
+    case 112: return "the memory is too short, does not begin at a multiple of 64, or is in use";
     default: return "unknown code";
     }
 }
@@ -1037,6 +1038,75 @@ FELTER_GUARD int32_t felter_guarded_poll(felter_client *client, uint64_t correla
     return code;
 }
 
+FELTER_GUARD int32_t felter_guarded_ring_memory(uint32_t capacity, size_t *length) {
+    if (!length) return felter_refuse("felter_ring_memory", FELTER_NULL_POINTER);
+    int32_t code = felter_ring_memory(capacity, length);
+    return code;
+}
+
+FELTER_GUARD int32_t felter_guarded_board_memory(uint32_t capacity, size_t *length) {
+    if (!length) return felter_refuse("felter_board_memory", FELTER_NULL_POINTER);
+    int32_t code = felter_board_memory(capacity, length);
+    return code;
+}
+
+FELTER_GUARD int32_t felter_guarded_counters_memory(uint32_t count, size_t *length) {
+    if (!length) return felter_refuse("felter_counters_memory", FELTER_NULL_POINTER);
+    int32_t code = felter_counters_memory(count, length);
+    return code;
+}
+
+FELTER_GUARD int32_t felter_guarded_many_to_one_new_in_numbered(uint64_t number, void *memory, size_t length,
+                                                                uint32_t capacity, felter_producer *producer,
+                                                                felter_consumer *consumer) {
+    if (!memory) return felter_refuse("felter_many_to_one_new_in_numbered", FELTER_NULL_POINTER);
+    if (!producer) return felter_refuse("felter_many_to_one_new_in_numbered", FELTER_NO_HANDLE);
+    if (!consumer) return felter_refuse("felter_many_to_one_new_in_numbered", FELTER_NO_HANDLE);
+    FELTER_ENTER2("felter_many_to_one_new_in_numbered", &producer->handle, &consumer->handle);
+    int32_t code = felter_many_to_one_new_in_numbered(number, memory, length, capacity, producer, consumer);
+    FELTER_LEAVE2();
+    return code;
+}
+
+FELTER_GUARD int32_t felter_guarded_one_to_one_new_in_numbered(uint64_t number, void *memory, size_t length,
+                                                               uint32_t capacity, felter_producer *producer,
+                                                               felter_consumer *consumer) {
+    if (!memory) return felter_refuse("felter_one_to_one_new_in_numbered", FELTER_NULL_POINTER);
+    if (!producer) return felter_refuse("felter_one_to_one_new_in_numbered", FELTER_NO_HANDLE);
+    if (!consumer) return felter_refuse("felter_one_to_one_new_in_numbered", FELTER_NO_HANDLE);
+    FELTER_ENTER2("felter_one_to_one_new_in_numbered", &producer->handle, &consumer->handle);
+    int32_t code = felter_one_to_one_new_in_numbered(number, memory, length, capacity, producer, consumer);
+    FELTER_LEAVE2();
+    return code;
+}
+
+FELTER_GUARD int32_t felter_guarded_board_new_in_numbered(uint64_t number, void *memory, size_t length,
+                                                          uint32_t capacity, felter_transmitter *transmitter) {
+    if (!memory) return felter_refuse("felter_board_new_in_numbered", FELTER_NULL_POINTER);
+    if (!transmitter) return felter_refuse("felter_board_new_in_numbered", FELTER_NO_HANDLE);
+    FELTER_ENTER1("felter_board_new_in_numbered", &transmitter->handle);
+    int32_t code = felter_board_new_in_numbered(number, memory, length, capacity, transmitter);
+    FELTER_LEAVE1();
+    return code;
+}
+
+FELTER_GUARD int32_t felter_guarded_counters_new_in_numbered(uint64_t number, void *memory, size_t length,
+                                                             uint32_t count, uint32_t reuse_ms,
+                                                             felter_counters *counters) {
+    if (!memory) return felter_refuse("felter_counters_new_in_numbered", FELTER_NULL_POINTER);
+    if (!counters) return felter_refuse("felter_counters_new_in_numbered", FELTER_NO_HANDLE);
+    FELTER_ENTER1("felter_counters_new_in_numbered", &counters->handle);
+    int32_t code = felter_counters_new_in_numbered(number, memory, length, count, reuse_ms, counters);
+    FELTER_LEAVE1();
+    return code;
+}
+
+FELTER_GUARD int32_t felter_guarded_unmap_at_end(void *memory, size_t length) {
+    if (!memory) return felter_refuse("felter_unmap_at_end", FELTER_NULL_POINTER);
+    int32_t code = felter_unmap_at_end(memory, length);
+    return code;
+}
+
 FELTER_GUARD int32_t felter_many_to_one_new(uint32_t capacity, felter_producer *producer, felter_consumer *consumer) {
     return felter_guarded_many_to_one_new_numbered(felter_next_number(), capacity, producer, consumer);
 }
@@ -1075,6 +1145,28 @@ FELTER_GUARD int32_t felter_conductor_new(uint32_t capacity, uint32_t replies, u
                                           felter_conductor *conductor) {
     return felter_guarded_conductor_new_numbered(felter_next_number(), capacity, replies, counters, reuse_ms,
                                                  conductor);
+}
+
+FELTER_GUARD int32_t felter_many_to_one_new_in(void *memory, size_t length, uint32_t capacity,
+                                               felter_producer *producer, felter_consumer *consumer) {
+    return felter_guarded_many_to_one_new_in_numbered(felter_next_number(), memory, length, capacity, producer,
+                                                      consumer);
+}
+
+FELTER_GUARD int32_t felter_one_to_one_new_in(void *memory, size_t length, uint32_t capacity, felter_producer *producer,
+                                              felter_consumer *consumer) {
+    return felter_guarded_one_to_one_new_in_numbered(felter_next_number(), memory, length, capacity, producer,
+                                                     consumer);
+}
+
+FELTER_GUARD int32_t felter_board_new_in(void *memory, size_t length, uint32_t capacity,
+                                         felter_transmitter *transmitter) {
+    return felter_guarded_board_new_in_numbered(felter_next_number(), memory, length, capacity, transmitter);
+}
+
+FELTER_GUARD int32_t felter_counters_new_in(void *memory, size_t length, uint32_t count, uint32_t reuse_ms,
+                                            felter_counters *counters) {
+    return felter_guarded_counters_new_in_numbered(felter_next_number(), memory, length, count, reuse_ms, counters);
 }
 
 FELTER_GUARD int32_t felter_write_batch(felter_producer *producer, const void *records, size_t bytes,
@@ -1227,5 +1319,13 @@ FELTER_GUARD int32_t felter_standing(felter_producer *producer, felter_consumer 
 #define felter_send_set felter_guarded_send_set
 #define felter_send_close_owner felter_guarded_send_close_owner
 #define felter_poll felter_guarded_poll
+#define felter_ring_memory felter_guarded_ring_memory
+#define felter_board_memory felter_guarded_board_memory
+#define felter_counters_memory felter_guarded_counters_memory
+#define felter_many_to_one_new_in_numbered felter_guarded_many_to_one_new_in_numbered
+#define felter_one_to_one_new_in_numbered felter_guarded_one_to_one_new_in_numbered
+#define felter_board_new_in_numbered felter_guarded_board_new_in_numbered
+#define felter_counters_new_in_numbered felter_guarded_counters_new_in_numbered
+#define felter_unmap_at_end felter_guarded_unmap_at_end
 
 #endif

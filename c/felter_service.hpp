@@ -35,6 +35,12 @@ public:
     static result<counters> make(std::uint32_t count, std::uint32_t reuse_ms = 0) {
         return detail::made<counters>([&](felter_counters *it) { return felter_counters_new(count, reuse_ms, it); });
     }
+    // Makes counters in `length` bytes of memory, which must stay until each handle was freed (rules 7 and 8 of
+    // felter.h).
+    static result<counters> make_in(void *memory, std::size_t length, std::uint32_t count, std::uint32_t reuse_ms) {
+        return detail::made<counters>(
+            [&](felter_counters *it) { return felter_counters_new_in(memory, length, count, reuse_ms, it); });
+    }
     result<std::uint32_t> allocate(std::uint64_t now, std::int32_t type_id, bytes key, bytes label,
                                    std::uint64_t registration = 0, std::uint64_t of = 0) {
         return detail::out<std::uint32_t>([&](std::uint32_t *it) {

@@ -50,7 +50,17 @@ from felter.controlled import Action
 from felter.counters import Counters, Reader
 from felter.errors import Closed, Contended, Disconnected, Error, Full, Lapped, Number
 from felter.message import Buffer, Message
-from felter.rings import Consumer, Found, Positions, Producer, Standing, many_to_one, one_to_one
+from felter.rings import (
+    Consumer,
+    Found,
+    Positions,
+    Producer,
+    Standing,
+    many_to_one,
+    many_to_one_in_file,
+    one_to_one,
+    one_to_one_in_file,
+)
 from felter.waiting import Doorbell
 
 __version__ = "0.1.0"
@@ -94,5 +104,7 @@ __all__ = [
     "__version__",
     "implementation",
     "many_to_one",
+    "many_to_one_in_file",
     "one_to_one",
+    "one_to_one_in_file",
 ]

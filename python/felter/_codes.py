@@ -40,6 +40,7 @@ class Number(enum.IntEnum):
     OTHER_REPLY = 109
     IN_USE = 110
     NULL_POINTER = 111
+    BAD_MEMORY = 112
 
 
 TEXTS = {
@@ -76,4 +77,5 @@ TEXTS = {
     109: "the message is the reply to another command, or no reply",
     110: "another handle holds what was to be closed",
     111: "a pointer is NULL",
+    112: "the memory is too short, does not begin at a multiple of 64, or is in use",
 }

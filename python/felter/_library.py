@@ -19,10 +19,12 @@ from felter._calls import CALLS
 from felter.errors import Lapped, refusal
 from felter.message import Message
 
-# Each call, with the words for its parameters. Here all kinds of handles are one kind.
+# Each call, with the words for its parameters. Here all kinds of handles are one kind, and the memory of the caller is
+# the number of its first byte.
 KINDS = "producer consumer transmitter receiver raw_receiver counters reader adder conductor client".split()
+WORDS = {"memory": "usize", **{"*" + it: "*handle" for it in KINDS}}
 TABLE = {
-    name: ["*handle" if it.startswith("*") and it[1:] in KINDS else it for it in words]
+    name: [WORDS.get(it, it) for it in words]
     for name, *words in map(str.split, CALLS.strip().splitlines())
 }
 

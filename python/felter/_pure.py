@@ -164,6 +164,8 @@ class Function:
         handles = [given[i] for i in self.handles]
         for it in handles:
             it._check()
+        if not handles:
+            return self.answered(self.call(*parameters), None, parameters, outs, is_trying)
         if len(handles) == 1:
             one = handles[0]
             with one._lock:
@@ -182,6 +184,12 @@ class Function:
             # (no interrupt comes between these two)
             one._was_emptied = one._raw.at is None
             two._was_emptied = two._raw.at is None
+        return self.answered(code, room, parameters, outs, is_trying)
+
+    def answered(
+        self, code: int, room: typing.Any, parameters: typing.Any, outs: typing.Any, is_trying: bool
+    ) -> typing.Any:
+        """Returns what the call wrote, or raises the exception of its refusal."""
         if code == 0:
             its = [outs[i].value for i in self.found]
             if room is not None:

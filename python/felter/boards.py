@@ -6,6 +6,7 @@ import typing
 from felter._library import call, direct
 from felter._owner import Owner, Sizes, numbers
 from felter.errors import Disconnected, Error, Number
+from felter.files import Path, make
 from felter.message import Buffer, Message
 from felter.waiting import wait_as_task, wait_for
 
@@ -25,6 +26,14 @@ class Transmitter(Owner):
     def __init__(self, capacity: int, start: int = 0) -> None:
         super().__init__(next(numbers))
         call("felter_board_new_at_numbered", self._number, capacity, start, self)
+
+    @classmethod
+    def in_file(cls, path: Path, capacity: int) -> "Transmitter":
+        """Makes a new file, and a board in it, as `many_to_one_in_file` does for a ring."""
+        made = cls.__new__(cls)
+        Owner.__init__(made, next(numbers))
+        make(path, "felter_board_memory", "felter_board_new_in_numbered", (made,), capacity)
+        return made
 
     def sizes(self) -> Sizes:
         """Returns the capacity, and the length of the longest message, in bytes."""

@@ -6,6 +6,7 @@ import typing
 from felter._library import call
 from felter._owner import Owner, numbers
 from felter.errors import Error, Number
+from felter.files import Path, make
 from felter.message import Buffer
 
 
@@ -15,6 +16,15 @@ class Counters(Owner):
     def __init__(self, count: int, reuse_ms: int = 0) -> None:
         super().__init__(next(numbers))
         call("felter_counters_new_numbered", self._number, count, reuse_ms, self)
+
+    @classmethod
+    def in_file(cls, path: Path, count: int, reuse_ms: int = 0) -> "Counters":
+        """Makes a new file, and counters in it, as `many_to_one_in_file` does for a ring. The value records and the
+        metadata lie in the file."""
+        made = cls.__new__(cls)
+        Owner.__init__(made, next(numbers))
+        make(path, "felter_counters_memory", "felter_counters_new_in_numbered", (made,), count, reuse_ms)
+        return made
 
     def allocate(
         self,

@@ -11,6 +11,7 @@ from felter._owner import Ends, Sizes, numbers
 from felter.claims import Claim, Settling, settle_dropped
 from felter.controlled import Controlled
 from felter.errors import Contended, Disconnected, Error, Full, Number
+from felter.files import Path, make
 from felter.message import Buffer, Message
 from felter.waiting import wait_as_task, wait_for
 
@@ -266,11 +267,21 @@ class Producer(Settling):
         return self._do("felter_shares")
 
 
-def _ring(name: str, capacity: int, start: int) -> typing.Tuple[Producer, Consumer]:
+def _ends() -> typing.Tuple[Producer, Consumer]:
     number = next(numbers)
     producer = Producer(number)
-    consumer = Consumer(number, producer._ends)
-    call(name, number, capacity, start, producer, consumer)
+    return producer, Consumer(number, producer._ends)
+
+
+def _ring(name: str, capacity: int, start: int) -> typing.Tuple[Producer, Consumer]:
+    producer, consumer = _ends()
+    call(name, producer._number, capacity, start, producer, consumer)
+    return producer, consumer
+
+
+def _ring_in_file(name: str, path: Path, capacity: int) -> typing.Tuple[Producer, Consumer]:
+    producer, consumer = _ends()
+    make(path, "felter_ring_memory", name, (producer, consumer), capacity)
     return producer, consumer
 
 
@@ -283,3 +294,16 @@ def many_to_one(capacity: int, start: int = 0) -> typing.Tuple[Producer, Consume
 def one_to_one(capacity: int, start: int = 0) -> typing.Tuple[Producer, Consumer]:
     """Makes a one-to-one ring, whose only producer cannot be split. Returns the producer and the consumer."""
     return _ring("felter_one_to_one_new_at_numbered", capacity, start)
+
+
+def many_to_one_in_file(path: Path, capacity: int) -> typing.Tuple[Producer, Consumer]:
+    """Makes a new file, and a ring for any number of producers in it. Positions begin at 0. The words and the bodies of
+    the ring lie in the file, so the messages survive the death of the process. Another process can map the file and
+    look at it, but must not write to it. The file is unmapped after the last handle of the ring was freed. The file
+    itself stays. The call raises an OSError if the file exists, or cannot be made."""
+    return _ring_in_file("felter_many_to_one_new_in_numbered", path, capacity)
+
+
+def one_to_one_in_file(path: Path, capacity: int) -> typing.Tuple[Producer, Consumer]:
+    """Makes a one-to-one ring in a new file, as `many_to_one_in_file` makes a ring for many producers."""
+    return _ring_in_file("felter_one_to_one_new_in_numbered", path, capacity)

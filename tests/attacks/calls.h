@@ -45,6 +45,20 @@ uint64_t some_number(void);
 /* Asks a handle for its sizes. */
 void look_at_sizes(felter_handle *handle, uint32_t capacity);
 
+/* Memory for a structure. Each part has numbers of its own. */
+enum { RING_MEMORY = 0, BOARD_MEMORY = 2, COUNTER_MEMORY = 4, MEMORIES = 6 };
+
+struct lent {
+    uint8_t *at, *before; /* the memory, and a copy of it */
+    size_t length, needed;
+    int32_t code;         /* what a call returns with this memory */
+    bool is_mapped;
+};
+/* Memory that a call may refuse. It has this many bytes or more. */
+struct lent lend_memory(int which, size_t needed);
+/* Checks the memory after a call. Memory that was mapped is unmapped, or the library gets it. */
+void check_memory(const struct lent *lent, int32_t code);
+
 /* Each asks a conductor about its counters, and compares the result with the model. `drawn` is how many correlation ids
  * were drawn. */
 void look_at_conducted(felter_conductor *conductor, const struct model_counters *counters);

@@ -28,13 +28,29 @@ static void look_whether_gone(struct board *board) {
     board->is_there = is_there;
 }
 
+/* Makes a broadcast buffer in memory that is passed. */
+static int32_t make_in(struct board *board, int32_t wanted, uint32_t capacity) {
+    size_t needed = 4096;
+    CALL(wanted, felter_board_memory(capacity, &needed));
+    CHECK(needed == (wanted ? 4096 : 256 + (size_t)capacity));
+    struct lent in = lend_memory(BOARD_MEMORY + (int)(board - boards), needed);
+    if (wanted == FELTER_OK || !in.at) wanted = in.code;
+    felter_transmitter *to = &board->transmitter;
+    int32_t code = once_in(2)
+        ? CALL(wanted, felter_board_new_in_numbered(some_number(), in.at, in.length, capacity, to))
+        : CALL(wanted, felter_board_new_in(in.at, in.length, capacity, to));
+    check_memory(&in, code);
+    return code;
+}
+
 static void make(struct board *board) {
-    bool is_at = once_in(2);
+    bool is_in = once_in(3), is_at = !is_in && once_in(2);
     uint32_t capacity = (uint32_t)ONE_OF(256, 256, 512, 1024, 8192, 16384, 0, 128, 300);
     uint64_t start = is_at ? some_start(capacity) : 0;
     int32_t wanted = model_capacity(capacity, 256, start);
     felter_transmitter *to = &board->transmitter;
-    int32_t code = once_in(3) ? is_at ? CALL(wanted, felter_board_new_at_numbered(some_number(), capacity, start, to))
+    int32_t code = is_in ? make_in(board, wanted, capacity)
+        : once_in(3)     ? is_at ? CALL(wanted, felter_board_new_at_numbered(some_number(), capacity, start, to))
                                       : CALL(wanted, felter_board_new_numbered(some_number(), capacity, to))
         : is_at               ? CALL(wanted, felter_board_new_at(capacity, start, to))
                               : CALL(wanted, felter_board_new(capacity, to));

@@ -19,13 +19,28 @@ static void look_whether_gone(struct counters *set) {
     set->is_there = is_there;
 }
 
+/* Makes counters in memory that is passed. */
+static int32_t make_in(struct counters *set, int32_t wanted, uint32_t count, uint32_t reuse_ms) {
+    size_t needed = 4096;
+    CALL(wanted, felter_counters_memory(count, &needed));
+    CHECK(needed == (wanted ? 4096 : 128 + (24 * (size_t)count + 63) / 64 * 64 + 512 * (size_t)count));
+    struct lent in = lend_memory(COUNTER_MEMORY + (int)(set - sets), needed);
+    if (wanted == FELTER_OK || !in.at) wanted = in.code;
+    int32_t code = once_in(2)
+        ? CALL(wanted, felter_counters_new_in_numbered(some_number(), in.at, in.length, count, reuse_ms,
+                                                       &set->counters))
+        : CALL(wanted, felter_counters_new_in(in.at, in.length, count, reuse_ms, &set->counters));
+    check_memory(&in, code);
+    return code;
+}
+
 static void make(struct counters *set) {
     uint32_t count = (uint32_t)ONE_OF(1, 2, 5, MAX_COUNTERS, MAX_COUNTERS, 0, 4097);
     uint32_t reuse_ms = (uint32_t)ONE_OF(0, 1, 50, UINT32_MAX);
     int32_t wanted = count < 1 || count > 4096 ? FELTER_BAD_COUNT : FELTER_OK;
-    int32_t code = once_in(3)
-        ? CALL(wanted, felter_counters_new_numbered(some_number(), count, reuse_ms, &set->counters))
-        : CALL(wanted, felter_counters_new(count, reuse_ms, &set->counters));
+    int32_t code = once_in(3) ? make_in(set, wanted, count, reuse_ms)
+        : once_in(3)          ? CALL(wanted, felter_counters_new_numbered(some_number(), count, reuse_ms, &set->counters))
+                              : CALL(wanted, felter_counters_new(count, reuse_ms, &set->counters));
     CHECK((code == FELTER_OK) == (set->counters.handle.at != NULL));
     if (code) return;
     set->is_there = set->has_owner = true;

@@ -52,13 +52,35 @@ static int32_t make_by(struct ring *ring, int32_t wanted, bool is_one, bool is_a
     return CALL(wanted, felter_many_to_one_new(capacity, producer, consumer));
 }
 
+/* Makes a ring in memory that is passed. */
+static int32_t make_in(struct ring *ring, int32_t wanted, bool is_one, uint32_t capacity) {
+    felter_producer *to = &ring->producers[0];
+    felter_consumer *by = &ring->consumer;
+    size_t needed = 4096;
+    CALL(wanted, felter_ring_memory(capacity, &needed));
+    CHECK(needed == (wanted ? 4096 : 896 + 2 * (size_t)capacity));
+    struct lent in = lend_memory(RING_MEMORY + (int)(ring - rings), needed);
+    /* (NULL comes first) */
+    if (wanted == FELTER_OK || !in.at) wanted = in.code;
+    bool is_numbered = once_in(2);
+    uint64_t number = some_number();
+    int32_t code = is_one
+        ? is_numbered ? CALL(wanted, felter_one_to_one_new_in_numbered(number, in.at, in.length, capacity, to, by))
+                      : CALL(wanted, felter_one_to_one_new_in(in.at, in.length, capacity, to, by))
+        : is_numbered ? CALL(wanted, felter_many_to_one_new_in_numbered(number, in.at, in.length, capacity, to, by))
+                      : CALL(wanted, felter_many_to_one_new_in(in.at, in.length, capacity, to, by));
+    check_memory(&in, code);
+    return code;
+}
+
 static void make(struct ring *ring) {
-    bool is_one = once_in(3), is_at = once_in(2);
+    bool is_one = once_in(3), is_in = once_in(3), is_at = !is_in && once_in(2);
     uint32_t capacity = (uint32_t)ONE_OF(128, 128, 256, 1024, 8192, 16384, 0, 64, 100);
     uint64_t start = is_at ? some_start(capacity) : 0;
     int32_t wanted = model_capacity(capacity, 128, start);
     felter_producer *producer = &ring->producers[0];
-    int32_t code = make_by(ring, wanted, is_one, is_at, capacity, start);
+    int32_t code = is_in ? make_in(ring, wanted, is_one, capacity)
+                         : make_by(ring, wanted, is_one, is_at, capacity, start);
     CHECK((code == FELTER_OK) == (producer->handle.at != NULL));
     CHECK((code == FELTER_OK) == (ring->consumer.handle.at != NULL));
     if (code) return;
@@ -278,7 +300,7 @@ static void misuse(struct ring *ring) {
     CALL(FELTER_NO_HANDLE, felter_peek(&nobody, &type_id, &len, NULL, 0));
     CALL(FELTER_NO_HANDLE, felter_take(&nobody));
     CALL(FELTER_NO_HANDLE, felter_write_batch(&none, NULL, 0, &(uint32_t){0}));
-    CHECK(felter_version() == FELTER_VERSION_NUMBER && strlen(felter_text((int32_t)pick(112))) > 0);
+    CHECK(felter_version() == FELTER_VERSION_NUMBER && strlen(felter_text((int32_t)pick(113))) > 0);
     felter_free(&none.handle);
     if (ring->has_consumer) {
         CALL(FELTER_WRONG_HANDLE, felter_write((felter_producer *)&ring->consumer, 1, NULL, 0));

@@ -6,6 +6,7 @@
  *     meetings SECONDS SEED     rounds until the time is over; prints how much that was */
 #include "meetings.h"
 
+#include <sys/mman.h>
 #include <sys/resource.h>
 #include <time.h>
 
@@ -180,6 +181,19 @@ static struct made {
 } made[MADE];
 static atomic_uint makers_left;
 
+#define MEMORY 4096
+
+/* Makes a ring, a broadcast buffer and counters in mapped memory, which the library unmaps. */
+static void make_in(struct made *it, bool is_one) {
+    uint8_t *memory = mmap(NULL, 3 * MEMORY, PROT_READ | PROT_WRITE, MAP_SHARED | MAP_ANONYMOUS, -1, 0);
+    CHECK(memory != MAP_FAILED);
+    CHECK((is_one ? felter_one_to_one_new_in(memory, MEMORY, 128, &it->producer, &it->consumer)
+                  : felter_many_to_one_new_in(memory, MEMORY, 128, &it->producer, &it->consumer)) == FELTER_OK);
+    CHECK(felter_board_new_in(memory + MEMORY, MEMORY, 256, &it->transmitter) == FELTER_OK);
+    CHECK(felter_counters_new_in(memory + 2 * MEMORY, MEMORY, 1, 0, &it->counters) == FELTER_OK);
+    for (int k = 0; k < 3; k++) CHECK(felter_unmap_at_end(memory + k * MEMORY, MEMORY) == FELTER_OK);
+}
+
 static void *make(void *with) {
     struct made *mine = with;
     /* (they begin together) */
@@ -188,10 +202,14 @@ static void *make(void *with) {
     for (int k = 0; k < EACH; k++) {
         struct made *it = &mine[k];
         memset(it, 0, sizeof *it);
-        CHECK((k % 2 ? felter_one_to_one_new(128, &it->producer, &it->consumer)
-                     : felter_many_to_one_new(128, &it->producer, &it->consumer)) == FELTER_OK);
-        CHECK(felter_board_new(256, &it->transmitter) == FELTER_OK);
-        CHECK(felter_counters_new(1, 0, &it->counters) == FELTER_OK);
+        if (k < 2) {
+            make_in(it, k == 0);
+        } else {
+            CHECK((k % 2 ? felter_one_to_one_new(128, &it->producer, &it->consumer)
+                         : felter_many_to_one_new(128, &it->producer, &it->consumer)) == FELTER_OK);
+            CHECK(felter_board_new(256, &it->transmitter) == FELTER_OK);
+            CHECK(felter_counters_new(1, 0, &it->counters) == FELTER_OK);
+        }
         CHECK(felter_adder_new(&it->adder) == FELTER_OK);
         CHECK(felter_conductor_new(128, 256, 1, 0, &it->conductor) == FELTER_OK);
         CHECK(felter_subscribe(&it->transmitter, &it->receiver) == FELTER_OK);

@@ -349,6 +349,13 @@ static void end_ring(void) {
     CHECK(atomic_load(&ring.drawn) == atomic_load(&ring.greatest));
 }
 
+/* Makes the ring in memory that the ring before it had, if it was there. */
+static int32_t open_in(felter_producer *by, felter_consumer *to) {
+    static uint8_t memory[128 + 2 * (128 << 7) + 768] __attribute__((aligned(64)));
+    return ring.is_one ? felter_one_to_one_new_in(memory, sizeof memory, ring.capacity, by, to)
+                       : felter_many_to_one_new_in(memory, sizeof memory, ring.capacity, by, to);
+}
+
 static void open_ring(uint64_t *dice) {
     uint64_t starts[] = {0, 0, 5, 77}, start = starts[pick(dice, 4)];
     felter_producer *by = &ring.asks;
@@ -360,8 +367,9 @@ static void open_ring(uint64_t *dice) {
     ring.senders = ring.is_one ? 1 : 1 + (uint32_t)pick(dice, SENDERS);
     ring.busy = ring.senders;
     ring.head = ring.tail = reading.passed = start *= ring.capacity;
-    if (ring.is_one) code = start ? felter_one_to_one_new_at(ring.capacity, start, by, to)
-                                  : felter_one_to_one_new(ring.capacity, by, to);
+    if (!start && once_in(dice, 2)) code = open_in(by, to);
+    else if (ring.is_one) code = start ? felter_one_to_one_new_at(ring.capacity, start, by, to)
+                                       : felter_one_to_one_new(ring.capacity, by, to);
     else code = start ? felter_many_to_one_new_at(ring.capacity, start, by, to)
                       : felter_many_to_one_new(ring.capacity, by, to);
     CHECK(code == FELTER_OK);

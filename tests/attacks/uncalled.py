@@ -15,13 +15,16 @@ RANDOM, THREADS = ("calls",), ("threads", "lanes", "meetings")
 
 # The calls that cannot meet another one on another thread, by the reason.
 ALONE = {
-    "what it writes never changes": "felter_text felter_version felter_capacity",
+    "what it writes never changes": """
+        felter_text felter_version felter_capacity felter_ring_memory felter_board_memory felter_counters_memory""",
     "only calls of the same handle change what it writes": "felter_shares felter_adder_shares",
     # (the forms without a number meet others, since all draw from one count)
     "what it makes is in no other handle yet, and the caller gives the number": """
         felter_many_to_one_new_numbered felter_many_to_one_new_at_numbered felter_one_to_one_new_numbered
         felter_one_to_one_new_at_numbered felter_board_new_numbered felter_board_new_at_numbered
-        felter_counters_new_numbered felter_adder_new_numbered felter_conductor_new_numbered""",
+        felter_counters_new_numbered felter_adder_new_numbered felter_conductor_new_numbered
+        felter_many_to_one_new_in_numbered felter_one_to_one_new_in_numbered felter_board_new_in_numbered
+        felter_counters_new_in_numbered""",
     "other threads only load values of counters, and this is in the records, which the owner's thread alone uses": """
         felter_counters_count felter_counters_available felter_counter_find felter_counter_type_id
         felter_counter_registration

@@ -39,9 +39,16 @@ impl Transmitter {
     ///
     /// Errors: [`Error::BadCapacity`], [`Error::BadStart`], [`Error::OutOfMemory`].
     pub fn new_at(capacity: u32, start: u64) -> Result<Transmitter, Error> {
+        // SAFETY: nothing else has the number, and the handle is empty.
+        Transmitter::made_by(|number, handle| unsafe {
+            raw::felter_board_new_at_numbered(number, capacity, start, handle)
+        })
+    }
+
+    /// Makes a board by a call that takes a new number and an empty handle.
+    pub(crate) fn made_by(call: impl FnOnce(u64, *mut Raw) -> i32) -> Result<Transmitter, Error> {
         let (board, mut handle) = (Number::next(), Handle::empty());
-        // SAFETY: nothing else has this number, and the handle is empty.
-        done(unsafe { raw::felter_board_new_at_numbered(board.raw(), capacity, start, handle.raw()) })?;
+        done(call(board.raw(), handle.raw()))?;
         let sizes = handle.sizes()?;
         Ok(Transmitter { handle, board, end: End::writer(), sizes })
     }

@@ -1,7 +1,7 @@
 //! Counters.
 use crate::error::{Error, Refused};
 use crate::handle::{done, Handle, Number};
-use crate::raw;
+use crate::raw::{self, Raw};
 
 /// The length of the longest label, in bytes.
 pub(crate) const MAX_LABEL: usize = 380;
@@ -30,9 +30,16 @@ impl Counters {
     ///
     /// Errors: [`Error::BadCount`], [`Error::OutOfMemory`].
     pub fn new(count: u32, reuse_ms: u32) -> Result<Counters, Error> {
+        // SAFETY: nothing else has the number, and the handle is empty.
+        Counters::made_by(|number, handle| unsafe {
+            raw::felter_counters_new_numbered(number, count, reuse_ms, handle)
+        })
+    }
+
+    /// Makes counters by a call that takes a new number and an empty handle.
+    pub(crate) fn made_by(call: impl FnOnce(u64, *mut Raw) -> i32) -> Result<Counters, Error> {
         let (number, mut handle) = (Number::next(), Handle::empty());
-        // SAFETY: nothing else has this number, and the handle is empty.
-        done(unsafe { raw::felter_counters_new_numbered(number.raw(), count, reuse_ms, handle.raw()) })?;
+        done(call(number.raw(), handle.raw()))?;
         Ok(Counters { handle, number })
     }
 

@@ -109,8 +109,10 @@ errors! {
     /// Another handle belongs to the structure that was to be closed: a reader of the conductor was neither taken back
     /// nor dropped.
     InUse = 110,
-    /// A pointer is NULL. This crate never returns this error.
+    /// A pointer is NULL. Only the calls that take memory of the caller return this error.
     NullPointer = 111,
+    /// The memory is too short, does not begin at a multiple of 64 bytes, or is in use.
+    BadMemory = 112,
 }
 
 impl Error {

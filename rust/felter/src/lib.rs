@@ -58,6 +58,7 @@ mod doorbell;
 mod ends;
 mod error;
 mod handle;
+mod in_file;
 mod message;
 mod owned;
 mod raw;
@@ -78,6 +79,9 @@ pub use counters::{Counters, Reader, MAX_KEY};
 pub use doorbell::Doorbell;
 pub use error::{BatchRefused, Error, Refused};
 pub use handle::Sizes;
+pub use in_file::{
+    many_to_one_in_file, many_to_one_in_memory, one_to_one_in_file, one_to_one_in_memory, ring_memory, InFileError,
+};
 pub use message::{Batch, Message};
 pub use owned::{OwnedMessage, ReceiverIter, ReceiverTryIter};
 pub use request::{Command, RequestError};

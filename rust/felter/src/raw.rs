@@ -52,6 +52,7 @@ pub(crate) fn text(code: i32) -> &'static str {
         109 => "the message is the reply to another command, or no reply",
         110 => "another handle holds what was to be closed",
         111 => "a pointer is NULL",
+        112 => "the memory is too short, does not begin at a multiple of 64, or is in use",
         _ => "unknown code",
     }
 }
@@ -282,4 +283,39 @@ extern "C" {
         number: *mut i64,
         lapped: *mut u64,
     ) -> i32;
+    pub(crate) fn felter_ring_memory(capacity: u32, length: *mut usize) -> i32;
+    pub(crate) fn felter_board_memory(capacity: u32, length: *mut usize) -> i32;
+    pub(crate) fn felter_counters_memory(count: u32, length: *mut usize) -> i32;
+    pub(crate) fn felter_many_to_one_new_in_numbered(
+        number: u64,
+        memory: *mut u8,
+        length: usize,
+        capacity: u32,
+        producer: *mut Raw,
+        consumer: *mut Raw,
+    ) -> i32;
+    pub(crate) fn felter_one_to_one_new_in_numbered(
+        number: u64,
+        memory: *mut u8,
+        length: usize,
+        capacity: u32,
+        producer: *mut Raw,
+        consumer: *mut Raw,
+    ) -> i32;
+    pub(crate) fn felter_board_new_in_numbered(
+        number: u64,
+        memory: *mut u8,
+        length: usize,
+        capacity: u32,
+        transmitter: *mut Raw,
+    ) -> i32;
+    pub(crate) fn felter_counters_new_in_numbered(
+        number: u64,
+        memory: *mut u8,
+        length: usize,
+        count: u32,
+        reuse_ms: u32,
+        counters: *mut Raw,
+    ) -> i32;
+    pub(crate) fn felter_unmap_at_end(memory: *mut u8, length: usize) -> i32;
 }

@@ -19,7 +19,10 @@ pub fn many_to_one(capacity: u32) -> Result<(Producer, Consumer), Error> {
 ///
 /// Errors: [`Error::BadCapacity`], [`Error::BadStart`], [`Error::OutOfMemory`].
 pub fn many_to_one_at(capacity: u32, start: u64) -> Result<(Producer, Consumer), Error> {
-    made_by(raw::felter_many_to_one_new_at_numbered, capacity, start)
+    // SAFETY: nothing else has the number, and both handles are empty.
+    made_by(|number, producer, consumer| unsafe {
+        raw::felter_many_to_one_new_at_numbered(number, capacity, start, producer, consumer)
+    })
 }
 
 /// Makes a one-to-one ring. The producer of this ring cannot be [split](Producer::split).
@@ -33,18 +36,16 @@ pub fn one_to_one(capacity: u32) -> Result<(Producer, Consumer), Error> {
 ///
 /// Errors: [`Error::BadCapacity`], [`Error::BadStart`], [`Error::OutOfMemory`].
 pub fn one_to_one_at(capacity: u32, start: u64) -> Result<(Producer, Consumer), Error> {
-    made_by(raw::felter_one_to_one_new_at_numbered, capacity, start)
+    // SAFETY: nothing else has the number, and both handles are empty.
+    made_by(|number, producer, consumer| unsafe {
+        raw::felter_one_to_one_new_at_numbered(number, capacity, start, producer, consumer)
+    })
 }
 
-/// Makes a ring of one kind. `call` is the call of the library for this kind.
-fn made_by(
-    call: unsafe extern "C" fn(u64, u32, u64, *mut Raw, *mut Raw) -> i32,
-    capacity: u32,
-    start: u64,
-) -> Result<(Producer, Consumer), Error> {
+/// Makes a ring by a call that takes a new number and two empty handles.
+pub(crate) fn made_by(call: impl FnOnce(u64, *mut Raw, *mut Raw) -> i32) -> Result<(Producer, Consumer), Error> {
     let (ring, mut producer, mut consumer) = (Number::next(), Handle::empty(), Handle::empty());
-    // SAFETY: nothing else has this number, and both handles are empty.
-    done(unsafe { call(ring.raw(), capacity, start, producer.raw(), consumer.raw()) })?;
+    done(call(ring.raw(), producer.raw(), consumer.raw()))?;
     let (writes, reads) = End::pair();
     let sizes = producer.sizes()?;
     let producer = Producer { handle: producer, ring, end: writes, sizes };
