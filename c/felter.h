@@ -625,15 +625,15 @@ int32_t felter_poll(felter_client *client, uint64_t correlation, int32_t *kind, 
 
 /* The calls of this part make a ring, a board or counters in memory that the caller passes, for example in a file that
  * the caller has mapped. Then the words and the bodies of a ring, the words of a board, or the value records and the
- * metadata of counters lie in this memory. Everything else is requested from malloc. After a process has died, the file
+ * metadata of counters are in this memory. Everything else is requested from malloc. After a process has died, the file
  * has what the process had stored. Another process can map the file and look at it, but must not write to it. No second
  * process can make handles of the structure.
  *
  * The functions of this part are not proved. docs/FORMATS.md describes the memory. It begins with a header of 128 bytes,
  * whose first 8 bytes are "FELTERIM" as soon as the structure was made.
  *
- * These are the rules for callers, besides those at the head of this file:
- *   7. The memory stays where it is, and can be read and written, until each handle of the structure was freed.
+ * These are more rules for callers, after those at the head of this file:
+ *   7. The memory stays at its address, and can be read and written, until each handle of the structure was freed.
  *      felter_close, felter_finish, felter_board_close and the joins free handles too.
  *   8. Only the calls of the structure write to the memory. If the memory is a file, no other process writes to the
  *      file or makes it shorter.
@@ -680,8 +680,8 @@ static inline int32_t felter_counters_new_in(void *memory, size_t length, uint32
                                              felter_counters *counters);
 
 /* Lets the library unmap memory that the caller has mapped, since the library knows when the last handle was freed. The
- * library then calls munmap(memory, length). A structure must lie at the beginning of the memory. Codes:
- * FELTER_BAD_MEMORY if no structure with a handle lies there, or the length is 0. */
+ * library then calls munmap(memory, length). A structure must be at the beginning of the memory. Codes:
+ * FELTER_BAD_MEMORY if no structure with a handle is there, or the length is 0. */
 int32_t felter_unmap_at_end(void *memory, size_t length);
 
 #include "felter_inline.h"

@@ -4,8 +4,8 @@
  * and free. c/build renames these three calls to the functions rattle_placed_* below. So each request of the archive
  * comes to this file. Nearly all requests go on to malloc. While a call whose name ends in _new_in_numbered makes a
  * structure, two requests of its thread are given blocks in the caller's memory: the words and the bodies of a ring, the
- * words of a board, or the value records and the metadata of counters. The archive does not see a difference, since its
- * contracts say nothing of where a block lies.
+ * words of a board, or the value records and the metadata of counters. The archive does not see a difference, since no
+ * contract says at which address a block is.
  *
  * This file is compiled into an object of its own, beside the proved archive. It is tested and not proved. */
 #ifndef _DEFAULT_SOURCE
@@ -30,7 +30,7 @@
 
 #define HIDDEN __attribute__((visibility("hidden")))
 
-/* Blocks that lie in memory of callers ----------------------------------------------------------------------------- */
+/* Blocks that are in memory of callers ----------------------------------------------------------------------------- */
 
 /* The memory of one structure. */
 struct region {
@@ -39,7 +39,7 @@ struct region {
     size_t to_unmap;   /* how many bytes are unmapped after the last block was freed, or 0 */
 };
 
-/* A block that lies in such memory. */
+/* A block that is in such memory. */
 struct place {
     unsigned char *at;
     size_t size;
@@ -81,7 +81,7 @@ static void put_in(struct place *place) {
     pthread_mutex_unlock(&lock);
 }
 
-/* Returns the size of a block in memory of a caller, or 0 if the block does not lie there. */
+/* Returns the size of a block in memory of a caller, or 0 if the block is not there. */
 static size_t placed_size(const void *at) {
     size_t size = 0;
     if (!may_be_placed(at)) return 0;
@@ -92,7 +92,7 @@ static size_t placed_size(const void *at) {
     return size;
 }
 
-/* Forgets a block in memory of a caller. Returns 0 if the block does not lie there. */
+/* Forgets a block in memory of a caller. Returns 0 if the block is not there. */
 static int take_out(const void *at) {
     struct place *place = NULL;
     int is_last = 0;
@@ -263,7 +263,7 @@ static void forget(struct plan *plan) {
     for (int k = 0; k < BLOCKS; k++) free(plan->blocks[k].place);
 }
 
-/* Plans where the blocks of an image go. Returns 0 if there is no memory for that. */
+/* Plans at which places the blocks of an image are. Returns 0 if there is no memory for that. */
 static int plan_blocks(struct plan *plan, enum kind kind, const uint64_t *header, struct region *region) {
     const uint64_t at[BLOCKS] = {header[WORDS_AT], header[BODIES_AT]};
     const uint64_t words[BLOCKS] = {header[WORDS], header[BODIES]};

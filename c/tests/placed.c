@@ -41,7 +41,7 @@ void __wrap_free(void *at) {
     __real_free(at);
 }
 
-/* Memory with a guard before it and behind it. Its bytes are no zeros before it is used. */
+/* Memory with a guard before it and after it. Its bytes are no zeros before it is used. */
 #define GUARD 256
 #define FILLED 0xa7
 
@@ -360,16 +360,18 @@ static void threads(void) {
     __real_free(memories);
 }
 
-int main(void) {
+/* An argument is the greatest capacity, since some runs are slow. */
+int main(int argc, char **words) {
+    uint32_t most = argc > 1 ? (uint32_t)atoi(words[1]) : 1 << 24;
     int made = 0;
     long before = live;
-    for (uint32_t capacity = 128; capacity <= 1 << 24; capacity *= 2, made += 2) {
+    for (uint32_t capacity = 128; capacity <= most; capacity *= 2, made += 2) {
         ring(0, capacity);
         ring(1, capacity);
     }
-    for (uint32_t capacity = 256; capacity <= 1 << 24; capacity *= 2, made++) board(capacity);
-    for (uint32_t count = 1; count <= 200; count++, made++) counters(count);
-    for (uint32_t count = 256; count <= 4096; count *= 2, made++) counters(count);
+    for (uint32_t capacity = 256; capacity <= most; capacity *= 2, made++) board(capacity);
+    for (uint32_t count = 1; count <= 200 && count <= most / 64; count++, made++) counters(count);
+    for (uint32_t count = 256; count <= 4096 && count <= most / 64; count *= 2, made++) counters(count);
     counters(4095);
     refusals();
     CHECK(live == before);

@@ -2,7 +2,10 @@
  * subscribe, and those that make clients, readers and adders. Each other call of felter.h is made once or more, with
  * success and with an error, and the requests in it are counted.
  * Link with -Wl,--wrap=malloc,--wrap=calloc,--wrap=realloc,--wrap=aligned_alloc,--wrap=posix_memalign,--wrap=free. */
+#define _DEFAULT_SOURCE 1
 #include "check.h"
+
+#include <sys/mman.h>
 
 void *__real_malloc(size_t size);
 void *__real_calloc(size_t count, size_t size);
@@ -291,6 +294,37 @@ static void conductors(void) {
     NONE(FELTER_OK, felter_conductor_finish(&conductor, &took, &left));
 }
 
+/* Structures in memory of the caller. Their other calls request no memory either. */
+static void in_memory(void) {
+    felter_producer producer = FELTER_EMPTY, single = FELTER_EMPTY;
+    felter_consumer consumer = FELTER_EMPTY, of_single = FELTER_EMPTY;
+    felter_transmitter transmitter = FELTER_EMPTY;
+    felter_counters all = FELTER_EMPTY;
+    size_t page = 4096;
+    unsigned char *memory = mmap(NULL, 4 * page, PROT_READ | PROT_WRITE, MAP_PRIVATE | MAP_ANONYMOUS, -1, 0);
+    CHECK(memory != MAP_FAILED);
+    NONE(FELTER_OK, felter_ring_memory(128, &len));
+    NONE(FELTER_OK, felter_board_memory(256, &len));
+    NONE(FELTER_OK, felter_counters_memory(4, &len));
+    NONE(FELTER_BAD_COUNT, felter_counters_memory(0, &len));
+    NONE(FELTER_BAD_MEMORY, felter_many_to_one_new_in(memory, 100, 128, &producer, &consumer));
+    SOME(felter_many_to_one_new_in(memory, page, 128, &producer, &consumer));
+    SOME(felter_one_to_one_new_in(memory + page, page, 128, &single, &of_single));
+    SOME(felter_board_new_in(memory + 2 * page, page, 256, &transmitter));
+    SOME(felter_counters_new_in(memory + 3 * page, page, 4, 0, &all));
+    for (int k = 0; k < 4; k++) NONE(FELTER_OK, felter_unmap_at_end(memory + k * page, page));
+    NONE(FELTER_BAD_MEMORY, felter_unmap_at_end(memory + 64, page));
+    write_and_read(&producer, &consumer);
+    write_and_read(&single, &of_single);
+    NONE(FELTER_OK, felter_transmit(&transmitter, 4, BYTES("seen")));
+    NONE(FELTER_OK, felter_close(&consumer, &producer));
+    NONE(FELTER_OK, felter_finish(&consumer, &left));
+    felter_free(&single.handle);
+    felter_free(&of_single.handle);
+    NONE(FELTER_OK, felter_board_close(&transmitter, &tail));
+    felter_free(&all.handle);
+}
+
 int main(void) {
     setvbuf(stdout, NULL, _IONBF, 0);
     rings();
@@ -298,6 +332,7 @@ int main(void) {
     counters();
     shared_counters();
     conductors();
+    in_memory();
     printf("requests: %d calls requested no memory\n", calls);
     return 0;
 }

@@ -7,7 +7,6 @@ import typing
 
 from felter._library import call
 from felter._owner import Owner
-from felter.errors import Error
 
 Path = typing.Union[str, bytes, "os.PathLike[str]", "os.PathLike[bytes]"]
 
@@ -46,12 +45,14 @@ def make(path: Path, sizes: str, name: str, handles: typing.Sequence[Owner], *pa
     try:
         call(name, handles[0]._number, address, length, *parameters, *handles)
         call("felter_unmap_at_end", address, length)
-    except BaseException as why:
-        for it in handles:
-            it._free()
-        # (after an interrupt it is not known whether the library unmaps the file)
-        if isinstance(why, Error):
+    except BaseException:
+        # (an interrupt may come after each of the calls)
+        if handles[0]._is_empty():
             _system.munmap(address, length)
+        else:
+            call("felter_unmap_at_end", address, length)
+            for it in handles:
+                it._free()
         with contextlib.suppress(OSError):
             os.unlink(path)
         raise

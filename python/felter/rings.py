@@ -298,7 +298,7 @@ def one_to_one(capacity: int, start: int = 0) -> typing.Tuple[Producer, Consumer
 
 def many_to_one_in_file(path: Path, capacity: int) -> typing.Tuple[Producer, Consumer]:
     """Makes a new file, and a ring for any number of producers in it. Positions begin at 0. The words and the bodies of
-    the ring lie in the file, so the messages survive the death of the process. Another process can map the file and
+    the ring are in the file, so the messages survive the death of the process. Another process can map the file and
     look at it, but must not write to it. The file is unmapped after the last handle of the ring was freed. The file
     itself stays. The call raises an OSError if the file exists, or cannot be made."""
     return _ring_in_file("felter_many_to_one_new_in_numbered", path, capacity)

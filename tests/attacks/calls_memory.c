@@ -6,7 +6,7 @@
 
 #define PAGES ((size_t)1 << 16)
 
-/* The end of memory with this number. The page behind it may not be touched. */
+/* The end of memory with this number. The page after it may not be touched. */
 static uint8_t *end_of(int which) {
     static uint8_t *ends[MEMORIES];
     if (!ends[which]) {

@@ -1,4 +1,4 @@
-//! Rings, boards and counters whose words and bodies lie in a file, or in other memory that outlives them.
+//! Rings, boards and counters whose words and bodies are in a file, or in other memory that outlives them.
 use crate::board::Transmitter;
 use crate::counters::Counters;
 use crate::error::Error;
@@ -93,10 +93,10 @@ impl Mapped<'_> {
 impl Drop for Mapped<'_> {
     fn drop(&mut self) {
         if !self.memory.is_null() {
-            // SAFETY: no structure lies in the memory.
+            // SAFETY: no structure is in the memory.
             unsafe { munmap(self.memory.cast(), self.length) };
         }
-        // (there is nobody to tell)
+        // (a drop cannot return an error)
         let _ = fs::remove_file(self.path);
     }
 }
@@ -130,7 +130,7 @@ pub fn ring_memory(capacity: u32) -> Result<usize, Error> {
     length_by(raw::felter_ring_memory, capacity)
 }
 
-/// Makes a new file, and a many-to-one ring in it. Positions begin at 0. The words and the bodies of the ring lie in the
+/// Makes a new file, and a many-to-one ring in it. Positions begin at 0. The words and the bodies of the ring are in the
 /// file, so the messages survive the death of the process. Another process can map the file and look at it, but must not
 /// write to it. The file is unmapped after the last handle of the ring was dropped. The file itself stays.
 ///
@@ -166,9 +166,9 @@ pub fn one_to_one_in_file(path: impl AsRef<Path>, capacity: u32) -> Result<(Prod
 ///
 /// # Safety
 ///
-/// - The `length` bytes at `memory` can be read and written, and stay where they are, until each handle of the ring was
+/// - The `length` bytes at `memory` can be read and written, and stay at their address, until each handle of the ring was
 ///   dropped.
-/// - Until then nobody else writes to these bytes, and no other structure is made in them.
+/// - Until then no other code writes to these bytes, and no other structure is made in them.
 pub unsafe fn many_to_one_in_memory(
     memory: *mut u8,
     length: usize,
@@ -233,7 +233,7 @@ impl Counters {
     }
 
     /// Makes a new file, and counters in it, as [`many_to_one_in_file`] does for a ring. The value records and the
-    /// metadata lie in the file.
+    /// metadata are in the file.
     ///
     /// ```
     /// let path = std::env::temp_dir().join(format!("felter-counters-{}", std::process::id()));
