@@ -638,8 +638,7 @@ int32_t felter_poll(felter_client *client, uint64_t correlation, int32_t *kind, 
  *   8. Only the calls of the structure write to the memory. If the memory is a file, no other process writes to the
  *      file or makes it shorter.
  *
- * If a ring is freed, the messages that are left stay in the memory. After felter_close the memory does not change. It
- * still has each message that was left at that moment, even if felter_read returns the message later.
+ * If a ring is freed, or ended by felter_finish, the messages that are left stay in the memory.
  *
  * A mapped file survives the death of the process, but not a crash of the machine. Call msync to write the file to the
  * disk.

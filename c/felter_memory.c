@@ -197,7 +197,7 @@ struct wanted {
 
 /* The turns of the requests that get blocks. They are the same for every capacity. c/tests/placed.c tests them. */
 static const int TURNS[][BLOCKS] = {
-    [ONE_TO_ONE] = {4, 5}, [MANY_TO_ONE] = {4, 5}, [BOARD] = {2, -1}, [COUNTERS] = {4, 3},
+    [ONE_TO_ONE] = {4, 5}, [MANY_TO_ONE] = {4, 5}, [BOARD] = {1, -1}, [COUNTERS] = {1, 0},
 };
 
 static size_t aligned(size_t bytes) {

@@ -96,7 +96,7 @@ class InFile(unittest.TestCase):
             consumer.free()
             self.assertFalse(is_mapped(self.path))
             # the claim was aborted, and the file stays
-            self.assertEqual(word(self.path, 144), header(12, -2))
+            self.assertEqual(word(self.path, 144), header(12, -1))
             os.unlink(self.path)
 
     def test_handles_that_nothing_refers_to(self) -> None:
@@ -105,14 +105,17 @@ class InFile(unittest.TestCase):
         del ring
         self.assertFalse(is_mapped(self.path))
 
-    def test_closed_ring(self) -> None:
+    def test_ring_that_ends(self) -> None:
         producer, consumer = felter.one_to_one_in_file(self.path, 512)
-        producer.write(3, b"left")
+        producer.write(3, b"read")
+        producer.write(4, b"left")
         consumer.close(producer)
-        self.assertFalse(is_mapped(self.path))
         message = consumer.read()
         assert message is not None
-        self.assertEqual((message.body, consumer.finish()), (b"left", 0))
+        self.assertEqual(message.body, b"read")
+        self.assertTrue(is_mapped(self.path))
+        self.assertEqual(consumer.finish(), 1)
+        self.assertFalse(is_mapped(self.path))
         self.assertEqual(messages(self.path), [b"left"])
 
     def test_board_and_counters(self) -> None:

@@ -13,6 +13,7 @@ static uint64_t word_at(const unsigned char *image, uint64_t at) {
 #define TRAILER 768
 #define TAIL 128
 #define HEAD 384
+#define ABORTED (-1)
 #define PADDING (-2)
 
 /* The image as its header describes it. */
@@ -45,9 +46,9 @@ static uint64_t list_record(const struct view *view, uint64_t position, struct l
     }
     if (size < 8 || index + span > view->capacity || position + span > view->tail) return 0;
     if (length < 0) listing->open++;
-    else if (type_id == PADDING) listing->settled++;
+    else if (type_id == ABORTED || type_id == PADDING) listing->settled++;
     else if (type_id < 1 || size - 8 > view->capacity / 8 || listing->count == MAX_MESSAGES) return 0;
-    if (length < 0 || type_id == PADDING) return span;
+    if (length < 0 || type_id < 0) return span;
     struct found *it = &listing->of[listing->count++];
     it->header = view->words + index;
     it->body = view->bodies + index + 8;
@@ -165,9 +166,9 @@ bool plant(enum fault fault, unsigned char *image, const struct listing *listing
     }
     if (!other) return false;
     if (fault == DROPPED) {
-        const int32_t padding = PADDING;
+        const int32_t aborted = ABORTED;
         if (!is_owed(book, other->who, other->number)) return false;
-        memcpy(image + other->header + 4, &padding, 4);
+        memcpy(image + other->header + 4, &aborted, 4);
         return true;
     }
     /* (a message goes to the place of another one of the same span) */

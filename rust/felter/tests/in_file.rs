@@ -56,20 +56,22 @@ fn a_ring_lies_in_its_file() {
     drop(consumer);
     assert!(!scratch.is_mapped());
     // the claim was aborted, and the file stays
-    assert_eq!(scratch.word(144) >> 32, u64::from((-2_i32).cast_unsigned()));
+    assert_eq!(scratch.word(144) >> 32, u64::from((-1_i32).cast_unsigned()));
 }
 
 #[test]
-fn a_closed_ring_leaves_its_file() {
+fn a_ring_that_ends_leaves_its_file() {
     let scratch = Scratch::new("closed");
     let (mut producer, mut consumer) = felter::one_to_one_in_file(scratch.path(), 512).expect("there is no such file");
-    producer.write(3, b"left").expect("there is room");
+    producer.write(3, b"read").expect("there is room");
+    producer.write(4, b"left").expect("there is room");
     consumer.close(producer).expect("it was the last one");
+    assert_eq!(consumer.read_owned().expect("it is whole").map(|it| it.body), Some(b"read".to_vec()));
+    assert!(scratch.is_mapped());
+    assert_eq!(consumer.finish().expect("it is closed"), 1);
     assert!(!scratch.is_mapped());
-    assert_eq!(consumer.read_owned().expect("it is whole").map(|it| it.body), Some(b"left".to_vec()));
-    assert_eq!(consumer.finish().expect("it is closed"), 0);
-    // the file is as it was when the ring was closed
-    assert_eq!((scratch.word(16), scratch.word(128)), (1, 3 << 32 | 12));
+    // the message that was left is still in the file
+    assert_eq!((scratch.word(16), scratch.word(128), scratch.word(144)), (1, 0, 4 << 32 | 12));
 }
 
 #[test]
