@@ -38,6 +38,16 @@ static void *shared(size_t size, int flags, int of) {
     return at;
 }
 
+/* Waits until a message was acknowledged, and then for a random time. */
+static void wait_for_messages(pid_t child) {
+    for (bool is_there = false; !is_there;) {
+        usleep(20);
+        for (unsigned k = 0; k < PRODUCERS; k++) is_there |= book->of[k].acknowledged > 0;
+        if (!is_there && waitpid(child, NULL, WNOHANG)) fail("the process ended by itself");
+    }
+    usleep((useconds_t)pick(&state, MOST_MICROSECONDS));
+}
+
 /* Starts a process with a ring, and kills it. Nothing is shared with it but the file and the book. */
 static void run_and_kill(uint64_t seed, uint32_t capacity, bool is_one) {
     int status;
@@ -48,7 +58,8 @@ static void run_and_kill(uint64_t seed, uint32_t capacity, bool is_one) {
         run_storm(memory, length, capacity, is_one, book, seed);
     }
     /* (some are killed while they make the ring) */
-    usleep((useconds_t)pick(&state, pick(&state, 8) ? MOST_MICROSECONDS : 300));
+    if (pick(&state, 8) == 0) usleep((useconds_t)pick(&state, 500));
+    else wait_for_messages(child);
     if (kill(child, SIGKILL) || waitpid(child, &status, 0) != child) fail("kill");
     if (!WIFSIGNALED(status) || WTERMSIG(status) != SIGKILL) {
         fprintf(stderr, "kills: the process ended by itself, with status %d\n", status);

@@ -111,16 +111,20 @@ static void read_batch(unsigned char *buffer, size_t room) {
     book->running = 0;
 }
 
-static void read_one(unsigned char *buffer, size_t room, bool peeks) {
+/* Looks at a message, and then takes it. */
+static void look_and_take(unsigned char *buffer, size_t room, bool waits) {
     int32_t type_id = 0;
     size_t len = 0;
-    if (peeks) {
-        if (!is_ok(felter_peek(&consumer, &type_id, &len, buffer, room))) return;
-        note(type_id, buffer, len, true);
-        if (!is_ok(felter_take(&consumer))) _exit(26);
-        book->peeked = 0;
-        return;
-    }
+    if (!is_ok(felter_peek(&consumer, &type_id, &len, buffer, room))) return;
+    note(type_id, buffer, len, true);
+    if (waits) usleep(20);
+    if (!is_ok(felter_take(&consumer))) _exit(26);
+    book->peeked = 0;
+}
+
+static void read_one(unsigned char *buffer, size_t room) {
+    int32_t type_id = 0;
+    size_t len = 0;
     book->running = 1;
     if (is_ok(felter_read(&consumer, &type_id, &len, buffer, room))) note(type_id, buffer, len, false);
     book->running = 0;
@@ -135,7 +139,8 @@ static void *read_all(void *of_thread) {
         uint64_t choice = pick(state, 64);
         if (choice == 0) usleep((useconds_t)pick(state, 200));
         else if (choice < 16) read_batch(buffer, room);
-        else read_one(buffer, room, choice < 32);
+        else if (choice < 32) look_and_take(buffer, room, choice == 16);
+        else read_one(buffer, room);
     }
     return NULL;
 }
