@@ -1,6 +1,7 @@
 """Structures in files."""
 
 import errno
+import gc
 import os
 import signal
 import struct
@@ -103,6 +104,8 @@ class InFile(unittest.TestCase):
         ring = felter.many_to_one_in_file(self.path, 1024)
         ring[0].claim(3, 3)
         del ring
+        # (with ctypes a claim that was dropped and its producer refer to each other)
+        gc.collect()
         self.assertFalse(is_mapped(self.path))
 
     def test_ring_that_ends(self) -> None:

@@ -8,7 +8,10 @@ import typing
 from felter._library import call
 from felter._owner import Owner
 
-Path = typing.Union[str, bytes, "os.PathLike[str]", "os.PathLike[bytes]"]
+if typing.TYPE_CHECKING:
+    Path = typing.Union[str, bytes, os.PathLike[str], os.PathLike[bytes]]
+else:
+    Path = typing.Union[str, bytes, os.PathLike]
 
 _PROT_READ_WRITE = 3
 _MAP_SHARED = 1

@@ -88,15 +88,15 @@ fn boards_and_counters_lie_in_their_files() {
     assert!(!scratch.is_mapped());
     let scratch = Scratch::new("counters");
     let mut counters = Counters::in_file(scratch.path(), 8, 0).expect("there is no such file");
-    let reader = counters.reader().expect("it has shares");
+    let mut reader = counters.reader().expect("it has shares");
     let id = counters.allocate(0, 3, b"key", b"label", 77).expect("one is free");
     counters.set(id, 1234).expect("it is in use");
     assert_eq!((scratch.word(16), scratch.word(128), scratch.word(136)), (4, 1234, 77));
     assert_eq!(&fs::read(scratch.path()).expect("it is there")[320 + 132..][..5], b"label");
     drop(counters);
-    assert!(scratch.is_mapped());
-    drop(reader);
+    // readers load from other memory
     assert!(!scratch.is_mapped());
+    assert_eq!(reader.value(id), Ok(1234));
 }
 
 #[test]
