@@ -53,6 +53,8 @@ static uint64_t list_record(const struct view *view, uint64_t position, struct l
     it->header = view->words + index;
     it->body = view->bodies + index + 8;
     it->len = (uint32_t)size - 8;
+    it->type_id = type_id;
+    it->place = position;
     it->is_whole = know_message(type_id, view->image + it->body, it->len, (uint32_t)view->capacity / 8, &it->who,
                                 &it->number);
     return span;
@@ -84,7 +86,8 @@ static bool is_owed(const struct book *book, unsigned who, uint64_t number) {
 }
 
 /* Judges the messages of one producer. */
-static void judge_producer(const struct book *book, const struct listing *listing, unsigned who, struct totals *totals) {
+static void judge_producer(const struct book *book, const struct listing *listing, unsigned who,
+                           struct totals *totals) {
     uint64_t shown = book->of[who].shown, sent = book->of[who].acknowledged, expected = shown + 1;
     bool is_first = true;
     for (uint64_t k = 0; k < listing->count; k++) {
@@ -142,11 +145,25 @@ bool judge(const struct book *book, const struct listing *listing, struct totals
 
 const char *const FAULT_NAMES[FAULTS] = {"none", "flipped", "dropped", "doubled", "swapped"};
 
-/* The next message of the same producer, or NULL. */
-static const struct found *next_of(const struct listing *listing, uint64_t k) {
-    for (uint64_t other = k + 1; other < listing->count; other++)
-        if (listing->of[other].who == listing->of[k].who) return &listing->of[other];
-    return NULL;
+/* Whether two messages are of one producer, and one can be at the place of the other. */
+static bool is_alike(const struct found *one, const struct found *other) {
+    return one->who == other->who && (one->len + 7) / 8 == (other->len + 7) / 8;
+}
+
+/* Finds two messages of one producer, the earlier one from a message on. The later one must have been acknowledged if
+ * it is to be dropped, and otherwise have the span of the earlier one. */
+static bool find_two(enum fault fault, const struct listing *listing, const struct book *book, uint64_t from,
+                     const struct found **one, const struct found **other) {
+    for (uint64_t k = from; k < listing->count; k++) {
+        *one = &listing->of[k];
+        for (uint64_t later = k + 1; later < listing->count; later++) {
+            *other = &listing->of[later];
+            if (fault != DROPPED && is_alike(*one, *other)) return true;
+            if (fault == DROPPED && (*other)->who == (*one)->who && is_owed(book, (*one)->who, (*other)->number))
+                return true;
+        }
+    }
+    return false;
 }
 
 static void copy_message(unsigned char *to_image, const struct found *to, const unsigned char *from_image,
@@ -158,21 +175,19 @@ static void copy_message(unsigned char *to_image, const struct found *to, const 
 bool plant(enum fault fault, unsigned char *image, const struct listing *listing, const struct book *book,
            uint64_t *state) {
     if (listing->count == 0) return false;
-    uint64_t k = pick(state, listing->count);
-    const struct found *it = &listing->of[k], *other = next_of(listing, k);
+    uint64_t from = pick(state, listing->count);
+    const struct found *it = &listing->of[from], *other = NULL;
     if (fault == FLIPPED) {
         image[it->body + pick(state, it->len)] ^= (unsigned char)(1 << pick(state, 8));
         return true;
     }
-    if (!other) return false;
+    if (!find_two(fault, listing, book, from, &it, &other) && !find_two(fault, listing, book, 0, &it, &other))
+        return false;
     if (fault == DROPPED) {
         const int32_t aborted = ABORTED;
-        if (!is_owed(book, other->who, other->number)) return false;
         memcpy(image + other->header + 4, &aborted, 4);
         return true;
     }
-    /* (a message goes to the place of another one of the same span) */
-    if ((it->len + 7) / 8 != (other->len + 7) / 8) return false;
     unsigned char *copy = malloc(it->body > other->body ? it->body + it->len : other->body + other->len);
     if (!copy) return false;
     copy_message(copy, it, image, it);

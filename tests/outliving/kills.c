@@ -1,8 +1,9 @@
-/* Kills processes at random moments, and judges the files that they leave: kills COUNT SEED FILE [FAULT].
+/* Kills processes at random moments, and judges the files that they leave: kills COUNT SEED FILE [FAULT [FOLDER]].
  *
- * Each process makes a ring in the file, in which one or four producers and a consumer run. FAULT puts a fault into each
- * image, which must be noticed. The line of the result says how many messages there were, and what was wrong. The status
- * is 1 if a message was lost, torn, out of order or twice, or if a fault was not noticed. */
+ * Each process makes a ring in the file, in which one or four producers and a consumer run. FAULT puts a fault into
+ * each image, which must be noticed. FOLDER gets each file with its listing. The line of the result says how many
+ * messages there were, and what was wrong. The status is 1 if a message was lost, torn, out of order or twice, or if a
+ * fault was not noticed. */
 #define _GNU_SOURCE 1
 #include "storm.h"
 
@@ -81,19 +82,37 @@ static void recover(const unsigned char *image) {
     bool is_same = code == FELTER_OK && count == listing.count;
     for (uint64_t k = 0; is_same && k < count; k++) {
         felter_record record;
-        int32_t type_id;
+        const struct found *it = &listing.of[k];
         memcpy(&record, buffer + at, sizeof record);
-        memcpy(&type_id, image + listing.of[k].header + 4, 4);
-        is_same = record.len == listing.of[k].len && record.type_id == type_id &&
-                  memcmp(buffer + at + sizeof record, image + listing.of[k].body, record.len) == 0;
+        is_same = record.len == it->len && record.type_id == it->type_id &&
+                  memcmp(buffer + at + sizeof record, image + it->body, record.len) == 0;
         at += FELTER_SPAN(record.len);
     }
     totals.damaged += !is_same;
 }
 #endif
 
+/* Writes an image into a folder, with the number of open claims and a line for each message. */
+static void keep(const char *folder, uint64_t number, const unsigned char *image) {
+    char path[4096];
+    snprintf(path, sizeof path, "%s/%" PRIu64 ".image", folder, number);
+    FILE *to = fopen(path, "wb");
+    if (!to || fwrite(image, length, 1, to) != 1 || fclose(to)) fail(path);
+    snprintf(path, sizeof path, "%s/%" PRIu64 ".list", folder, number);
+    to = fopen(path, "w");
+    if (!to) fail(path);
+    fprintf(to, "%" PRIu64 "\n", listing.open);
+    for (uint64_t k = 0; k < listing.count; k++) {
+        const struct found *it = &listing.of[k];
+        fprintf(to, "%" PRIu64 " %" PRId32 " ", it->place, it->type_id);
+        for (uint32_t at = 0; at < it->len; at++) fprintf(to, "%02x", image[it->body + at]);
+        fprintf(to, "\n");
+    }
+    if (fclose(to)) fail(path);
+}
+
 /* Reads the file, as a program does that comes after the process. */
-static void judge_file(enum fault fault) {
+static void judge_file(enum fault fault, const char *folder) {
     static unsigned char image[1024 + 2 * MAX_CAPACITY];
     struct totals before;
     if (pread(file, image, length, 0) != (ssize_t)length) fail("read");
@@ -102,6 +121,7 @@ static void judge_file(enum fault fault) {
     recover(image);
 #endif
     judge(book, &listing, &totals);
+    if (folder && listing.is_image) keep(folder, totals.kills, image);
     if (fault == NO_FAULT || !plant(fault, image, &listing, book, &state)) return;
     before = totals;
     list_image(image, length, &listing);
@@ -113,8 +133,8 @@ static void judge_file(enum fault fault) {
 static void print_totals(enum fault fault) {
     printf("kills %" PRIu64 " unmade %" PRIu64 " acknowledged %" PRIu64 " shown %" PRIu64 " recovered %" PRIu64,
            totals.kills, totals.unmade, totals.acknowledged, totals.shown, totals.recovered);
-    printf(" taken %" PRIu64 " again %" PRIu64 " open %" PRIu64 " gaps %" PRIu64, totals.taken, totals.again, totals.open,
-           totals.gaps);
+    printf(" taken %" PRIu64 " again %" PRIu64 " open %" PRIu64 " gaps %" PRIu64, totals.taken, totals.again,
+           totals.open, totals.gaps);
     printf(" lost %" PRIu64 " torn %" PRIu64 " disordered %" PRIu64 " twice %" PRIu64 " damaged %" PRIu64, totals.lost,
            totals.torn, totals.disordered, totals.twice, totals.damaged);
     if (fault != NO_FAULT) printf(" %s %" PRIu64 " noticed %" PRIu64, FAULT_NAMES[fault], planted, noticed);
@@ -139,7 +159,7 @@ int main(int count, char **words) {
         /* (the image of the process before is none any more; its other bytes stay) */
         memset(memory, 0, 8);
         run_and_kill(state + k, capacities[pick(&state, 6)], pick(&state, 4) == 0);
-        judge_file(fault);
+        judge_file(fault, count > 5 ? words[5] : NULL);
     }
     print_totals(fault);
     return totals.lost || totals.torn || totals.disordered || totals.twice || totals.damaged || planted != noticed;

@@ -48,7 +48,8 @@ _Noreturn void run_storm(void *memory, size_t length, uint32_t capacity, bool is
 /* A committed message of an image. */
 struct found {
     unsigned who;
-    uint64_t number;
+    int32_t type_id;
+    uint64_t number, place;
     size_t header, body; /* the bytes of the image at which its header and its body begin */
     uint32_t len;
     bool is_whole;

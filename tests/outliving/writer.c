@@ -1,5 +1,5 @@
-/* A program that tests/outlive looks at: writer FILE. It makes a ring in the file, writes a message, leaves a claim open,
- * writes another message, and waits until it is killed. */
+/* A program that tests/outlive looks at: writer FILE. It makes a ring in the file, writes a message, leaves a claim
+ * open, writes another message, and waits until it is killed. */
 #define _GNU_SOURCE 1
 #include "felter.h"
 
