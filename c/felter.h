@@ -629,8 +629,8 @@ int32_t felter_poll(felter_client *client, uint64_t correlation, int32_t *kind, 
  * has what the process had stored. Another process can map the file and look at it, but must not write to it. No second
  * process can make handles of the structure.
  *
- * The functions of this part are not proved. docs/FORMATS.md describes the memory. It begins with a header of 128 bytes,
- * whose first 8 bytes are "FELTERIM" as soon as the structure was made.
+ * The functions of this part are not proved. docs/FORMATS.md describes the memory. It begins with a header of 128
+ * bytes, whose first 8 bytes are "FELTERIM" as soon as the structure was made.
  *
  * These are more rules for callers, after those at the head of this file:
  *   7. The memory stays at its address, and can be read and written, until each handle of the structure was freed.

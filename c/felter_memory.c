@@ -3,9 +3,9 @@
  * The proved archive requests all its memory by three functions of the kit, in liblibc_c.a, which call malloc, realloc
  * and free. c/build renames these three calls to the functions rattle_placed_* below. So each request of the archive
  * comes to this file. Nearly all requests go on to malloc. While a call whose name ends in _new_in_numbered makes a
- * structure, two requests of its thread are given blocks in the caller's memory: the words and the bodies of a ring, the
- * words of a board, or the value records and the metadata of counters. The archive does not see a difference, since no
- * contract says at which address a block is.
+ * structure, two requests of its thread are given blocks in the caller's memory: the words and the bodies of a ring,
+ * the words of a board, or the value records and the metadata of counters. The archive does not see a difference, since
+ * no contract says at which address a block is.
  *
  * This file is compiled into an object of its own, beside the proved archive. It is tested and not proved. */
 #ifndef _DEFAULT_SOURCE

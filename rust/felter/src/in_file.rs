@@ -130,9 +130,9 @@ pub fn ring_memory(capacity: u32) -> Result<usize, Error> {
     length_by(raw::felter_ring_memory, capacity)
 }
 
-/// Makes a new file, and a many-to-one ring in it. Positions begin at 0. The words and the bodies of the ring are in the
-/// file, so the messages survive the death of the process. Another process can map the file and look at it, but must not
-/// write to it. The file is unmapped after the last handle of the ring was dropped. The file itself stays.
+/// Makes a new file, and a many-to-one ring in it. Positions begin at 0. The words and the bodies of the ring are in
+/// the file, so the messages survive the death of the process. Another process can map the file and look at it, but
+/// must not write to it. The file is unmapped after the last handle of the ring was dropped. The file itself stays.
 ///
 /// Errors: [`InFileError::Refused`] with the errors of [`many_to_one`](crate::many_to_one), and [`InFileError::File`],
 /// for example if the file exists. After an error there is no new file.
@@ -166,8 +166,8 @@ pub fn one_to_one_in_file(path: impl AsRef<Path>, capacity: u32) -> Result<(Prod
 ///
 /// # Safety
 ///
-/// - The `length` bytes at `memory` can be read and written, and stay at their address, until each handle of the ring was
-///   dropped.
+/// - The `length` bytes at `memory` can be read and written, and stay at their address, until each handle of the ring
+///   was dropped.
 /// - Until then no other code writes to these bytes, and no other structure is made in them.
 pub unsafe fn many_to_one_in_memory(
     memory: *mut u8,
