@@ -6,6 +6,7 @@
 #include "check.h"
 
 #include <pthread.h>
+#include <sched.h>
 #include <sys/mman.h>
 #include <unistd.h>
 
@@ -18,8 +19,13 @@ void __real_free(void *at);
 
 static __thread long left = -1; /* this many requests are granted, and then one is refused; -1: all are granted */
 static long live;               /* pieces of memory that were not given back */
+static int yields;              /* whether another thread runs at each request */
+static unsigned char *watched;  /* memory in which a structure is made, or NULL */
+static int unmade;              /* requests at which this memory was no image */
 
 static int refuses(void) {
+    if (yields) sched_yield();
+    if (watched) unmade += memcmp(watched, "FELTERIM", 8) != 0;
     return left >= 0 && left-- == 0;
 }
 
@@ -213,7 +219,11 @@ static void refusals(void) {
     felter_free(&producer.handle);
     EXPECT(FELTER_BAD_MEMORY, felter_board_new_in(memory + 64, length, 256, &transmitter));
     felter_free(&consumer.handle);
+    /* It is no image while a call makes another structure in it: at the requests of the archive, at the least. */
+    watched = memory + 64;
     EXPECT(FELTER_OK, felter_board_new_in(memory + 64, length, 256, &transmitter));
+    watched = NULL;
+    CHECK(unmade >= 5);
     felter_free(&transmitter.handle);
     felter_free(&other.handle);
     felter_free(&to_other.handle);
@@ -355,9 +365,11 @@ static void *make_many(void *unused) {
 static void threads(void) {
     pthread_t its[4];
     unsigned char *memories = __real_aligned_alloc(64, 2 * 4096);
+    yields = 1;
     for (int k = 0; k < 4; k++)
         CHECK(pthread_create(&its[k], NULL, k < 2 ? make_many_in : make_many, k < 2 ? memories + 4096 * k : NULL) == 0);
     for (int k = 0; k < 4; k++) CHECK(pthread_join(its[k], NULL) == 0);
+    yields = 0;
     __real_free(memories);
 }
 

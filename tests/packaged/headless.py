@@ -45,6 +45,21 @@ assert (found.value, head.value) == (1, 0)
 batch = struct.pack("=Qq8sQq8s", 3, 5, b"abc", 2, 6, b"de")
 must(library.felter_write_batch(by(one), batch, ctypes.c_size_t(len(batch)), by(written)))
 assert written.value == 2
+# A ring in memory of the caller.
+room = ctypes.create_string_buffer(4096)
+memory = ctypes.c_void_p(ctypes.addressof(room) + -ctypes.addressof(room) % 64)
+needed, in_one, in_two = ctypes.c_size_t(), Handle(), Handle()
+must(library.felter_ring_memory(1024, by(needed)))
+assert needed.value == 2944
+new_in = library.felter_many_to_one_new_in_numbered
+ninth = ctypes.c_uint64(1 << 40)
+assert new_in(ninth, None, needed, 1024, by(in_one), by(in_two)) == NULL_POINTER
+assert new_in(ninth, memory, needed, 1, None, by(in_two)) == NO_HANDLE
+assert new_in(ninth, memory, ctypes.c_size_t(9), 1024, by(in_one), by(in_two)) == 112
+must(library.felter_many_to_one_new_in(memory, needed, 1024, by(in_one), by(in_two)))
+must(library.felter_write(by(in_one), 1, b"there", ctypes.c_size_t(5)))
+at = memory.value - ctypes.addressof(room)
+assert room.raw[at : at + 8] == b"FELTERIM" and room.raw[at + 1928 : at + 1933] == b"there"
 
 
 def write_all():
@@ -68,7 +83,7 @@ while number < 1000:
     assert room[: length.value] == b"%d" % number
     number += 1
 thread.join()
-for it in producer, consumer, transmitter, counters, conductor, one, two:
+for it in producer, consumer, transmitter, counters, conductor, one, two, in_one, in_two:
     library.felter_free(by(it))
     assert it.at is None
 print(number, "messages, in order")
