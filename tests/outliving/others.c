@@ -2,7 +2,8 @@
  *
  * The file must have the last transmission whose call returned, or the one that was running, and each counter must have
  * the last value whose call returned, or the one that was running. Then each file is changed, which must be noticed.
- * The line of the result says how many calls returned. The status is 1 if a file is wrong or a change is not noticed. */
+ * The line of the result says how many calls returned. The status is 1 if a file is wrong, or if a change is not
+ * noticed. */
 #define _GNU_SOURCE 1
 #include "storm.h"
 
