@@ -37,7 +37,8 @@ public:
     }
     // Makes counters in `length` bytes of memory, which must stay until each handle was freed (rules 7 and 8 of
     // felter.h).
-    static result<counters> make_in(void *memory, std::size_t length, std::uint32_t count, std::uint32_t reuse_ms) {
+    static result<counters> make_in(void *memory, std::size_t length, std::uint32_t count,
+                                    std::uint32_t reuse_ms = 0) {
         return detail::made<counters>(
             [&](felter_counters *it) { return felter_counters_new_in(memory, length, count, reuse_ms, it); });
     }

@@ -311,6 +311,28 @@ void boards_and_conductors() {
     CHECK(conductor.finish().value().received == 1);
 }
 
+void memory_of_the_caller() {
+    alignas(64) static std::array<std::uint8_t, 8192> memory{};
+    std::array<std::uint8_t, 64> room{};
+    for (const auto make : {felter::many_to_one_in, felter::one_to_one_in}) {
+        CHECK(make(memory.data() + 8, memory.size() - 8, 1024).code() == FELTER_BAD_MEMORY);
+        CHECK(make(memory.data(), 2943, 1024).code() == FELTER_BAD_MEMORY);
+        auto ring = make(memory.data(), 2944, 1024).value();
+        ring.producer.write(7, "hello").value();
+        CHECK(std::string(memory.begin() + 1928, memory.begin() + 1933) == "hello");
+        CHECK(ring.consumer.read(room).value().body.text() == "hello");
+        CHECK(!ring.producer.is_abandoned());
+    }
+    auto transmitter = felter::transmitter::make_in(memory.data(), memory.size(), 512).value();
+    transmitter.transmit(5, "all").value();
+    CHECK(std::string(memory.begin() + 136, memory.begin() + 139) == "all");
+    CHECK(felter::counters::make_in(memory.data(), memory.size(), 4).code() == FELTER_BAD_MEMORY);
+    CHECK(transmitter.close().value() == 16);
+    auto counters = felter::counters::make_in(memory.data(), memory.size(), 4).value();
+    counters.set(counters.allocate(0, 1, "", "label").value(), 5).value();
+    CHECK(memory[128] == 5);
+}
+
 } // namespace
 
 int main() {
@@ -325,5 +347,6 @@ int main() {
     threads_and_ends();
     adders();
     boards_and_conductors();
+    memory_of_the_caller();
     return failed != 0;
 }

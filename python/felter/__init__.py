@@ -11,6 +11,10 @@ Calls. A read returns None if no message is there. A call with a timeout waits. 
 call may succeed later. `is_abandoned` returns whether the other side is gone. A `Doorbell` wakes event loops.
 Capacities, lengths and positions are in bytes. Moments are in milliseconds of a clock that the caller chooses.
 
+Files. `many_to_one_in_file`, `one_to_one_in_file`, `Transmitter.in_file` and `Counters.in_file` make a structure in a
+new file. Its words and bodies survive the death of the process. Another process may look at the file, and must not
+write to it.
+
 Layouts. The bodies of messages are stored separately from the words of headers and positions. So rings do not have the
 memory layout of Agrona's rings.
 

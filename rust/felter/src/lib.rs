@@ -20,6 +20,9 @@
 //! - `is_abandoned` returns whether the other side is gone.
 //! - A [`Doorbell`] wakes event loops.
 //!
+//! [`many_to_one_in_file`], [`Transmitter::in_file`] and [`Counters::in_file`] make a structure in a new file. Its words
+//! and bodies survive the death of the process.
+//!
 //! Capacities, lengths and positions are in bytes. Moments are in milliseconds of a clock that the caller chooses.
 //!
 //! Each handle owns its endpoint together with its ring, board, counters or conductor. So handles have no lifetime
