@@ -643,6 +643,8 @@ int32_t felter_poll(felter_client *client, uint64_t correlation, int32_t *kind, 
  * A mapped file survives the death of the process, but not a crash of the machine. Call msync to write the file to the
  * disk.
  *
+ * The calls that make or free such a structure take a lock for a moment, as malloc does. All other calls take none.
+ *
  * These calls write how many bytes of memory a ring of either kind, a board and counters need. Codes:
  * FELTER_BAD_CAPACITY, and FELTER_BAD_COUNT for counters. */
 int32_t felter_ring_memory(uint32_t capacity, size_t *length);
@@ -659,7 +661,7 @@ int32_t felter_counters_memory(uint32_t count, size_t *length);
  *   - FELTER_HANDLE_IN_USE if a handle is not empty;
  *   - FELTER_BAD_CAPACITY, or FELTER_BAD_COUNT for counters;
  *   - FELTER_BAD_MEMORY if the memory does not begin at a multiple of 64, if it has fewer bytes than the structure
- *     needs, or if another structure that begins at the same place still has a handle;
+ *     needs, or if another structure that begins at the same place still uses it;
  *   - FELTER_OUT_OF_MEMORY. */
 int32_t felter_many_to_one_new_in_numbered(uint64_t number, void *memory, size_t length, uint32_t capacity,
                                            felter_producer *producer, felter_consumer *consumer);
@@ -680,7 +682,7 @@ static inline int32_t felter_counters_new_in(void *memory, size_t length, uint32
 
 /* Lets the library unmap memory that the caller has mapped, since the library knows when the last handle was freed. The
  * library then calls munmap(memory, length). A structure must be at the beginning of the memory. Codes:
- * FELTER_BAD_MEMORY if no structure with a handle is there, or the length is 0. */
+ * FELTER_BAD_MEMORY if no structure uses the memory there, or the length is 0. */
 int32_t felter_unmap_at_end(void *memory, size_t length);
 
 #include "felter_inline.h"
