@@ -30,7 +30,7 @@ class Transmitter(Owner):
     @classmethod
     def in_file(cls, path: Path, capacity: int) -> "Transmitter":
         """Makes a new file, and a board in it, as `many_to_one_in_file` does for a ring."""
-        made = cls.__new__(cls)
+        made: "Transmitter" = cls.__new__(cls)
         Owner.__init__(made, next(numbers))
         make(path, "felter_board_memory", "felter_board_new_in_numbered", (made,), capacity)
         return made

@@ -21,7 +21,7 @@ class Counters(Owner):
     def in_file(cls, path: Path, count: int, reuse_ms: int = 0) -> "Counters":
         """Makes a new file, and counters in it, as `many_to_one_in_file` does for a ring. The value records and the
         metadata are in the file."""
-        made = cls.__new__(cls)
+        made: "Counters" = cls.__new__(cls)
         Owner.__init__(made, next(numbers))
         make(path, "felter_counters_memory", "felter_counters_new_in_numbered", (made,), count, reuse_ms)
         return made
