@@ -45,7 +45,7 @@ fn a_ring_lies_in_its_file() {
     assert_eq!((scratch.word(16), scratch.word(24), scratch.word(32), scratch.word(48)), (2, 1024, 128, 1920));
     // the headers of the message and of the claim, the body, and the tail
     assert_eq!(scratch.word(128), 7 << 32 | 13);
-    assert_eq!(scratch.word(144), 9 << 32 | u64::from((-12_i32).cast_unsigned()));
+    assert_eq!(scratch.word(144), 9 << 32 | u64::from((-12_i32) as u32));
     assert_eq!(&fs::read(path).expect("it is there")[1928..1933], b"hello");
     assert_eq!(scratch.word(128 + 1024 + 128), 32);
     let message = consumer.read_owned().expect("it is whole").expect("it is there");
@@ -56,7 +56,7 @@ fn a_ring_lies_in_its_file() {
     drop(consumer);
     assert!(!scratch.is_mapped());
     // the claim was aborted, and the file stays
-    assert_eq!(scratch.word(144) >> 32, u64::from((-1_i32).cast_unsigned()));
+    assert_eq!(scratch.word(144) >> 32, u64::from((-1_i32) as u32));
 }
 
 #[test]
