@@ -78,6 +78,18 @@ class InFile(unittest.TestCase):
         self.assertEqual(done.returncode, -signal.SIGKILL)
         self.assertEqual(messages(self.path), [b"two", b"three", b"after the claim"])
 
+    def test_a_new_ring_goes_on(self) -> None:
+        subprocess.run([sys.executable, "-B", "-c", DYING, self.path], cwd=HERE, check=False)
+        left = messages(self.path)
+        producer, consumer = felter.many_to_one_in_file(self.path + ".new", 1024)
+        for body in left:
+            producer.write(7, body)
+        os.rename(self.path + ".new", self.path)
+        self.assertEqual(messages(self.path), left)
+        self.assertEqual([it.body for it in consumer], left)
+        producer.write(7, b"four")
+        self.assertEqual(messages(self.path), [b"four"])
+
     def test_ring(self) -> None:
         for make, kind in (felter.many_to_one_in_file, 2), (felter.one_to_one_in_file, 1):
             producer, consumer = make(self.path, 1024)
