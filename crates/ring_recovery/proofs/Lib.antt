@@ -1,0 +1,9 @@
+pub mod HeaderLemmas
+pub mod ScanLemmas
+pub mod StepLemmas
+pub mod GivenLemmas
+pub mod ClaimLemmas
+pub mod WholeLemmas
+pub mod BodyLemmas
+pub mod SplitLemmas
+pub mod RecoverLemmas

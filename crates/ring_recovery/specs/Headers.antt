@@ -1,0 +1,98 @@
+-- The headers in any words of a ring whose bodies lie in slots. Such words have headers and zeros alone. Positions are
+-- running byte counts, C is the capacity of the buffer, and the records end at the tail.
+use Rattle.std.specs.Prelude.{ℕ, zero, suc, ◌+◌, ◌-◌, ◌/◌, ◌%◌, Bool, ◌&&◌, ◌||◌, ◌==◌, not, nat_lt, int_lt, if◌then◌else◌, ℤ, pos, negsuc, nat_abs, List, [], ◌∷◌, length, slice_index, Option, Some, None}
+use Rattle.ring_counters.specs.Records.{bytes_at}
+use Rattle.ring_layout.specs.Layout.{head_index, tail_index}
+use Rattle.ring_layout.specs.Lists.{or_else, total}
+use Rattle.ring_layout.specs.Places.{index}
+use Rattle.ring_recovery.specs.declared.message.RecoveredMessage.{RecoveredMessage}
+use Rattle.ring_snapshot.specs.Listing.{up_to_eight}
+use Rattle.ring_snapshot.specs.RingRecords.{is_length, length_in, positions_finding, type_in}
+use Rattle.ring_snapshot.specs.declared.ring_finding.RingFinding.{RingFinding}
+use Rattle.ring_snapshot.specs.declared.ring_finding.RingFinding.TheVariants.{BadBodies, BadLength, BadType}
+
+-- the words that are not 0 among n words from the position p on, each with its position
+abbrev pub headers_in : ℕ → List ℕ → ℕ → ℕ → List (ℕ × ℕ)
+headers_in C words zero p = []
+headers_in C words (suc n) p =
+    let w = slice_index words (index C p) in
+    if w == 0 then headers_in C words n (p + 8) else (p, w) ∷ headers_in C words n (p + 8)
+
+-- the bytes of a record with this header, from the begin of the header on
+abbrev pub bytes_in : ℕ → ℕ
+bytes_in w = nat_abs (length_in w)
+
+-- Committed messages -------------------------------------------------------
+
+-- the header at the position p is that of a committed message
+abbrev pub is_committed : ℕ → ℕ → ℕ → ℕ → Bool
+is_committed C tail p w =
+    int_lt (pos 0) (length_in w) && int_lt (pos 0) (type_in w) && is_length C tail p (bytes_in w)
+
+-- the message with this header at the position p, whose body the slots have
+abbrev pub message_at : ℕ → List ℕ → ℕ → ℕ → RecoveredMessage
+message_at C slots p w =
+    record { place = p; type_id = type_in w; body = bytes_at slots (p % C + 8) (bytes_in w - 8) }
+
+-- the committed messages of these headers
+abbrev pub messages_of : ℕ → List ℕ → ℕ → List (ℕ × ℕ) → List RecoveredMessage
+messages_of C slots tail [] = []
+messages_of C slots tail (h ∷ hs) =
+    if is_committed C tail h.0 h.1 then message_at C slots h.0 h.1 ∷ messages_of C slots tail hs
+    else messages_of C slots tail hs
+
+-- Open claims --------------------------------------------------------------
+
+-- the header is that of an open claim, whose length is negated
+abbrev pub is_open : ℕ → Bool
+is_open w = int_lt (length_in w) (pos 0)
+
+abbrev pub one_if_open : ℕ × ℕ → ℕ
+one_if_open h = if is_open h.1 then 1 else 0
+
+-- the number of open claims of these headers
+abbrev pub open_of : List (ℕ × ℕ) → ℕ
+open_of hs = total one_if_open hs
+
+-- Findings -----------------------------------------------------------------
+
+-- A record has this length and this type id. A message has a type id from 1 on, an aborted record -1, and padding -2
+abbrev pub is_type : ℤ → ℤ → Bool
+is_type len type_id =
+    int_lt (pos 0) type_id || (int_lt (pos 0) len && int_lt type_id (pos 0) && int_lt (negsuc 2) type_id)
+
+-- the finding about the header at the position p, if the record before it ends at `end`
+abbrev pub header_finding : ℕ → ℕ → ℕ → ℕ → ℕ → Option RingFinding
+header_finding C tail end p w =
+    if nat_lt p end || not (is_length C tail p (bytes_in w)) then Some (BadLength (p % C) (length_in w))
+    else (if is_type (length_in w) (type_in w) then None else Some (BadType (p % C) (type_in w)))
+
+-- the first finding about these headers, if the record before them ends at `end`
+abbrev pub headers_finding : ℕ → ℕ → ℕ → List (ℕ × ℕ) → Option RingFinding
+headers_finding C tail end [] = None
+headers_finding C tail end (h ∷ hs) = or_else (header_finding C tail end h.0 h.1)
+    (headers_finding C tail (h.0 + up_to_eight (bytes_in h.1)) hs)
+
+-- Any memory ---------------------------------------------------------------
+
+abbrev pub head_of : ℕ → List ℕ → ℕ
+head_of C words = slice_index words (head_index C)
+
+abbrev pub tail_of : ℕ → List ℕ → ℕ
+tail_of C words = slice_index words (tail_index C)
+
+-- the headers from one position up to another
+abbrev pub headers_between : ℕ → List ℕ → ℕ → ℕ → List (ℕ × ℕ)
+headers_between C words from to = headers_in C words ((to - from) / 8) from
+
+-- the headers from the head to the tail
+abbrev pub all_headers : ℕ → List ℕ → List (ℕ × ℕ)
+all_headers C words = headers_between C words (head_of C words) (tail_of C words)
+
+-- The first thing in which the words and the slots contradict the rule: the number of slots, then the positions, then
+-- the headers from the head on
+abbrev pub finding_of : ℕ → List ℕ → List ℕ → Option RingFinding
+finding_of C words slots =
+    or_else (if length slots == C / 8 then None else Some (BadBodies (length slots)))
+    (or_else (positions_finding C (head_of C words) (tail_of C words))
+    (headers_finding C (tail_of C words) (head_of C words) (all_headers C words)))

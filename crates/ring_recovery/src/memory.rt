@@ -1,0 +1,91 @@
+//! Recovers what a ring left.
+ghost use Rattle.std.specs.Prelude.{◌≡◌, ◌≢◌, ℕ, ◌+◌, ◌%◌, ◌≤◌, length, Err, IfOk, MatchResult};
+ghost use Rattle.ring_layout.specs.Layout.{ring_words};
+ghost use Rattle.ring_layout.specs.Places.{IsCapacity};
+ghost use Rattle.ring_layout.specs.Refusals.{IsRefusedBy};
+ghost use Rattle.ring_snapshot.specs.declared.ring_finding.RingFinding.TheVariants.{BadSize};
+ghost use Rattle.ring_recovery.specs.Headers.{finding_of, headers_between, headers_finding, open_of};
+ghost use Rattle.ring_recovery.specs.Image.{Remains};
+ghost use Rattle.ring_recovery.specs.Recovered.{IsRecoveredOf, Reads};
+
+use crate::header::{check_header, is_open};
+use crate::recovered::Recovered;
+use ring_layout::word_index;
+use ring_snapshot::{RingFinding, RingSnapshot};
+
+/// Tests the headers between two positions, in order. Returns the number of open claims.
+fn check_headers(words: &[u64], capacity: u32, head: u64, tail: u64) -> Result<u64, RingFinding>
+    requires capacity { IsCapacity capacity }
+    requires words { length words.now ≡ ring_words capacity }
+    requires order { head ≤ tail }
+    ensures refused { IsRefusedBy
+        (headers_finding capacity tail head (headers_between capacity words.now head tail)) result }
+    ensures claims { IfOk result (λ n. n ≡ open_of (headers_between capacity words.now head tail)) }
+{
+    let mut claims = 0;
+    let mut end = head;
+    for k in 0..(tail - head) / 8 {
+        let at = head + 8 * k;
+        let header = words[word_index(capacity, at)];
+        if header != 0 {
+            end = check_header(capacity, tail, end, at, header)?;
+            if is_open(header) {
+                claims += 1;
+            }
+        }
+    }
+    Ok(claims)
+}
+
+/// Returns what the headers of these words give. The findings are those of `recover`.
+fn read_memory<'a>(words: &'a [u64], slots: &'a [u64]) -> Result<Recovered<'a>, RingFinding>
+    ensures no_ring { ((C : ℕ) → IsCapacity C → length words.now ≢ ring_words C)
+        → result ≡ Err (BadSize (length words.now)) }
+    ensures refused { (C : ℕ) → IsCapacity C → length words.now ≡ ring_words C
+        → IsRefusedBy (finding_of C words.now slots.now) result }
+    ensures reads { (C : ℕ) → IsCapacity C → length words.now ≡ ring_words C
+        → IfOk result (λ r. Reads C words.now slots.now r) }
+{
+    let ring = RingSnapshot::new(words)?;
+    let (capacity, head, tail) = (ring.capacity(), ring.head(), ring.tail());
+    if slots.len() != capacity as usize / 8 {
+        return Err(RingFinding::BadBodies { words: slots.len() });
+    }
+    // (the records are not listed: this tests the head and the tail)
+    let _records = ring.records()?;
+    let open_claims = check_headers(words, capacity, head, tail)?;
+    Ok(Recovered {
+        words,
+        slots,
+        capacity,
+        at: head,
+        tail,
+        open_claims,
+    })
+}
+
+/// Recovers the committed messages of a ring whose threads all died, each at any step. `words` are the words of the
+/// ring, which has its bodies in slots. `slots` are these slots.
+///
+/// From the memory of a ring the call returns the committed messages from the point on up to which the dead consumer
+/// had cleared. Each of them comes whole, once, and in the order of the claims. What the consumer was shown and had not
+/// cleared comes again. Claims that were open count as aborted.
+///
+/// For any other memory the call returns a finding about it, or the messages of the headers that it has. The findings
+/// are, in this order: `BadSize` if no ring has this many words, `BadBodies` if there are not as many slots as words of
+/// the buffer, `UnalignedPosition`, `TailBeforeHead` and `TailTooFar` for positions that make no sense, and `BadLength`
+/// or `BadType` for the first header that no record has there, or that lies inside another record.
+///
+/// The call changes nothing, and allocates no memory. Any thread may call it.
+pub fn recover<'a>(words: &'a [u64], slots: &'a [u64]) -> Result<Recovered<'a>, RingFinding>
+    ensures recovered { (C start : ℕ) (m : Remains C start words.now slots.now)
+        → MatchResult result (λ r. IsRecoveredOf m.rule.hist m.rule.consumer r) (λ _. ⊥) }
+    ensures no_ring { ((C : ℕ) → IsCapacity C → length words.now ≢ ring_words C)
+        → result ≡ Err (BadSize (length words.now)) }
+    ensures refused { (C : ℕ) → IsCapacity C → length words.now ≡ ring_words C
+        → IsRefusedBy (finding_of C words.now slots.now) result }
+    ensures reads { (C : ℕ) → IsCapacity C → length words.now ≡ ring_words C
+        → IfOk result (λ r. Reads C words.now slots.now r) }
+{
+    read_memory(words, slots)
+}
