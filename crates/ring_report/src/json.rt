@@ -171,7 +171,7 @@ impl Report {
         object: &mut Map<String, Value>,
         alloc: Global,
     ) -> Result<(), AllocError> {
-        if self.kind == "counters" {
+        if self.kind == "counters" || self.kind == "recovered" {
             return Ok(());
         }
         put(object, alloc, "settled", Value::from(self.is_settled))?;

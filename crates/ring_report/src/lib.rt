@@ -2,7 +2,7 @@
 //! a file or given as words. It is printed as a table, as JSON, or as the text of Prometheus.
 //!
 //! - `ring`, `board`, `counters`: the report of each kind. `records`: the lists of records of rings and boards.
-//!   `blocked`: the place at which the consumer of a ring stops.
+//!   `blocked`: the place at which the consumer of a ring stops. `recovered`: what is recovered from a ring.
 //! - `report`, `state`: the content of a report. `table`, `json`, `prometheus` and `rates` print a report. `picture`,
 //!   `bodies` and `colour` are parts of them. `origin`: the file of a report, and its place in it. `printable`: text
 //!   that comes from outside.
@@ -24,6 +24,7 @@ mod printable;
 mod prometheus;
 mod rates;
 mod records;
+mod recovered;
 mod report;
 mod ring;
 mod settled;

@@ -50,13 +50,13 @@ pub struct Column {
 /// The content of a copy of memory.
 #[derive(Debug, Drop)]
 pub struct Report {
-    /// The kind of the report, which is `ring`, `board` or `counters`.
+    /// The kind of the report, which is `ring`, `board`, `counters` or `recovered`.
     pub kind: &'static str,
     /// The numbers of the whole.
     pub fields: Vec<Field>,
     /// The buffer as one line, which is empty if there is no buffer.
     pub picture: String,
-    /// The name of the list, which is `records` or `counters`.
+    /// The name of the list, which is `records`, `counters` or `messages`.
     pub list: &'static str,
     /// The list's columns.
     pub columns: &'static [Column],

@@ -32,9 +32,9 @@ pub struct Argument {
 }
 
 /// All arguments, in the order of the help.
-pub static ARGUMENTS: [Argument; 23] = [
+pub static ARGUMENTS: [Argument; 24] = [
     Argument {
-        of: "ring board counters cnc",
+        of: "ring board counters cnc recover",
         name: "limit",
         kind: Kind::Number("N"),
         help: "List at most this many; all are counted",
@@ -52,7 +52,7 @@ pub static ARGUMENTS: [Argument; 23] = [
         help: "Draw a buffer in at most this many pieces [default: what COLUMNS has room for at a terminal, or 64]",
     },
     Argument {
-        of: "ring board counters cnc",
+        of: "ring board counters cnc recover",
         name: "bodies",
         kind: Kind::Choice(&["hex", "text", "none"], "hex"),
         help: "How bytes are shown",
@@ -70,13 +70,19 @@ pub static ARGUMENTS: [Argument; 23] = [
         help: "Lines for people, or an object of JSON a line",
     },
     Argument {
-        of: "ring board counters",
+        of: "recover",
+        name: "format",
+        kind: Kind::Choice(&["table", "json"], "table"),
+        help: "A table or JSON",
+    },
+    Argument {
+        of: "ring board counters recover",
         name: "at",
         kind: Kind::Bytes("BYTES"),
         help: "Where the copy begins in the file, in bytes, decimal or 0x.. [default: 0]",
     },
     Argument {
-        of: "ring board counters",
+        of: "ring board counters recover",
         name: "length",
         kind: Kind::Bytes("BYTES"),
         help: "The number of its bytes [default: up to the end of the file]",
@@ -112,7 +118,7 @@ pub static ARGUMENTS: [Argument; 23] = [
         help: "What it is called: a label of its metrics, and a member of its JSON",
     },
     Argument {
-        of: "ring board",
+        of: "ring board recover",
         name: "FILE",
         kind: Kind::Name,
         help: "The file with the copy; - is standard input",
@@ -124,7 +130,7 @@ pub static ARGUMENTS: [Argument; 23] = [
         help: "List from this position on, the start of a record",
     },
     Argument {
-        of: "ring",
+        of: "ring recover",
         name: "bodies-at",
         kind: Kind::Bytes("BYTES"),
         help: "Where the bodies begin in the file, if they lie apart from the ring's words",

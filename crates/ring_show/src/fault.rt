@@ -15,6 +15,12 @@ pub enum ShowFault<'a> {
     /// Bodies that are stored separately are to be read from standard input.
     #[error("--bodies-at: standard input has one section, so give a file")]
     BodiesOfInput,
+    /// What is to be recovered is on standard input.
+    #[error("recover reads a file in parts, so give a file and not standard input")]
+    RecoverOfInput,
+    /// The file has no image of a ring at this place.
+    #[error("no image of a ring of version 1: it begins with FELTERIM, or --bodies-at names the place of the bodies")]
+    NotImage,
     /// There is no such process.
     #[error("{pid}: no such process")]
     NoProcess { pid: &'a str },

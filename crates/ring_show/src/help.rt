@@ -21,6 +21,10 @@ claim, a second look follows 250 ms later. A consumer is blocked if both looks s
 
 A terminal gets colours unless the variable NO_COLOR has a value.
 
+The command recover lists the messages that a ring of a killed process has left, each once and in order. It skips claims
+that were open or aborted, and those of which no header was stored. FILE is an image, which is the memory of a ring that
+C, C++, Rust or Python made in memory of the caller. With --bodies-at the file may be any copy of such a ring's words.
+
 Findings about the memory are printed on standard error, one on each line.
 
 The status is 0, or 1 if the memory has a finding. It is 2 if the command line was refused or nothing could be read.";

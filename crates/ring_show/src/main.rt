@@ -13,6 +13,7 @@ mod look;
 mod memory;
 mod often;
 mod options;
+mod recover;
 mod screen;
 mod search;
 mod shell;
@@ -26,6 +27,7 @@ use fault::ShowFault;
 use find::find_all;
 use often::show_often;
 use options::Task;
+use recover::show_recovered;
 use screen::{Screen, screen_of};
 use std::env;
 use std::env::Env;
@@ -87,5 +89,11 @@ fn do_task<'a, R: AllocGlobal + Clock + Files + Input + Print + Eprint>(
         Task::Show(options) => show_often(rt, options, screen.is_terminal),
         Task::Find { memory, wanted } => find_all(rt, memory, wanted, screen.is_terminal),
         Task::Cnc { file, view, format } => show_cnc(rt, file, view, format),
+        Task::Recover {
+            section,
+            bodies_at,
+            view,
+            format,
+        } => show_recovered(rt, section, bodies_at, view, format),
     }
 }

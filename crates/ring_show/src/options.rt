@@ -51,6 +51,14 @@ pub enum Task<'a> {
         view: View,
         format: Format,
     },
+    /// Shows what can be recovered from a ring.
+    Recover {
+        section: Section<'a>,
+        /// The place in the file at which the bodies begin, if the section has the ring's words alone.
+        bodies_at: Option<u64>,
+        view: View,
+        format: Format,
+    },
 }
 
 /// The format of the output.
@@ -102,7 +110,7 @@ impl<'a> Options<'a> {
 }
 
 /// The subcommands, with their descriptions.
-static SUBCOMMANDS: [(&str, &str); 6] = [
+static SUBCOMMANDS: [(&str, &str); 7] = [
     (
         "ring",
         "Lists the records of a ring between its head and its tail",
@@ -126,6 +134,10 @@ static SUBCOMMANDS: [(&str, &str); 6] = [
     (
         "cnc",
         "Shows the ring, the broadcast buffer and the counters of Aeron's command-and-control file",
+    ),
+    (
+        "recover",
+        "Lists the messages that can be recovered from a ring of a killed process",
     ),
 ];
 
@@ -326,9 +338,24 @@ fn watch_wanted<'a>(matches: &ArgMatches<'a>, screen: Screen) -> Result<Wanted, 
     })
 }
 
+/// Returns the task of `recover`. Returns `RecoverOfInput` if the ring is on standard input. The fault `NotBytes` is as
+/// for `task_of`.
+fn recover_task<'a>(matches: &ArgMatches<'a>, screen: Screen) -> Result<Task<'a>, ShowFault<'a>> {
+    let section = section(matches, "FILE", "at", "length")?;
+    if section.file == "-" {
+        return Err(ShowFault::RecoverOfInput);
+    }
+    Ok(Task::Recover {
+        section,
+        bodies_at: bytes(matches, "bodies-at")?,
+        view: view_of(matches, screen),
+        format: format_of(matches, screen),
+    })
+}
+
 /// Returns the task of a subcommand with its arguments. Returns `NotBytes` if an offset or a length is not a number,
 /// and `NoLook` if the options ask for no look. Returns `BodiesOfInput` if separate bodies are to be read from standard
-/// input.
+/// input. Returns `RecoverOfInput` if a ring is to be recovered from standard input.
 pub fn task_of<'a>(
     name: &str,
     matches: &ArgMatches<'a>,
@@ -349,6 +376,7 @@ pub fn task_of<'a>(
             view: view_of(matches, screen),
             format: format_of(matches, screen),
         }),
+        "recover" => recover_task(matches, screen),
         _ => Ok(Task::Show(options_of(name, matches, screen)?)),
     }
 }
