@@ -25,8 +25,11 @@ abbrev pub all_placed : List RecoveredMessage → List PlacedMessage
 all_placed [] = []
 all_placed (m ∷ ms) = placed m ∷ all_placed ms
 
--- r has the committed messages and the number of open claims of the headers that these words have
+-- r has the capacity and the tail of these words, and the committed messages and the number of open claims of their
+-- headers
 pub record Reads (C : ℕ) (words slots : List ℕ) (r : Recovered) : Type 0 where
+  pub capacity : r.capacity ≡ C
+  pub tail : r.tail ≡ tail_of C words
   pub messages : messages_left r ≡ messages_of C slots (tail_of C words) (all_headers C words)
   pub open_claims : r.open_claims ≡ open_of (all_headers C words)
 

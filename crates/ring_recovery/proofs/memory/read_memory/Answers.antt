@@ -56,6 +56,8 @@ returns-clause-reads c = λ C ok size.
     let same : D ≡ C = same_capacity D C (length words) c.capacity-capacity.ensures.lawful ok long size in
     let claims : c.in_ok-open_claims.open_claims ≡ open_of (headers_between D words h t) = search rules in
     record {
+      capacity = same;
+      tail = tail ∙ ap (λ K. tail_of K words) same;
       messages = (λ i. messages_of D slots (tail i) (headers_between D words (head i) (tail i)))
           ∙ ap (λ K. messages_of K slots (tail_of K words) (all_headers K words)) same;
       open_claims = claims ∙ (λ i. open_of (headers_between D words (head i) (tail i)))
