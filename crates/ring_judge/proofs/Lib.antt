@@ -5,3 +5,7 @@ pub mod WaitingLemmas
 pub mod EventLemmas
 pub mod PlaceLemmas
 pub mod ReadLemmas
+pub mod ClaimLemmas
+pub mod StepLemmas
+pub mod HeadLemmas
+pub mod RefusalLemmas

@@ -5,10 +5,12 @@ pub mod broadcast;
 pub mod format;
 pub mod message;
 pub mod queue;
+pub mod ring;
 pub mod verdict;
 
 pub use broadcast::{BroadcastLine, MessageCopy, ReceiverEvent, judge_broadcast};
 pub use format::{BadLine, Kind, LineFault, kind_of, parse_broadcast, parse_queue};
 pub use message::Message;
 pub use queue::{QueueLine, judge_queue};
+pub use ring::{Fate, RingClaim, RingCopy, RingLine, judge_ring};
 pub use verdict::Verdict;
