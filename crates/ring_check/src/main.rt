@@ -2,17 +2,23 @@
 //! explains the run, or which line no history explains.
 #![tactic(auto)]
 
+ghost use Rattle.ring_judge.specs.Kinds.{IsJudgeableShape};
+
 mod fault;
 mod help;
 mod options;
 mod report;
 mod why_broadcast;
 mod why_queue;
+mod why_ring;
 
 use fault::CheckFault;
 use options::{Format, Options};
 use report::Report;
-use ring_judge::{Kind, judge_broadcast, judge_queue, kind_of, parse_broadcast, parse_queue};
+use ring_judge::{
+    Kind, RingShape, Verdict, arranged, judge_broadcast, judge_queue, judge_ring, kind_of, parse_broadcast,
+    parse_queue, parse_ring, ring_before, RingLine,
+};
 use std::alloc::Global;
 use std::env::Env;
 use std::io::{ErrorKind, Input, Read};
@@ -90,6 +96,7 @@ fn report_of<'a>(alloc: Global, text: &[u8], file: &'a str) -> Result<Report, Ch
     match kind_of(text) {
         Ok(Kind::Queue) => queue_report(alloc, text, file),
         Ok(Kind::Broadcast) => broadcast_report(alloc, text, file),
+        Ok(Kind::Ring(shape)) => ring_report(alloc, text, file, shape),
         Err(bad) => Err(CheckFault::of_line(file, bad)),
     }
 }
@@ -116,6 +123,36 @@ fn broadcast_report<'a>(
     };
     let verdict = judge_broadcast(alloc, lines.as_slice())?;
     Ok(Report::of_broadcast(alloc, text, lines.as_slice(), verdict)?)
+}
+
+/// Judges the run of a ring.
+fn ring_report<'a>(
+    alloc: Global,
+    text: &[u8],
+    file: &'a str,
+    shape: RingShape,
+) -> Result<Report, CheckFault<'a>>
+    requires { IsJudgeableShape shape }
+{
+    let parsed = match parse_ring(alloc, text) {
+        Ok(parsed) => parsed,
+        Err(bad) => return Err(CheckFault::of_line(file, bad)),
+    };
+    let order = arranged(alloc, parsed.as_slice())?;
+    let lines: Vec<RingLine> = order.iter().map(|it| it.line).collect(alloc)?;
+    let RingShape { capacity, start } = shape;
+    let verdict = judge_ring(alloc, capacity, start, lines.as_slice())?;
+    let unexplained = match verdict {
+        Verdict::Yes => None,
+        Verdict::No(at) => {
+            let ring = ring_before(alloc, capacity, start, lines.as_slice(), at)?;
+            match order.get(at) {
+                Some(it) => Some((it.at, why_ring::reason(alloc, &ring, &it.line)?)),
+                None => None,
+            }
+        }
+    };
+    Ok(Report::of_ring(alloc, text, lines.as_slice(), unexplained)?)
 }
 
 /// Returns the bytes of a file. The name `-` is standard input.

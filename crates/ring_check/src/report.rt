@@ -1,6 +1,6 @@
 //! A verdict with the counts of the run, as a table and as JSON.
 use crate::{why_broadcast, why_queue};
-use ring_judge::{BroadcastLine, QueueLine, ReceiverEvent, Verdict};
+use ring_judge::{BroadcastLine, QueueLine, ReceiverEvent, RingLine, Verdict};
 use serde_json::{Map, Value, put};
 use std::alloc::{AllocError, Global};
 use std::fmt::Write;
@@ -17,6 +17,11 @@ enum Counts {
         transmitted: u64,
         received: u64,
         lapped: u64,
+    },
+    Ring {
+        claimed: u64,
+        full: u64,
+        shown: u64,
     },
 }
 
@@ -76,6 +81,26 @@ fn broadcast_counts(lines: &[BroadcastLine]) -> Counts {
         transmitted,
         received,
         lapped,
+    }
+}
+
+/// How many claims there were, how many calls were refused, and how many messages were shown.
+fn ring_counts(lines: &[RingLine]) -> Counts {
+    let mut claimed: u64 = 0;
+    let mut full: u64 = 0;
+    let mut shown: u64 = 0;
+    for line in lines {
+        match line {
+            RingLine::Claimed(_) => claimed = claimed.saturating_add(1),
+            RingLine::Full(_, _) => full = full.saturating_add(1),
+            RingLine::Got(_) => shown = shown.saturating_add(1),
+            _ => {}
+        }
+    }
+    Counts::Ring {
+        claimed,
+        full,
+        shown,
     }
 }
 
@@ -141,6 +166,24 @@ impl Report {
         })
     }
 
+    /// Returns the report of a run of a ring, from its text, its lines, and the index of the line that cannot be, with the
+    /// reason.
+    pub fn of_ring(
+        alloc: Global,
+        text: &[u8],
+        lines: &[RingLine],
+        unexplained: Option<(usize, String)>,
+    ) -> Result<Self, AllocError> {
+        let unexplained = match unexplained {
+            None => None,
+            Some((at, reason)) => Some(Unexplained::at(alloc, text, at, reason)?),
+        };
+        Ok(Report {
+            counts: ring_counts(lines),
+            unexplained,
+        })
+    }
+
     /// Tests whether the verdict is yes.
     pub fn is_yes(&self) -> bool {
         self.unexplained.is_none()
@@ -178,6 +221,14 @@ impl Report {
             } => write!(
                 text,
                 "broadcast  transmitted {transmitted}  received {received}  lapped {lapped}\n"
+            )?,
+            Counts::Ring {
+                claimed,
+                full,
+                shown,
+            } => write!(
+                text,
+                "ring  claimed {claimed}  full {full}  shown {shown}\n"
             )?,
         }
         Ok(text)
@@ -228,6 +279,15 @@ impl Report {
                 put(&mut object, alloc, "transmitted", Value::from(transmitted))?;
                 put(&mut object, alloc, "received", Value::from(received))?;
                 put(&mut object, alloc, "lapped", Value::from(lapped))?;
+            }
+            Counts::Ring {
+                claimed,
+                full,
+                shown,
+            } => {
+                put(&mut object, alloc, "claimed", Value::from(claimed))?;
+                put(&mut object, alloc, "full", Value::from(full))?;
+                put(&mut object, alloc, "shown", Value::from(shown))?;
             }
         }
         let mut text = Value::from(object).to_string_pretty(alloc)?;

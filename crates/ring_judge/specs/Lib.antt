@@ -4,3 +4,4 @@ pub mod Queue
 pub mod Broadcast
 pub mod Ring
 pub mod Judged
+pub mod Kinds

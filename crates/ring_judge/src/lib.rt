@@ -9,8 +9,12 @@ pub mod ring;
 pub mod verdict;
 
 pub use broadcast::{BroadcastLine, MessageCopy, ReceiverEvent, judge_broadcast};
-pub use format::{BadLine, Kind, LineFault, kind_of, parse_broadcast, parse_queue};
+pub use format::{
+    BadLine, Kind, LineFault, RingShape, kind_of, parse_broadcast, parse_queue, parse_ring,
+};
 pub use message::Message;
 pub use queue::{QueueLine, judge_queue};
-pub use ring::{Fate, RingClaim, RingCopy, RingLine, judge_ring};
+pub use ring::{
+    Fate, Judged, NumberedLine, RingClaim, RingCopy, RingLine, arranged, judge_ring, ring_before,
+};
 pub use verdict::Verdict;

@@ -7,8 +7,11 @@ pub mod claims;
 pub mod heads;
 pub mod judge;
 pub mod judged;
+pub mod order;
 
-pub use judge::judge_ring;
+pub use judge::{judge_ring, ring_before};
+pub use judged::Judged;
+pub use order::{NumberedLine, arranged};
 
 /// What became of a claim by the end of a run.
 #[derive(Clone, Copy, Debug, PartialEq, Eq)]

@@ -49,7 +49,7 @@ fn first_count(line: &[u8]) -> Result<Option<u64>, LineFault> {
     match kind_in(line)? {
         None => Ok(None),
         Some(Kind::Broadcast) => Ok(Some(0)),
-        Some(Kind::Queue) => Err(LineFault::NoKind),
+        Some(Kind::Queue | Kind::Ring(_)) => Err(LineFault::NoKind),
     }
 }
 

@@ -7,7 +7,7 @@ use thiserror::Error;
 #[derive(Clone, Copy, Debug, PartialEq, Eq, Error)]
 pub enum LineFault {
     /// The first line that is neither empty nor a comment does not say what was recorded.
-    #[error("a recorded run begins with a line `queue` or `broadcast`")]
+    #[error("a recorded run begins with a line `queue`, `broadcast` or `ring`")]
     NoKind,
     /// No line begins with this word.
     #[error("no line begins with this word")]
@@ -22,8 +22,14 @@ pub enum LineFault {
     #[error("a word is not a number in decimal digits")]
     NotANumber,
     /// A number is too large.
-    #[error("a number is too large: a producer or a receiver is at most 65535, another number at most 18446744073709551615")]
+    #[error("a number is too large: a producer or a receiver is at most 65535, a type id at most 2147483647, a length at most 4294967295, another number at most 18446744073709551615")]
     TooLarge,
+    /// A ring cannot have this capacity.
+    #[error("a capacity is a power of two from 128 to 1073741824")]
+    BadCapacity,
+    /// A ring cannot begin at this position.
+    #[error("a start is a multiple of 8, and at most 4611686018427387904")]
+    BadStart,
     /// A message that was transmitted has not the next number.
     #[error("the messages that were transmitted have the numbers 0, 1, 2 and so on, without a gap")]
     NotNext,

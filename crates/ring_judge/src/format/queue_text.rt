@@ -44,7 +44,7 @@ fn is_kind(line: &[u8]) -> Result<bool, LineFault> {
     match kind_in(line)? {
         None => Ok(false),
         Some(Kind::Queue) => Ok(true),
-        Some(Kind::Broadcast) => Err(LineFault::NoKind),
+        Some(Kind::Broadcast | Kind::Ring(_)) => Err(LineFault::NoKind),
     }
 }
 

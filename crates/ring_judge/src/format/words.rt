@@ -45,6 +45,18 @@ impl<'a> Words<'a> {
         u16::try_from(number).map_err(|_too_large| LineFault::TooLarge)
     }
 
+    /// Takes the type id of a message.
+    pub fn type_id(&mut self) -> Result<i32, LineFault> {
+        let number = self.number()?;
+        i32::try_from(number).map_err(|_too_large| LineFault::TooLarge)
+    }
+
+    /// Takes the length of a message.
+    pub fn length(&mut self) -> Result<u32, LineFault> {
+        let number = self.number()?;
+        u32::try_from(number).map_err(|_too_large| LineFault::TooLarge)
+    }
+
     /// Takes a number, or returns 0 if there is no word left.
     pub fn number_or_zero(&mut self) -> Result<u64, LineFault> {
         match self.next_word() {
