@@ -95,9 +95,9 @@ abbrev pub unaborted : List RingClaim → List RingClaim
 unaborted [] = []
 unaborted (c ∷ left) = if is_aborted c.fate then unaborted left else c ∷ left
 
--- the message is that of a committed claim
+-- the message is that of a committed claim, and the consumer noted its place or no place
 pub record IsCopyOf (c : RingClaim) (m : RingCopy) : Type 0 where
-  pub place : m.place ≡ c.place
+  pub place : MatchOption m.place (Unit {0}) (λ place. place ≡ c.place)
   pub type_id : m.type_id ≡ c.type_id
   pub length : m.length ≡ c.length
   pub committed : c.fate ≡ Committed m.body

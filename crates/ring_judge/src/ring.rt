@@ -64,8 +64,8 @@ pub struct RingClaim {
 /// A message that the consumer was shown.
 #[derive(Clone, Copy, Debug, PartialEq, Eq)]
 pub struct RingCopy {
-    /// The position of the message's header, in bytes.
-    pub place: u64,
+    /// The position of the message's header, in bytes, or `None` if the consumer does not know the position.
+    pub place: Option<u64>,
     /// The type id.
     pub type_id: i32,
     /// The length, in bytes.

@@ -106,7 +106,7 @@ fn full_of(words: Words<'_>) -> Result<RingLine, LineFault> {
 fn got_of(words: Words<'_>) -> Result<RingLine, LineFault> {
     let mut words = words;
     let copy = RingCopy {
-        place: words.number()?,
+        place: words.number_or_dash()?,
         type_id: words.type_id()?,
         length: words.length()?,
         body: words.number_or_zero()?,

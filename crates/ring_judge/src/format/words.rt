@@ -45,6 +45,15 @@ impl<'a> Words<'a> {
         u16::try_from(number).map_err(|_too_large| LineFault::TooLarge)
     }
 
+    /// Takes a number, or `-`, which stands for no number.
+    pub fn number_or_dash(&mut self) -> Result<Option<u64>, LineFault> {
+        match self.next_word() {
+            Some(b"-") => Ok(None),
+            Some(word) => Ok(Some(number_of(word)?)),
+            None => Err(LineFault::TooFewWords),
+        }
+    }
+
     /// Takes the type id of a message.
     pub fn type_id(&mut self) -> Result<i32, LineFault> {
         let number = self.number()?;

@@ -1,6 +1,6 @@
 //! The claims that the consumer passes.
 
-ghost use Rattle.std.specs.Prelude.{◌≡◌, ◌+◌, ◌<◌, ◌≤◌, ◌↔◌, IsTrue, [], ◌∷◌, drop, length};
+ghost use Rattle.std.specs.Prelude.{◌≡◌, ◌+◌, ◌<◌, ◌≤◌, ◌↔◌, IsTrue, MatchOption, [], ◌∷◌, drop, length};
 ghost use Rattle.ring_layout.specs.Places.{max_position};
 ghost use Rattle.ring_layout.specs.Lists.{or_else};
 ghost use Rattle.ring_judge.specs.Ring.{IsCopyOf, IsHead, claims_from, end_of_claim, first_open, unaborted};
@@ -61,7 +61,7 @@ pub fn move_head(claims: &[RingClaim], passed: usize, head: u64, at: u64) -> Opt
 pub fn is_copy_of(claim: &RingClaim, copy: &RingCopy) -> bool
     ensures { IsTrue result ↔ IsCopyOf claim.now copy.now }
 {
-    copy.place == claim.place
+    is_place_or_none(copy.place, claim.place)
         && copy.type_id == claim.type_id
         && copy.length == claim.length
         && claim.fate == Fate::Committed(copy.body)
@@ -79,5 +79,15 @@ pub fn first_open(blocked_at: Option<u64>, claim: &RingClaim) -> Option<u64>
         } else {
             None
         },
+    }
+}
+
+/// Tests whether a place, if there is one, is this one.
+fn is_place_or_none(noted: Option<u64>, place: u64) -> bool
+    ensures { IsTrue result ↔ MatchOption noted (Unit {0}) (λ it. it ≡ place) }
+{
+    match noted {
+        Some(it) => it == place,
+        None => true,
     }
 }
