@@ -16,8 +16,8 @@ use fault::CheckFault;
 use options::{Format, Options};
 use report::Report;
 use ring_judge::{
-    Kind, RingShape, Verdict, arranged, judge_broadcast, judge_queue, judge_ring, kind_of, parse_broadcast,
-    parse_queue, parse_ring, ring_before, RingLine,
+    Kind, RingLine, RingShape, Verdict, arranged, judge_broadcast, judge_queue, judge_ring,
+    kind_of, parse_broadcast, parse_queue, parse_ring, ring_before,
 };
 use std::alloc::Global;
 use std::env::Env;

@@ -34,12 +34,7 @@ fn claimed(alloc: Global, ring: &Judged, claim: &RingClaim) -> Result<String, Al
 }
 
 /// Why the producer cannot be refused this message.
-fn full(
-    alloc: Global,
-    ring: &Judged,
-    producer: u16,
-    length: u32,
-) -> Result<String, AllocError> {
+fn full(alloc: Global, ring: &Judged, producer: u16, length: u32) -> Result<String, AllocError> {
     if !is_length(ring.capacity, length as usize) {
         let longest = max_message(ring.capacity);
         return format!(in alloc; "a message of this ring has at most {longest} bytes");
@@ -63,9 +58,13 @@ fn first_left(ring: &Judged) -> Option<RingClaim> {
 fn got(alloc: Global, ring: &Judged) -> Result<String, AllocError> {
     match first_left(ring) {
         None => format!(in alloc; "no message is left"),
-        Some(RingClaim { place, fate: Fate::Open, .. }) => {
-            format!(in alloc; "the claim at {place} is open")
-        }
+        Some(
+            RingClaim {
+                place,
+                fate: Fate::Open,
+                ..
+            },
+        ) => { format!(in alloc; "the claim at {place} is open") }
         Some(
             RingClaim {
                 place,

@@ -1,5 +1,5 @@
 -- When a ring can have been full.
-use Rattle.std.proofs.Common.{◌≡◌, ℕ, ◌+◌, ◌-◌, ◌<◌, ◌≤◌, ◌⊎◌, ◌↔◌, List, [], ◌∷◌, ◌++◌, length, take, drop, get_or, Bool, true, false, Option, Some, None, inl, inr, sym, refl, ap, ◌∙◌, ⊎_elim, subst, arith, pos}
+use Rattle.std.proofs.Common.{◌≡◌, ℕ, ◌+◌, ◌-◌, ◌<◌, ◌≤◌, ◌⊎◌, ◌↔◌, List, [], ◌∷◌, ◌++◌, length, take, drop, get_or, Bool, true, false, Option, None, inl, inr, sym, refl, ap, ◌∙◌, ⊎_elim, subst, arith, pos}
 use Rattle.std.specs.List.{All}
 use Rattle.std.specs.Bool.{MatchBool, IsTrue}
 use Rattle.std.proofs.Math.Nat.{eq-or-lt_of_le}
@@ -10,7 +10,7 @@ use Rattle.ring_layout.specs.History.{span}
 use Rattle.ring_layout.specs.Places.{end_after}
 use Rattle.ring_judge.specs.declared.ring.Fate.TheVariants.{Open}
 use Rattle.ring_judge.specs.declared.ring.RingClaim.{RingClaim}
-use Rattle.ring_judge.specs.Ring.{RingState, CanReach, CanRefuse, IsFull, end_of_claim, end_of_claims}
+use Rattle.ring_judge.specs.Ring.{RingState, CanRefuse, IsFull, end_of_claim, end_of_claims}
 use Rattle.ring_judge.specs.Judged.{AreLeastHeads, FindsHead, IsLeastHead}
 use Rattle.ring_judge.proofs.HeadLemmas.{end_append}
 

@@ -140,7 +140,12 @@ impl Judged {
             return is_full_at(self.capacity, self.start, self.start, len);
         }
         match self.heads[count - 1] {
-            Some(head) => is_full_at(self.capacity, end_of_claim(&self.claims[count - 1]), head, len),
+            Some(head) => is_full_at(
+                self.capacity,
+                end_of_claim(&self.claims[count - 1]),
+                head,
+                len,
+            ),
             None => false,
         }
     }

@@ -1,10 +1,8 @@
-use Rattle.std.proofs.Common.{◌≡◌, ◌≤◌, ◌<◌, ◌+◌, ◌∷◌, ◌∙◌, ap, sym, get_or, drop, length, arith, subst, false}
-use Rattle.std.proofs.lemmas.List.{drop_more}
+use Rattle.std.proofs.Common.{◌≡◌, ◌∙◌, sym, length, arith, subst, false}
 use Rattle.std.proofs.lemmas.Bool.{ltb-false}
-use Rattle.ring_judge.specs.declared.ring.RingClaim.{RingClaim}
-use Rattle.ring_judge.specs.Ring.{end_of_claim, is_open}
+use Rattle.ring_judge.specs.Ring.{is_open}
 use Rattle.ring_judge.specs.Judged.{IsBehind, IsLeastHead}
-use Rattle.ring_judge.proofs.HeadLemmas.{AreBehind, first_kept, not_behind, least_at_start, least_at_place, least_at_end, none_at_end, none_at_open}
+use Rattle.ring_judge.proofs.HeadLemmas.{first_kept, not_behind, least_at_start, least_at_place, least_at_end, none_at_end, none_at_open}
 use Rattle.ring_judge.proofs.ring.heads.least_head.Goals as goal
 
 pub returns-then-tail-start : goal.returns-then-tail-start

@@ -1,9 +1,8 @@
-use Rattle.std.proofs.Common.{◌≡◌, ℕ, List, get_or, sym, subst, ◌∙◌, ◌+◌}
+use Rattle.std.proofs.Common.{ℕ, get_or, sym, subst, ◌∙◌, ◌+◌}
 use Rattle.std.proofs.lemmas.Bool.{MatchBool-at_true, MatchBool-at_false}
-use Rattle.ring_judge.specs.declared.ring.RingLine.{RingLine}
-use Rattle.ring_judge.specs.Ring.{RingState, Allows, after}
+use Rattle.ring_judge.specs.Ring.{Allows}
 use Rattle.ring_judge.specs.Judged.{state_of}
-use Rattle.ring_judge.proofs.StepLemmas.{AreRecorded, one_more, all_recorded, first_refused, past}
+use Rattle.ring_judge.proofs.StepLemmas.{AreRecorded, one_more, first_refused, past}
 use Rattle.ring_judge.proofs.ring.judge.judge_ring.Goals as goal
 
 pub returns-then-not-branch : goal.returns-then-not-branch

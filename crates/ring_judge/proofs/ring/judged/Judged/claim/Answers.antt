@@ -1,10 +1,10 @@
-use Rattle.std.proofs.Common.{◌≡◌, ◌≤◌, ◌+◌, ◌∙◌, ◌∷◌, ◌++◌, [], List, ℕ, Option, ap, refl, sym, arith, take, drop, length, subst}
+use Rattle.std.proofs.Common.{◌≡◌, ◌≤◌, ◌∙◌, ◌∷◌, ◌++◌, [], List, ℕ, Option, ap, refl, sym, arith, take, drop, length, subst}
 use Rattle.std.proofs.lemmas.List.{drop-append-le, length-append}
 use Rattle.std.specs.List.{All}
 use Rattle.std.specs.Option.{MatchOption}
 use Rattle.std.proofs.lemmas.List.Elements.{All-push}
 use Rattle.ring_judge.specs.declared.ring.RingClaim.{RingClaim}
-use Rattle.ring_judge.specs.Ring.{RingState, first_open, end_of_claim, end_of_claims}
+use Rattle.ring_judge.specs.Ring.{first_open, end_of_claim, end_of_claims}
 use Rattle.ring_judge.specs.Judged.{AreInOrder, AreLeastHeads, AreWithin, FindsHead, IsBehind}
 use Rattle.ring_layout.specs.Lists.{or_else}
 use Rattle.ring_layout.specs.Places.{max_position}
@@ -26,8 +26,12 @@ returns c = let its = c.args.self.now in let claim = c.args.claim.now in let ite
       allowed = can;
       judged = record {
         power = c.requires.power;
-        passed = omega (arith, c.requires.passed, length-append items (claim ∷ []),
-            ap length c.in_ok-push.ensures.items);
+        passed = omega (
+          arith,
+          c.requires.passed,
+          length-append items (claim ∷ []),
+          ap length c.in_ok-push.ensures.items,
+        );
         start = c.requires.start;
         head = c.requires.head;
         tail = ap (end_of_claims its.start) more ∙ (end_append its.start items claim ∙ sym end);

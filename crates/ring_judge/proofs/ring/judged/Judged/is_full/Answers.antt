@@ -1,9 +1,7 @@
-use Rattle.std.proofs.Common.{◌≡◌, ◌≤◌, ◌<◌, ◌+◌, ◌-◌, ◌∙◌, ℕ, List, Option, Some, None, ap, sym, get_or, take, length, arith, subst}
-use Rattle.std.specs.Option.{MatchOption}
+use Rattle.std.proofs.Common.{◌≡◌, ◌≤◌, ◌<◌, ◌+◌, ◌-◌, ◌∙◌, ℕ, Option, Some, None, ap, sym, get_or, take, length, arith, subst}
 use Rattle.std.proofs.lemmas.List.{get_or_default}
 use Rattle.std.proofs.lemmas.List.Elements.{All-take}
 use Rattle.ring_layout.specs.Places.{max_position}
-use Rattle.ring_judge.specs.declared.ring.RingClaim.{RingClaim}
 use Rattle.ring_judge.specs.declared.ring.judged.Judged.{Judged}
 use Rattle.ring_judge.specs.Ring.{IsFull, end_of_claim, end_of_claims}
 use Rattle.ring_judge.specs.Judged.{FindsHead, IsJudged, IsLeastHead}

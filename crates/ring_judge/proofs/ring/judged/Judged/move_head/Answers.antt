@@ -1,8 +1,8 @@
-use Rattle.std.proofs.Common.{◌≡◌, ◌≤◌, ◌∙◌, ◌∷◌, [], List, ℕ, ap, refl, sym, arith, drop, length, subst}
+use Rattle.std.proofs.Common.{◌≤◌, ◌∙◌, List, ap, refl, sym, drop, subst}
 use Rattle.std.proofs.lemmas.List.Elements.{All-drop}
 use Rattle.ring_layout.specs.Places.{max_position}
 use Rattle.ring_judge.specs.declared.ring.RingClaim.{RingClaim}
-use Rattle.ring_judge.specs.Ring.{RingState, IsHead, claims_from, end_of_claim, first_open}
+use Rattle.ring_judge.specs.Ring.{end_of_claim, first_open}
 use Rattle.ring_judge.specs.Judged.{IsMove}
 use Rattle.ring_judge.proofs.ClaimLemmas.{first_open-claims_from, head_within}
 use Rattle.ring_judge.proofs.ring.judged.Judged.move_head.Goals as goal

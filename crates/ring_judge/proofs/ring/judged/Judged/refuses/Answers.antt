@@ -1,8 +1,7 @@
-use Rattle.std.proofs.Common.{◌≡◌, ◌<◌, ◌-◌, ◌∙◌, ℕ, ap, refl, sym, get_or, subst, arith, length}
+use Rattle.std.proofs.Common.{◌≡◌, ◌<◌, ◌-◌, ◌∙◌, ap, refl, sym, get_or, arith, length}
 use Rattle.std.proofs.lemmas.Bool.{iff_false, leb-true}
 use Rattle.std.proofs.lemmas.List.{get_or_default}
 use Rattle.ring_judge.specs.declared.ring.RingClaim.{RingClaim}
-use Rattle.ring_judge.specs.Ring.{CanRefuse}
 use Rattle.ring_judge.specs.Judged.{state_of}
 use Rattle.ring_judge.proofs.RefusalLemmas.{answered, never_full, not_full_more}
 use Rattle.ring_judge.proofs.ring.judged.Judged.refuses.Goals as goal
@@ -12,7 +11,7 @@ pub returns : goal.returns
 returns c = let its = c.args.self.now in let s = state_of its in let count = c.loop-count.count in
     let own : (d : RingClaim) → 0 < count → (get_or its.claims.items (count - 1) d).producer ≡ c.args.producer =
     λ d some. elim c.loop-count-test.branch [
-      then-loop-count-test+else-index-producer w ↦ let lt : count - 1 < length its.claims.items = omega (arith, some) in
+      | then-loop-count-test+else-index-producer w ↦ let lt : count - 1 < length its.claims.items = omega (arith, some) in
           let at = get_or_default its.claims.items (count - 1) d w.index.result.now lt in
           ap (λ (x : RingClaim). x.producer) (at ∙ sym w.index.ensures) ∙ w.if-index-producer.false
       | else-loop-count-test w ↦ absurd (omega (arith, some))

@@ -1,8 +1,8 @@
-use Rattle.std.proofs.Common.{◌≡◌, ◌≤◌, ◌+◌, ◌∙◌, ◌∷◌, [], List, ℕ, ap, refl, sym, arith, drop, length, subst, get_or, ◌<◌}
+use Rattle.std.proofs.Common.{◌≡◌, ◌≤◌, ◌+◌, ◌∙◌, List, ap, refl, sym, arith, drop, length, subst, get_or, ◌<◌}
 use Rattle.ring_judge.specs.declared.ring.RingClaim.{RingClaim}
 use Rattle.std.proofs.lemmas.List.Elements.{All-get_or}
 use Rattle.ring_layout.specs.Places.{max_position}
-use Rattle.ring_judge.specs.Ring.{RingState, Shows, end_of_claim, first_open, passed, unaborted}
+use Rattle.ring_judge.specs.Ring.{Shows, end_of_claim, first_open, passed, unaborted}
 use Rattle.ring_judge.specs.Judged.{state_of}
 use Rattle.ring_judge.proofs.ClaimLemmas.{first_left, first_open-shown, first_open-unaborted}
 use Rattle.ring_judge.proofs.ring.judged.Judged.show.Goals as goal
