@@ -25,10 +25,23 @@ A run is a text. Its first line says what was recorded. A line that is empty or 
   lapped R COUNT         receiver R was lapped, COUNT times by now
   empty R                the transmitter had returned, and receiver R found nothing more
 
-Numbers are decimal. P and R are at most 65535. Other numbers are at most 18446744073709551615. The lines of one
-producer or receiver are in the order of its calls. The lines of the consumer are in the order in which messages were
-shown. The lines of different threads may be in any order. For example, a file may have one thread's lines after
-another's.
+  ring CAPACITY [START]             the run is of a ring of CAPACITY bytes, whose positions begin at START
+  committed P AT TYPE LENGTH [BODY] producer P claimed room for a message at the position AT, and committed it
+  aborted P AT TYPE LENGTH          producer P claimed room at AT, and aborted the claim
+  open P AT TYPE LENGTH             producer P claimed room at AT, and neither committed nor aborted the claim
+  full P LENGTH                     producer P was refused a message of LENGTH bytes, since the ring had no room
+  got AT TYPE LENGTH [BODY]         the consumer was shown the message at AT; AT is - if the consumer does not know it
+  head AT                           a read had returned, and the head was at AT
+  empty                             all producers had returned, and the consumer found nothing more
+  positions HEAD TAIL               all threads had ended, and the head and the tail were at these positions
+
+Numbers are decimal. P and R are at most 65535. A TYPE is at most 2147483647, a LENGTH at most 4294967295, and a
+CAPACITY is a power of two from 128 to 1073741824. Other numbers are at most 18446744073709551615. A position is a
+number of bytes. It only rises, and does not start again at the end of the buffer.
+
+The lines of one producer or receiver are in the order of its calls. The lines of the consumer are in the order in which
+messages were shown. The lines of different threads may be in any order. For example, a file may have one thread's lines
+after another's.
 
 The verdict on a queue is yes if there is an order of the accepted messages that explains the run. In this order the
 messages of each producer are in the order of its calls. The order begins with the messages that were shown. If there is
@@ -42,6 +55,18 @@ The verdict on a broadcast buffer is yes if the lines of each receiver keep thes
   - No message was left for the receiver at its lines `empty`.
 
 Otherwise the verdict is no, with the first line of a receiver that breaks these rules.
+
+The verdict on a ring is yes if the lines keep these rules:
+
+  - Each claim begins at the end of the claim before it, or after padding up to the end of the buffer if its record
+    would cross this end. No claim takes the room of an open claim.
+  - At some time between the claims of the producer before and after a refusal, the ring can have been full.
+  - The messages that were shown are those of the committed claims, in the order of their positions. The consumer passes
+    aborted claims and padding, and never an open claim. No message is left at a line `empty`.
+  - The head is where the consumer can have moved it, and the tail is at the end of the last claim.
+
+Otherwise the verdict is no, with the first line that breaks these rules. Claims are judged in the order of their
+positions, and then the lines of the consumer are judged.
 
 The status is 0 for a yes and 1 for a no. It is 2 if the command line was refused, the file cannot be read, or the file
 is not a run.";
