@@ -643,7 +643,7 @@ int32_t felter_poll(felter_client *client, uint64_t correlation, int32_t *kind, 
  * A mapped file survives the death of the process, but not a crash of the machine. Call msync to write the file to the
  * disk.
  *
- * The calls that make or free such a structure take a lock for a moment, as malloc does. All other calls take none.
+ * While such a structure exists, a call that requests or frees memory may take a lock for a moment, as malloc does.
  *
  * These calls write how many bytes of memory a ring of either kind, a board and counters need. Codes:
  * FELTER_BAD_CAPACITY, and FELTER_BAD_COUNT for counters. */
