@@ -107,8 +107,8 @@ module _ (C start : ℕ) (words : List ℕ) (homes : List (Option ℕ)) (views :
         let at_home : get_elem? homes (index C (place + 8 + off)) ≡ some (some home.0) =
         ap (get_elem? homes) slot ∙ home.1 in
         read_at slots (index C (place + 8 + off)) home.0 (image.home (index C (place + 8 + off)) home.0 at_home)
-        ∙ s.exact x.1 (claim_of_view k x there done) (reads_from C start words homes views r s place from_head) off home.0
-        off8 less at_home
+        ∙ s.exact x.1 (claim_of_view k x there done) (reads_from C start words homes views r s place from_head) off
+        home.0 off8 less at_home
 
     -- what a seat has out of its own claims is not settled
     not_own : (id : ℕ) (v : View) (m : PlacedMessage) → get_elem? views id ≡ some v → IsOwnOut v m
@@ -125,7 +125,8 @@ module _ (C start : ℕ) (words : List ℕ) (homes : List (Option ℕ)) (views :
     none_but id v m at consumes out other j u m' there' out' same = ⊎_elim
         (λ (bare : u.out ≡ []). no_out m' u.out bare out')
         (λ (t : (m'' : PlacedMessage) × (u.out ≡ m'' ∷ []) × (IsOwnOut u m'' ⊎ IsGotOut u m'')).
-        let place : t.0.place ≡ x.1.place = ap (λ (z : PlacedMessage). z.place) (one_out t.0 m' u.out t.1 out') ∙ same in
+        let place : t.0.place ≡ x.1.place =
+        ap (λ (z : PlacedMessage). z.place) (one_out t.0 m' u.out t.1 out') ∙ same in
         ⊎_elim
         (λ (o : IsOwnOut u t.0). not_own j u t.0 there' o place)
         (λ (o : IsGotOut u t.0).

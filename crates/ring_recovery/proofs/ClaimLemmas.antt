@@ -73,7 +73,8 @@ module _ (C tail cleared : ℕ) (slots words : List ℕ) (e : ℕ) (c : StagedCl
       end_below
 
   -- a word of the claim is as it shows, or 0 below the point
-  pub word_here : (p : ℕ) → p % 8 ≡ 0 → e ≤ p → p < claim_end c → cleared ≤ p → word C words p ≡ staged_word elsewhere c p
+  pub word_here : (p : ℕ) → p % 8 ≡ 0 → e ≤ p → p < claim_end c → cleared ≤ p
+      → word C words p ≡ staged_word elsewhere c p
   word_here p p8 from below high =
       a.shows p p8 from (omega (arith, below, end_below))
       ∙ cond-false _ _ _ (le-ltb p cleared high)
@@ -236,7 +237,8 @@ module _ (C tail cleared : ℕ) (slots words : List ℕ) (e : ℕ) (c : StagedCl
     where
       by_stage : cleared ≤ c.place → (t : Stage) → c.stage ≡ t
           → Gives C tail cleared slots c.place (c ∷ cs) (headers_in C words size c.place ++ hs)
-      by_stage high t is = at_stage t (at t is) (sees t is) (waits t is) (λ done. have (subst IsSettled (sym is) done) high)
+      by_stage high t is = at_stage t (at t is) (sees t is) (waits t is)
+          (λ done. have (subst IsSettled (sym is) done) high)
         where
           at : (t : Stage) → c.stage ≡ t → word C words c.place
               ≡ masked_record t (header_of (record { message = c.message; state = stage_state t }))
@@ -251,7 +253,8 @@ module _ (C tail cleared : ℕ) (slots words : List ℕ) (e : ℕ) (c : StagedCl
           waits t is = cond-false _ _ _ (le-ltb c.place cleared high) ∙ ap one_if_unsettled is
 
           at_stage : (t : Stage)
-              → word C words c.place ≡ masked_record t (header_of (record { message = c.message; state = stage_state t }))
+              → word C words c.place
+              ≡ masked_record t (header_of (record { message = c.message; state = stage_state t }))
               → seen_of cleared c ≡ shown_at t (placed_message c) → waits_of cleared c ≡ one_if_unsettled t
               → (IsSettled t → HaveBody C slots c.place c.message.body)
               → Gives C tail cleared slots c.place (c ∷ cs) (headers_in C words size c.place ++ hs)

@@ -67,7 +67,8 @@ module _ (C tail p : ℕ) (len type_id : ℤ) (w : ℕ) (h : IsHeader C tail p l
       cond-false _ _ _ (λ i. le-ltb p end le i || not (fits i))
       ∙ cond-true _ _ _ ((λ i. is_type (len_is i) (type_is i)) ∙ h.typed)
 
-  pub committed_is : (b : Bool) → (int_lt (pos 0) len && int_lt (pos 0) type_id) ≡ b → is_committed C tail p w ≡ (b && true)
+  pub committed_is : (b : Bool) → (int_lt (pos 0) len && int_lt (pos 0) type_id) ≡ b
+      → is_committed C tail p w ≡ (b && true)
   committed_is b is = λ i. (((λ j. int_lt (pos 0) (len_is j) && int_lt (pos 0) (type_is j)) ∙ is) i) && fits i
 
   pub open_is : is_open w ≡ int_lt len (pos 0)

@@ -162,7 +162,8 @@ module _ (C start : ℕ) (words slots : List ℕ) (m : Remains C start words slo
   recovered r reads =
       let read : all_placed (messages_left r) ≡ placed_committed_of left =
       ap all_placed reads.messages
-      ∙ (λ i. all_placed (messages_of C slots (sym tail_is i) (headers_between C words (sym head_is i) (sym tail_is i))))
+      ∙ (λ i. all_placed (messages_of C slots (sym tail_is i)
+      (headers_between C words (sym head_is i) (sym tail_is i))))
       ∙ messages_are in
       record {
         passed = got_cut.front;

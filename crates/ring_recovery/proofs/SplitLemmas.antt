@@ -103,13 +103,15 @@ committed_append [] ys = refl
 committed_append (x ∷ xs) ys = ap (λ l. shown_at x.stage (placed_message x) ++ l) (committed_append xs ys)
     ∙ committed_by x.stage (placed_message x) (placed_committed_of xs) (placed_committed_of ys)
 
-pub begins_committed : (xs ys : List StagedClaim) → Begins xs ys → Begins (placed_committed_of xs) (placed_committed_of ys)
+pub begins_committed : (xs ys : List StagedClaim) → Begins xs ys
+    → Begins (placed_committed_of xs) (placed_committed_of ys)
 begins_committed xs ys b = (placed_committed_of b.0, ap placed_committed_of b.1 ∙ committed_append xs b.0)
 
 pub seen_below : (k : ℕ) (front back : List StagedClaim) → AreBelow k front → seen k (front ++ back) ≡ seen k back
 seen_below k [] back low = refl
 seen_below k (c ∷ front) back low =
-    ap (λ l. l ++ seen k (front ++ back)) (cond-true _ [] (shown_at c.stage (placed_message c)) (lt-ltb c.place k low.0))
+    ap (λ l. l ++ seen k (front ++ back))
+    (cond-true _ [] (shown_at c.stage (placed_message c)) (lt-ltb c.place k low.0))
     ∙ seen_below k front back low.1
 
 pub waiting_below : (k : ℕ) (front back : List StagedClaim) → AreBelow k front

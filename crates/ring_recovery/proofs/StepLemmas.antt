@@ -91,7 +91,8 @@ module _ (C tail at : ℕ) (words slots : List ℕ) (aligned : (at % 8 ≡ 0) ×
   finds_message m some = dite (ℕ_discrete (word C words at) 0)
       (λ none. let clash : None ≡ Some m = sym (at_zero none) ∙ some in absurd cc)
       (λ there. ap (messages_of C slots tail)
-      (finds_header C words ((tail - at) / 8) ((tail - (at + 8)) / 8) at (at + 8) (word C words at) less refl refl there)
+      (finds_header C words ((tail - at) / 8) ((tail - (at + 8)) / 8) at (at + 8) (word C words at) less refl refl
+      there)
       ∙ one_more (is_committed C tail at (word C words at)) (message_at C slots at (word C words at)) m
       (messages_of C slots tail rest) (sym some ∙ is))
 
@@ -101,7 +102,8 @@ module _ (C tail at : ℕ) (words slots : List ℕ) (aligned : (at % 8 ≡ 0) ×
       (λ zero. ap (messages_of C slots tail)
       (passes_zero C words ((tail - at) / 8) ((tail - (at + 8)) / 8) at (at + 8) less refl zero))
       (λ there. ap (messages_of C slots tail)
-      (finds_header C words ((tail - at) / 8) ((tail - (at + 8)) / 8) at (at + 8) (word C words at) less refl refl there)
+      (finds_header C words ((tail - at) / 8) ((tail - (at + 8)) / 8) at (at + 8) (word C words at) less refl refl
+      there)
       ∙ no_more (is_committed C tail at (word C words at)) (message_at C slots at (word C words at))
       (messages_of C slots tail rest) (sym none ∙ is))
 

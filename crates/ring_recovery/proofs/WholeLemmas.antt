@@ -38,5 +38,6 @@ gives C tail cleared slots words e m (c ∷ cs) a have is =
     ∙ sym (split C words x (y + z) e)
     ∙ ap (λ k. headers_in C words k e) parts in
     subst (Gives C tail cleared slots e (c ∷ cs)) whole
-    (padding_gives C tail cleared slots words e c cs a (headers_in C words y c.place ++ headers_in C words z (claim_end c))
+    (padding_gives C tail cleared slots words e c cs a
+    (headers_in C words y c.place ++ headers_in C words z (claim_end c))
     (record_gives C tail cleared slots words e c cs a (headers_in C words z (claim_end c)) later have.0))

@@ -38,13 +38,13 @@ abbrev pub AreFrom : ℕ → List StagedClaim → Type 0
 AreFrom p [] = ⊤
 AreFrom p (c ∷ cs) = (p ≤ c.place) × AreFrom p cs
 
--- r was recovered from a ring with this history of all claims, whose consumer died when it knew this. The first claims,
--- `passed`, begin below the point up to which the consumer had cleared, and the others, `left`, begin there or above.
--- The messages of r are the committed ones of `left`, each whole and once, with their places and in their order. All
--- claims of `passed` were settled. The messages that the consumer took are the first committed ones of `passed`. What
--- the consumer got are the committed ones of `passed`, and then `again`, with which r begins: the consumer was shown
--- these messages, or was about to be, and had not cleared them. `open_claims` is the number of claims of `left` that were not
--- settled, and of which a header was stored. r has no message of them
+-- r was recovered from a ring with this history of all claims, whose consumer died when it knew this. The first
+-- claims, `passed`, begin below the point up to which the consumer had cleared, and the others, `left`, begin there
+-- or above. The messages of r are the committed ones of `left`, each whole and once, with their places and in their
+-- order. All claims of `passed` were settled. The messages that the consumer took are the first committed ones of
+-- `passed`. What the consumer got are the committed ones of `passed`, and then `again`, with which r begins: the
+-- consumer was shown these messages, or was about to be, and had not cleared them. `open_claims` is the number of
+-- claims of `left` that were not settled, and of which a header was stored. r has no message of them
 pub record IsRecoveredOf (hist : OwnedHistory) (consumer : ConsumerView) (r : Recovered) : Type 0 where
   pub passed : List StagedClaim
   pub left : List StagedClaim

@@ -24,7 +24,8 @@ returns-in_err-end-clause-refused c =
     refused_by _ c.from_residual.result p.0
     (sym c.loop-k.invariant.rest
     ∙ ap (headers_finding C tail c.loop-k.end) (finds_header C words n m at next w less far (search rules) some)
-    ∙ stops C tail c.loop-k.end at w (headers_in C words m next) c.check_header.result (search rules) p.0 (search rules))
+    ∙ stops C tail c.loop-k.end at w (headers_in C words m next) c.check_header.result (search rules) p.0
+    (search rules))
     p.1
 
 pub loop-k-preserved : goal.loop-k-preserved

@@ -19,7 +19,8 @@ returns-in_err-open_claims-clause-refused c = λ C ok size.
     let long : length words ≡ D / 8 + 96 = search rules in
     let same : D ≡ C = same_capacity D C (length words) c.capacity-capacity.ensures.lawful ok long size in
     let wide : length slots ≡ D / 8 = search rules in
-    let p = err_from_is_err_and c.from_residual-in_err-open_claims.result c.from_residual-in_err-open_claims.ensures.1 in
+    let p =
+    err_from_is_err_and c.from_residual-in_err-open_claims.result c.from_residual-in_err-open_claims.ensures.1 in
     let positions : positions_finding D h t ≡ None = search rules in
     let headers : headers_finding D t h (headers_between D words h t) ≡ Some p.0 = search rules in
     refused_by (finding_of C words slots) c.from_residual-in_err-open_claims.result p.0
