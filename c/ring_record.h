@@ -16,14 +16,15 @@
 #include <stdint.h>
 #include <stdio.h>
 #include <stdlib.h>
+#include <string.h>
 
 /* The kinds of lines of a log. A line says that a call of a producer was accepted, that such a call was refused, that
  * the consumer was shown a message, or that the consumer found nothing after the last calls of all producers had
  * returned. In a run of a broadcast buffer a line says that a message was transmitted, that a receiver was given a
  * copy, that a receiver was lapped, or that a receiver found nothing after the last call of the transmitter had
  * returned. In a run of a ring a line says that a producer has an open claim, committed a claim, aborted a claim, or was
- * refused a claim for lack of room, that the consumer was shown a message, or at which positions the head and the tail
- * were. */
+ * refused a claim for lack of room, that the consumer was shown a message, at which positions the head and the tail
+ * were, which value a word of the buffer had, or that all other words were 0. */
 enum ring_record_kind {
     RING_RECORD_SENT,
     RING_RECORD_REFUSED,
@@ -39,12 +40,14 @@ enum ring_record_kind {
     RING_RECORD_FULL,
     RING_RECORD_SHOWN,
     RING_RECORD_HEAD,
-    RING_RECORD_POSITIONS
+    RING_RECORD_POSITIONS,
+    RING_RECORD_WORD,
+    RING_RECORD_REST
 };
 
 /* In a line of a receiver, `producer` is the number of the receiver. In a line about a lap, `number` is how often the
  * receiver was lapped. In a run of a ring, `number` is the position of a claim or of the head, and `body` is also the
- * position of the tail. */
+ * position of the tail. `number` is also the position of a word, and `body` its value. */
 typedef struct ring_record_line {
     uint64_t number, body;
     uint32_t length;
@@ -182,6 +185,17 @@ static inline void ring_record_positions(ring_record_log *log, uint64_t head, ui
     ring_record_note(log, RING_RECORD_POSITIONS, 0, head, tail);
 }
 
+/* Notes the words of a buffer after all threads have ended, directly after ring_record_positions with this head. The
+ * buffer has `capacity` bytes. Its words are read in the byte order of the machine. */
+static inline void ring_record_words(ring_record_log *log, const void *buffer, uint32_t capacity, uint64_t head) {
+    for (uint64_t at = head; at - head < capacity; at += 8) {
+        uint64_t word;
+        memcpy(&word, (const unsigned char *)buffer + at % capacity, sizeof word);
+        if (word != 0) ring_record_note(log, RING_RECORD_WORD, 0, at, word);
+    }
+    ring_record_note(log, RING_RECORD_REST, 0, 0, 0);
+}
+
 /* Returns a checksum of these bytes: FNV-1a of 64 bits. */
 static inline uint64_t ring_record_sum(const void *bytes, size_t length) {
     const unsigned char *at = (const unsigned char *)bytes;
@@ -219,6 +233,8 @@ static inline int ring_record_write_line(FILE *file, const ring_record_line *it)
     case RING_RECORD_FULL: return fprintf(file, "full %u %" PRIu32 "\n", client, it->length);
     case RING_RECORD_HEAD: return fprintf(file, "head %" PRIu64 "\n", it->number);
     case RING_RECORD_POSITIONS: return fprintf(file, "positions %" PRIu64 " %" PRIu64 "\n", it->number, it->body);
+    case RING_RECORD_WORD: return fprintf(file, "word %" PRIu64 " %" PRIu64 "\n", it->number, it->body);
+    case RING_RECORD_REST: return fprintf(file, "rest\n");
     default: return fprintf(file, "%s %u %" PRIu64 " %" PRIu64 "\n", words[it->kind], client, it->number, it->body);
     }
 }

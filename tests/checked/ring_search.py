@@ -1,12 +1,15 @@
 """What a run of a ring is, by a search through every order of its calls. It shares nothing with the judge.
 
 A run is explained if the threads can have made their calls one after another, in some order, on a ring: each claim had
-room when it was made, each refusal was right when it was made, and the consumer passed what it was shown, aborted claims
-and padding, and never an open claim. The consumer may read more than it noted, after the last of its lines.
+room when it was made, each refusal was right when it was made, and the consumer passed what it was shown, aborted
+claims and padding, and never an open claim. The consumer may read more than it noted, after the last of its lines. The
+words are those of the ring when all producers have returned, if the head is still where the lines before noted it last.
 """
 
+# The runs that a test of faults begins with: some faults need an open claim, and words.
+RUNS = 20
 HEADER = 8
-CONSUMER = ("got", "head", "positions", "empty")
+CONSUMER = ("got", "head", "positions", "empty", "word", "rest")
 CLAIMS = ("committed", "aborted", "open")
 BIGGEST = 2**62
 
@@ -19,6 +22,25 @@ def next_place(capacity, tail, length):
     """The place of the next claim of this length after a tail."""
     room = capacity - tail % capacity
     return tail if span(length) <= room else tail + room
+
+
+def header(length, type_id):
+    """The header word with this length and type id, which are numbers of 32 bits with a sign."""
+    return (type_id % 2**32) << 32 | length % 2**32
+
+
+def headers(head, claims):
+    """Returns the header words of these claims, which come after the head, and of the padding between them, by their
+    positions, and the positions of the words of bodies."""
+    words, bodies, end = {}, set(), head
+    for place, after, fate, type_id, length, _ in claims:
+        if end < place:
+            words[end] = header(place - end, -1)
+        words[place] = {"open": header(-(HEADER + length), type_id), "committed": header(HEADER + length, type_id),
+                        "aborted": header(HEADER + length, -1)}[fate]
+        bodies |= set(range(place + 8, after, 8))
+        end = after
+    return words, bodies
 
 
 def read(text):
@@ -63,14 +85,15 @@ class Search:
         self.seen = set()
 
     def finds(self):
-        return self.can(tuple(0 for _ in self.logs), 0, [], 0, self.start)
+        return self.can(tuple(0 for _ in self.logs), 0, [], 0, self.start, self.start)
 
-    def can(self, done, noted, claims, passed, head):
-        """Tests whether the lines that are left can be, after so many of each producer and of the consumer. `claims` are
-        those that were made, of which the consumer passed so many."""
+    def can(self, done, noted, claims, passed, head, read):
+        """Tests whether the lines that are left can be, after so many of each producer and of the consumer. `claims`
+        are those that were made, of which the consumer passed so many. `read` is the head that was noted last, or the
+        position up to which words were read after that."""
         if all(count == len(log) for count, log in zip(done, self.logs)) and noted == len(self.consumer):
             return True
-        state = done, noted, tuple(claims), passed, head
+        state = done, noted, tuple(claims), passed, head, read
         if state in self.seen:
             return False
         self.seen.add(state)
@@ -79,9 +102,9 @@ class Search:
             if done[place] < len(log):
                 after = (*done[:place], done[place] + 1, *done[place + 1:])
                 made = self.made(log[done[place]], tail, head)
-                if made is not None and self.can(after, noted, claims + made, passed, head):
+                if made is not None and self.can(after, noted, claims + made, passed, head, read):
                     return True
-        return self.consumed(done, noted, claims, passed, head)
+        return self.consumed(done, noted, claims, passed, head, read)
 
     def made(self, words, tail, head):
         """Returns the claims that a producer's line makes, or None if the line cannot be now."""
@@ -98,15 +121,18 @@ class Search:
         body = int(words[5]) if len(words) > 5 else 0
         return [(place, end, words[0], int(words[3]), length, body)]
 
-    def consumed(self, done, noted, claims, passed, head):
+    def consumed(self, done, noted, claims, passed, head, read):
         """Tests whether the lines that are left can be if the consumer does something now."""
         left = claims[passed:]
-        if left and head < left[0][0] and self.can(done, noted, claims, passed, left[0][0]):
+        if noted < len(self.consumer) and self.consumer[noted][0] in ("word", "rest"):
+            return self.read_words(done, noted, claims, passed, head, read)
+        if left and head < left[0][0] and self.can(done, noted, claims, passed, left[0][0], read):
             return True
-        if left and left[0][2] == "aborted" and self.can(done, noted, claims, passed + 1, left[0][1]):
+        if left and left[0][2] == "aborted" and self.can(done, noted, claims, passed + 1, left[0][1], read):
             return True
         if noted == len(self.consumer):
-            return bool(left) and left[0][2] == "committed" and self.can(done, noted, claims, passed + 1, left[0][1])
+            is_message = bool(left) and left[0][2] == "committed"
+            return is_message and self.can(done, noted, claims, passed + 1, left[0][1], read)
         words = self.consumer[noted]
         if words[0] == "got":
             body = int(words[4]) if len(words) > 4 else 0
@@ -114,7 +140,7 @@ class Search:
                 return False
             if words[1] not in ("-", str(left[0][0])):
                 return False
-            return self.can(done, noted + 1, claims, passed + 1, left[0][1])
+            return self.can(done, noted + 1, claims, passed + 1, left[0][1], left[0][1])
         are_done = all(count == len(log) for count, log in zip(done, self.logs))
         tail = claims[-1][1] if claims else self.start
         settled = [it for it in left if it[2] != "aborted"]
@@ -124,7 +150,38 @@ class Search:
             is_right = are_done and int(words[1]) == head and int(words[2]) == tail
         else:
             is_right = are_done and (not settled or settled[0][2] == "open")
-        return is_right and self.can(done, noted + 1, claims, passed, head)
+        return is_right and self.can(done, noted + 1, claims, passed, head, read if words[0] == "empty" else head)
+
+
+    def noted_head(self, noted, claims):
+        """Returns the head that the consumer's lines before this one noted last."""
+        shown = 0
+        head = self.start
+        for words in self.consumer[:noted]:
+            if words[0] in ("head", "positions"):
+                head = int(words[1])
+            elif words[0] == "got":
+                head = [it for it in claims if it[2] == "committed"][shown][1]
+                shown += 1
+        return head
+
+    def read_words(self, done, noted, claims, passed, head, read):
+        """Tests whether the lines that are left can be if the next one notes a word, or that the other words are 0. The
+        head is where it was noted last: after it, no claim and no padding was passed."""
+        noted_head = self.noted_head(noted, claims)
+        if noted_head != head or any(count < len(log) for count, log in zip(done, self.logs)):
+            return False
+        words, end = self.consumer[noted], head + self.capacity
+        at = int(words[1]) if words[0] == "word" else end
+        known, bodies = headers(head, claims[passed:])
+        tail = claims[-1][1] if claims else self.start
+        if tail > end or at > end or at < read or any(read <= place < at for place in known):
+            return False
+        if words[0] == "word":
+            if at == end or at % 8 or at not in bodies and int(words[2]) != known.get(at, 0):
+                return False
+            at += 8
+        return self.can(done, noted + 1, claims, passed, head, at)
 
 
 def first_unexplained(text):
@@ -173,11 +230,29 @@ class Ring:
             self.lines[None].append(f"head {self.head}")
         return True
 
+    def words(self):
+        """Notes the words of the buffer. A body has any words, or none if it is elsewhere."""
+        known, bodies = headers(self.head, self.claims[self.passed:])
+        are_here = self.generator.random() < 0.7
+        for place in range(self.head, self.head + self.capacity, 8):
+            word = known.get(place, 0)
+            if place in bodies and are_here and self.generator.random() < 0.8:
+                word = self.generator.randrange(1, 2**64)
+            if word or self.generator.random() < 0.02:
+                self.lines[None].append(f"word {place} {word}")
+        self.lines[None].append("rest")
+
     def text(self):
         logs = list(self.lines.values())
         self.generator.shuffle(logs)
         start = f" {self.start}" if self.start or self.generator.random() < 0.5 else ""
         return "\n".join([f"ring {self.capacity}{start}", *sum(logs, [])]) + "\n"
+
+
+def until_open(claims):
+    """Returns the claims before the first open one."""
+    fates = [it[2] for it in claims]
+    return claims[:fates.index("open")] if "open" in fates else claims
 
 
 def right_run(generator, most=60):
@@ -190,13 +265,17 @@ def right_run(generator, most=60):
             ring.claim(generator.randrange(producers))
         else:
             ring.read_one()
-    if generator.random() < 0.3:
+    if generator.random() < 0.5:
         ring.claim(generator.randrange(producers), True)
         ring.claim(generator.randrange(producers))
-    if generator.random() < 0.7:
-        while ring.read_one():
+    if generator.random() < 0.8:
+        while generator.random() < 0.95 and ring.read_one():
             pass
-        ring.lines[None] += ["empty", f"positions {ring.head} {ring.tail}"]
+        if all(it[2] != "committed" for it in until_open(ring.claims[ring.passed:])):
+            ring.lines[None].append("empty")
+        ring.lines[None].append(f"positions {ring.head} {ring.tail}")
+        if generator.random() < 0.8:
+            ring.words()
     return ring.text()
 
 
@@ -216,7 +295,8 @@ def random_run(generator):
             other = generator.randrange(len(lines))
             lines[place], lines[other] = lines[other], lines[place]
         elif how == 3:
-            lines.insert(place, generator.choice(["", "# nothing", "empty", "full 0 8", "full 1 16", "head 0"]))
+            lines.insert(place, generator.choice(["", "# nothing", "empty", "full 0 8", "full 1 16", "head 0", "rest",
+                                                   "word 0 0", "word 16 1"]))
         else:
             change(lines, place, generator)
     return "\n".join([first, *lines]) + "\n"

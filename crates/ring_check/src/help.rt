@@ -34,6 +34,8 @@ A run is a text. Its first line says what was recorded. A line that is empty or 
   head AT                           a read had returned, and the head was at AT
   empty                             all producers had returned, and the consumer found nothing more
   positions HEAD TAIL               all threads had ended, and the head and the tail were at these positions
+  word AT VALUE                     the word of the buffer at the position AT had this value then
+  rest                              all other words of the buffer were 0 then
 
 Numbers are decimal. P and R are at most 65535. A TYPE is at most 2147483647, a LENGTH at most 4294967295, and a
 CAPACITY is a power of two from 128 to 1073741824. Other numbers are at most 18446744073709551615. A position is a
@@ -64,6 +66,7 @@ The verdict on a ring is yes if the lines keep these rules:
   - The messages that were shown are those of the committed claims, in the order of their positions. The consumer passes
     aborted claims and padding, and never an open claim. No message is left at a line `empty`.
   - The head is where the consumer can have moved it, and the tail is at the end of the last claim.
+  - The words from the head on are the headers of the claims that are left and of padding, any words of bodies, and 0.
 
 Otherwise the verdict is no, with the first line that breaks these rules. Claims are judged in the order of their
 positions, and then the lines of the consumer are judged.

@@ -1,6 +1,6 @@
 //! Why a line of a ring cannot be, in words.
 use ring_judge::{Fate, Judged, RingClaim, RingCopy, RingLine};
-use ring_layout::{is_length, is_position, is_type_id, max_message, place_record};
+use ring_layout::{is_length, is_position, is_type_id, max_message, place_record, span};
 use std::alloc::{AllocError, Global};
 
 /// Why the claim cannot be the next one of the ring.
@@ -118,6 +118,48 @@ fn empty(alloc: Global, ring: &Judged) -> Result<String, AllocError> {
     }
 }
 
+/// The first position from `read` on at which a header of padding or of a claim is, before the position `to`, with the
+/// words for what is there.
+fn first_header(ring: &Judged, to: u64) -> Option<(u64, &'static str)> {
+    let mut end = ring.head;
+    for (at, claim) in ring.claims.iter().enumerate() {
+        if at >= ring.passed {
+            if end < claim.place && ring.read <= end && end < to {
+                return Some((end, "padding"));
+            }
+            if ring.read <= claim.place && claim.place < to {
+                return Some((claim.place, "a claim"));
+            }
+            end = claim.place.saturating_add(span(claim.length as usize));
+        }
+    }
+    None
+}
+
+/// Why the word at this position cannot have its value, or a word before it cannot be 0.
+fn word(alloc: Global, ring: &Judged, at: u64) -> Result<String, AllocError> {
+    let Judged {
+        head,
+        read,
+        tail,
+        ..
+    } = ring;
+    let end = head.saturating_add(u64::from(ring.capacity));
+    if *tail > end {
+        return format!(in alloc; "the tail is more than the capacity after the head");
+    }
+    if at < *read || at > end {
+        return format!(in alloc; "the words that are left are from {read} to {end}");
+    }
+    if let Some((place, what)) = first_header(ring, at) {
+        return format!(in alloc; "the word at {place} is the header of {what}, and not 0");
+    }
+    match first_header(ring, at.saturating_add(1)) {
+        Some((_, what)) => format!(in alloc; "the header of {what} has another value"),
+        None => format!(in alloc; "the word at {at} is 0"),
+    }
+}
+
 /// Returns the reason why a line cannot be the next one of this ring.
 pub fn reason(alloc: Global, ring: &Judged, line: &RingLine) -> Result<String, AllocError> {
     match line {
@@ -126,6 +168,11 @@ pub fn reason(alloc: Global, ring: &Judged, line: &RingLine) -> Result<String, A
         RingLine::Got(RingCopy { .. }) => got(alloc, ring),
         RingLine::Head(_) => head(alloc, ring),
         RingLine::Positions(its_head, its_tail) => positions(alloc, ring, *its_head, *its_tail),
+        RingLine::Word(at, _) => word(alloc, ring, *at),
+        RingLine::Rest => {
+            let end = ring.head.saturating_add(u64::from(ring.capacity));
+            word(alloc, ring, end)
+        }
         RingLine::Empty | RingLine::Blank => empty(alloc, ring),
     }
 }

@@ -1,5 +1,5 @@
 -- The claims that the consumer passes.
-use Rattle.std.proofs.Common.{◌≡◌, ℕ, ◌+◌, ◌<◌, ◌≤◌, List, [], ◌∷◌, ◌++◌, length, drop, get_or, true, false, sym, refl, ap, ◌∙◌, ⊎_elim, arith, nat_le, Some, None, Option}
+use Rattle.std.proofs.Common.{◌≡◌, ℕ, ◌+◌, ◌<◌, ◌≤◌, List, [], ◌∷◌, ◌++◌, length, drop, get_or, true, false, sym, refl, ap, ◌∙◌, ⊎_elim, subst, arith, nat_le, Some, None, Option}
 use Rattle.std.specs.List.{All}
 use Rattle.std.specs.Option.{MatchOption}
 use Rattle.std.proofs.lemmas.List.{drop_more}
@@ -10,7 +10,8 @@ use Rattle.ring_judge.specs.declared.ring.Fate.{Fate}
 use Rattle.ring_judge.specs.declared.ring.Fate.TheVariants.{Open, Committed, Aborted}
 use Rattle.ring_judge.specs.declared.ring.RingClaim.{RingClaim}
 use Rattle.ring_judge.specs.declared.ring.RingCopy.{RingCopy}
-use Rattle.ring_judge.specs.Ring.{IsCopyOf, unaborted, is_aborted, is_open, first_open, IsHead, claims_from, end_of_claim}
+use Rattle.ring_judge.specs.Ring.{IsCopyOf, unaborted, is_aborted, is_open, first_open, IsHead, claims_from, end_of_claim, end_of_claims}
+use Rattle.ring_judge.specs.Judged.{AreInOrder, IsCursor}
 
 aborted_is_settled : (f : Fate) → is_aborted f ≡ true → is_open f ≡ false
 aborted_is_settled Open e = cc
@@ -82,3 +83,61 @@ pub first_within : (most : ℕ) (blocked : Option ℕ) (c : RingClaim)
 first_within most (Some place) c within le = within
 first_within most None c within le = cond_both (is_open c.fate) (Some c.place) None
     (λ (o : Option ℕ). MatchOption o (Unit {0}) (λ place. place ≤ most)) (λ _. le) (λ _. tt)
+
+-- ---- order and ends, after claims were passed
+
+pub order-unaborted : (C head : ℕ) (left : List RingClaim) (c : RingClaim) (rest : List RingClaim)
+    → unaborted left ≡ c ∷ rest → AreInOrder C head left → AreInOrder C (end_of_claim c) rest
+order-unaborted C head [] c rest e order = absurd (cc)
+order-unaborted C head (d ∷ left) c rest e order = ⊎_elim
+    (λ is. order-unaborted C (end_of_claim d) left c rest
+    (sym (cond-true (is_aborted d.fate) (unaborted left) (d ∷ left) is) ∙ e) order.2)
+    (λ is. let same : d ∷ left ≡ c ∷ rest = sym (cond-false (is_aborted d.fate) (unaborted left) (d ∷ left) is) ∙ e in
+    let its : AreInOrder C head (c ∷ rest) = subst (AreInOrder C head) same order in its.2)
+    (cases_Bool (is_aborted d.fate))
+
+pub end-unaborted : (head : ℕ) (left : List RingClaim) (c : RingClaim) (rest : List RingClaim)
+    → unaborted left ≡ c ∷ rest → end_of_claims (end_of_claim c) rest ≡ end_of_claims head left
+end-unaborted head [] c rest e = absurd (cc)
+end-unaborted head (d ∷ left) c rest e = ⊎_elim
+    (λ is. end-unaborted (end_of_claim d) left c rest
+    (sym (cond-true (is_aborted d.fate) (unaborted left) (d ∷ left) is) ∙ e))
+    (λ is. let same : d ∷ left ≡ c ∷ rest = sym (cond-false (is_aborted d.fate) (unaborted left) (d ∷ left) is) ∙ e in
+    sym (ap (end_of_claims head) same))
+    (cases_Bool (is_aborted d.fate))
+
+pub order-claims_from : (C at head : ℕ) (left : List RingClaim) → IsHead at head left → AreInOrder C head left
+    → AreInOrder C at (claims_from at left)
+order-claims_from C at head [] is order = tt
+order-claims_from C at head (c ∷ left) is order = ⊎_elim
+    (λ e. let kept : c ∷ left ≡ claims_from at (c ∷ left) =
+    sym (cond-true (nat_le at c.place) (c ∷ left) (claims_from at left) e) in
+    subst (AreInOrder C at) kept (⊎_elim
+    (λ same. subst (λ (n : ℕ). AreInOrder C n (c ∷ left)) (sym same) order)
+    (λ same. (omega (arith, same), omega (arith, same), order.2)) (MatchBool-at_true _ _ e is)))
+    (λ e. let past = MatchBool-at_false _ _ e is in
+    let gone : claims_from at left ≡ claims_from at (c ∷ left) =
+    sym (cond-false (nat_le at c.place) (c ∷ left) (claims_from at left) e) in
+    subst (AreInOrder C at) gone (order-claims_from C at (end_of_claim c) left past.1 order.2))
+    (cases_Bool (nat_le at c.place))
+
+pub end-claims_from : (at head : ℕ) (left : List RingClaim) → IsHead at head left
+    → end_of_claims at (claims_from at left) ≡ end_of_claims head left
+end-claims_from at head [] is = is
+end-claims_from at head (c ∷ left) is = ⊎_elim
+    (λ e. ap (end_of_claims at) (cond-true (nat_le at c.place) (c ∷ left) (claims_from at left) e))
+    (λ e. let past = MatchBool-at_false _ _ e is in
+    ap (end_of_claims at) (cond-false (nat_le at c.place) (c ∷ left) (claims_from at left) e)
+    ∙ end-claims_from at (end_of_claim c) left past.1) (cases_Bool (nat_le at c.place))
+
+-- ---- the cursor at the head
+
+pub cursor_at_head : (C head passed : ℕ) (claims : List RingClaim) → passed ≤ length claims
+    → AreInOrder C head (drop passed claims)
+    → IsCursor C head head (drop passed claims) claims record { claim = passed; end = head }
+cursor_at_head C head passed claims within order = record {
+  within = within;
+  order = order;
+  behind = omega arith;
+  same = λ p v le. (λ is. is, λ is. is);
+}

@@ -6,7 +6,7 @@ use Rattle.std.proofs.lemmas.List.{drop_more, drop_all}
 use Rattle.std.proofs.lemmas.List.Elements.{All-head, All-tail}
 use Rattle.ring_layout.specs.History.{span}
 use Rattle.ring_layout.specs.Places.{next_place}
-use Rattle.ring_layout.proofs.PlaceLemmas.{next_le}
+use Rattle.ring_layout.proofs.PlaceLemmas.{next_cases, next_le}
 use Rattle.ring_judge.specs.declared.ring.RingClaim.{RingClaim}
 use Rattle.ring_judge.specs.Ring.{CanReach, is_open, end_of_claim, end_of_claims}
 use Rattle.ring_judge.specs.Judged.{AreInOrder, IsBehind, IsLeastHead}
@@ -38,21 +38,23 @@ reach_within most at head (c ∷ left) can le within =
     (All-tail (λ x. end_of_claim x ≤ most) c left within)) beyond) can
 
 -- the head never goes back
-pub reach_above : (at head : ℕ) (left : List RingClaim) → AreInOrder head left → CanReach at head left → head ≤ at
-reach_above at head [] order can = omega (arith, can)
-reach_above at head (c ∷ left) order can = ⊎_elim (λ same. omega (arith, same))
+pub reach_above : (C at head : ℕ) (left : List RingClaim) → AreInOrder C head left → CanReach at head left → head ≤ at
+reach_above C at head [] order can = omega (arith, can)
+reach_above C at head (c ∷ left) order can = ⊎_elim (λ same. omega (arith, same))
     (λ beyond. ⊎_elim (λ same. omega (arith, same, order.0))
-    (λ past. let above = reach_above at (end_of_claim c) left order.1 past.1 in omega (arith, above, order.0)) beyond) can
+    (λ past. let above = reach_above C at (end_of_claim c) left order.2 past.1 in omega (arith, above, order.0)) beyond)
+    can
 
-order_from : (n head : ℕ) (left : List RingClaim) → AreInOrder head left → (e : ℕ) × AreInOrder e (drop n left)
-order_from zero head left order = (head, order)
-order_from (suc n) head [] order = (head, order)
-order_from (suc n) head (c ∷ left) order = order_from n (end_of_claim c) left order.1
+order_from : (C n head : ℕ) (left : List RingClaim) → AreInOrder C head left → (e : ℕ) × AreInOrder C e (drop n left)
+order_from C zero head left order = (head, order)
+order_from C (suc n) head [] order = (head, order)
+order_from C (suc n) head (c ∷ left) order = order_from C n (end_of_claim c) left order.2
 
-pub order_append : (head : ℕ) (left : List RingClaim) (c : RingClaim) → AreInOrder head left
-    → end_of_claims head left ≤ c.place → AreInOrder head (left ++ c ∷ [])
-order_append head [] c order le = (le, tt)
-order_append head (d ∷ left) c order le = (order.0, order_append (end_of_claim d) left c order.1 le)
+pub order_append : (C head : ℕ) (left : List RingClaim) (c : RingClaim) → AreInOrder C head left
+    → end_of_claims head left ≤ c.place → c.place ≤ end_of_claims head left + C → AreInOrder C head (left ++ c ∷ [])
+order_append C head [] c order le most = (le, most, tt)
+order_append C head (d ∷ left) c order le most =
+    (order.0, order.1, order_append C (end_of_claim d) left c order.2 le most)
 
 pub end_append : (head : ℕ) (left : List RingClaim) (c : RingClaim)
     → end_of_claims head (left ++ c ∷ []) ≡ end_of_claim c
@@ -83,7 +85,7 @@ added C tail at (suc n) (c ∷ left) behind beyond = inr (
 
 -- the claims before the index `low` are behind, and the start too
 pub record AreBehind (C start tail low : ℕ) (claims : List RingClaim) : Type 0 where
-  pub order : AreInOrder start claims
+  pub order : AreInOrder C start claims
   pub start_behind : start + C < tail
   pub behind : All (IsBehind C tail) (take low claims)
 
@@ -115,9 +117,9 @@ to_claim C start tail low at claims c are is beyond = reach_beyond at start clai
 above_claim : (C start tail low at : ℕ) (claims : List RingClaim) (c : RingClaim) → AreBehind C start tail low claims
     → drop low claims ≡ c ∷ drop (low + 1) claims → CanReach at (end_of_claim c) (drop (low + 1) claims)
     → end_of_claim c ≤ at
-above_claim C start tail low at claims c are is can = let o = order_from low start claims are.order in
-    let order : AreInOrder o.0 (c ∷ drop (low + 1) claims) = subst (AreInOrder o.0) is o.1 in
-    reach_above at (end_of_claim c) (drop (low + 1) claims) order.1 can
+above_claim C start tail low at claims c are is can = let o = order_from C low start claims are.order in
+    let order : AreInOrder C o.0 (c ∷ drop (low + 1) claims) = subst (AreInOrder C o.0) is o.1 in
+    reach_above C at (end_of_claim c) (drop (low + 1) claims) order.2 can
 
 pub none_at_open : (C start tail low at : ℕ) (claims : List RingClaim) (c : RingClaim)
     → AreBehind C start tail low claims → drop low claims ≡ c ∷ drop (low + 1) claims → is_open c.fate ≡ true
@@ -126,12 +128,12 @@ none_at_open C start tail low at claims c are is opened far can room = ⊎_elim
     (λ same. omega (arith, same, far, room)) (λ past. let settled = past.0 in absurd (cc (settled, opened)))
     (from_claim C start tail low at claims c are is can room)
 
-pub least_at_start : (C start tail : ℕ) (claims : List RingClaim) → AreInOrder start claims → tail ≤ start + C
+pub least_at_start : (C start tail : ℕ) (claims : List RingClaim) → AreInOrder C start claims → tail ≤ start + C
     → IsLeastHead C start tail claims start
 least_at_start C start tail claims order room = record {
   reached = reach_here start claims;
   had_room = room;
-  least = λ at can _. reach_above at start claims order can;
+  least = λ at can _. reach_above C at start claims order can;
 }
 
 pub least_at_place : (C start tail low : ℕ) (claims : List RingClaim) (c : RingClaim)
@@ -166,9 +168,12 @@ pub not_behind : (C tail : ℕ) (c : RingClaim) → is_open c.fate ≡ false →
 not_behind C tail c settled kept = ⊎_elim (λ lt. absurd (kept record { settled = settled; no_room = lt }))
     (λ le. le) (cases_lt (end_of_claim c + C) tail)
 
+next_most : (C e a : ℕ) → next_place C e a ≤ e + C
+next_most C e a = ⊎_elim (λ here. omega (arith, here.1)) (λ there. omega (arith, there.1)) (next_cases C e a)
+
 -- the next claim comes after those before it
-pub next_in_order : (C start : ℕ) (claims : List RingClaim) (c : RingClaim) → AreInOrder start claims
-    → c.place ≡ next_place C (end_of_claims start claims) (span c.length)
-    → AreInOrder start (claims ++ c ∷ [])
-next_in_order C start claims c order place = order_append start claims c order
-    (omega (arith, place, next_le C (end_of_claims start claims) (span c.length)))
+pub next_in_order : (C start : ℕ) (claims : List RingClaim) (c : RingClaim) → AreInOrder C start claims
+    → c.place ≡ next_place C (end_of_claims start claims) (span c.length) → AreInOrder C start (claims ++ c ∷ [])
+next_in_order C start claims c order place = let tail = end_of_claims start claims in
+    order_append C start claims c order (omega (arith, place, next_le C tail (span c.length)))
+    (omega (arith, place, next_most C tail (span c.length)))

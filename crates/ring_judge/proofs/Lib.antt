@@ -9,3 +9,4 @@ pub mod ClaimLemmas
 pub mod StepLemmas
 pub mod HeadLemmas
 pub mod RefusalLemmas
+pub mod WordLemmas

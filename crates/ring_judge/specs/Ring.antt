@@ -1,27 +1,29 @@
 -- What a recorded run of a ring says, and which runs a ring can have. C is the capacity.
-use Rattle.std.specs.Prelude.{◌≡◌, ℕ, ◌+◌, ◌/◌, ◌<◌, ◌≤◌, ◌⊎◌, ◌≤ℤ◌, pos, List, [], ◌∷◌, ◌++◌, Option, Some, None, MatchOption, Bool, true, false, nat_le, if◌then◌else◌, MatchBool, All, take, drop, length}
+use Rattle.std.specs.Prelude.{◌≡◌, ℕ, ◌+◌, ◌-◌, ◌/◌, ◌%◌, ◌<◌, ◌≤◌, ◌==◌, ◌⊎◌, ◌≤ℤ◌, pos, List, [], ◌∷◌, ◌++◌, Option, Some, None, MatchOption, Bool, true, false, nat_le, nat_lt, if◌then◌else◌, MatchBool, All, take, drop, length}
 use Rattle.ring_layout.specs.History.{span}
+use Rattle.ring_layout.specs.Headers.{aborted_header, committed_header, open_header, padding_header}
 use Rattle.ring_layout.specs.Places.{next_place, end_after, max_position}
 use Rattle.ring_judge.specs.declared.ring.Fate.{Fate}
 use Rattle.ring_judge.specs.declared.ring.Fate.TheVariants.{Open, Committed, Aborted}
 use Rattle.ring_judge.specs.declared.ring.RingClaim.{RingClaim}
 use Rattle.ring_judge.specs.declared.ring.RingCopy.{RingCopy}
 use Rattle.ring_judge.specs.declared.ring.RingLine.{RingLine}
-use Rattle.ring_judge.specs.declared.ring.RingLine.TheVariants.{Claimed, Full, Got, Head, Positions, Empty, Blank}
+use Rattle.ring_judge.specs.declared.ring.RingLine.TheVariants.{Claimed, Full, Got, Head, Positions, Word, Rest, Empty, Blank}
 use Rattle.ring_judge.specs.declared.verdict.Verdict.{Verdict}
 use Rattle.ring_judge.specs.Verdicts.{IsRightVerdict}
 
--- A ring between two calls: the position at which it began, all claims so far, the oldest first, the head, and the claims
--- that the consumer has not passed.
+-- A ring between two lines: the position at which it began, all claims so far, the oldest first, the head, the claims that
+-- the consumer has not passed, and the position up to which the words of the buffer were read.
 pub record RingState : Type 0 where
   pub start : ℕ
   pub claims : List RingClaim
   pub head : ℕ
   pub left : List RingClaim
+  pub read : ℕ
 
 -- a ring in which nothing was claimed yet
 abbrev pub fresh : ℕ → RingState
-fresh start = record { start = start; claims = []; head = start; left = [] }
+fresh start = record { start = start; claims = []; head = start; left = []; read = start }
 
 -- the end of the record of a claim
 abbrev pub end_of_claim : RingClaim → ℕ
@@ -64,6 +66,16 @@ pub record CanClaim (C : ℕ) (s : RingState) (c : RingClaim) : Type 0 where
   pub place : c.place ≡ next_place C (tail_of s) (span c.length)
   pub within : end_of_claim c ≤ max_position
   pub room : CanEnd C s (end_of_claim c)
+
+-- the ring after this claim
+abbrev pub claimed : RingState → RingClaim → RingState
+claimed s c = record {
+  start = s.start;
+  claims = s.claims ++ c ∷ [];
+  head = s.head;
+  left = s.left ++ c ∷ [];
+  read = s.head;
+}
 
 -- The head can be at `at` at some time: it is at `head`, and the consumer passes settled claims and padding.
 abbrev pub CanReach : ℕ → ℕ → List RingClaim → Type 0
@@ -115,7 +127,13 @@ ShowsNothing (c ∷ left) = is_open c.fate ≡ true
 -- the ring after the first of these claims was passed
 abbrev pub passed : RingState → List RingClaim → RingState
 passed s [] = s
-passed s (c ∷ left) = record { start = s.start; claims = s.claims; head = end_of_claim c; left = left }
+passed s (c ∷ left) = record {
+  start = s.start;
+  claims = s.claims;
+  head = end_of_claim c;
+  left = left;
+  read = end_of_claim c;
+}
 
 -- the claims that begin at this position or after it
 abbrev pub claims_from : ℕ → List RingClaim → List RingClaim
@@ -130,13 +148,49 @@ IsHead at head (c ∷ left) = MatchBool (nat_le at c.place) ((at ≡ head) ⊎ (
 
 -- the ring with its head at this position
 abbrev pub moved : ℕ → RingState → RingState
-moved at s = record { start = s.start; claims = s.claims; head = at; left = claims_from at s.left }
+moved at s = record { start = s.start; claims = s.claims; head = at; left = claims_from at s.left; read = at }
 
 -- all threads have ended, with the head and the tail at these positions
 pub record AreEnds (C : ℕ) (s : RingState) (head tail : ℕ) : Type 0 where
   pub is_head : IsHead head s.head s.left
   pub is_tail : tail ≡ tail_of s
   pub room : tail ≤ head + C
+
+-- ---- the words of the buffer
+
+-- the header of the record of a claim
+abbrev pub header_of_claim : RingClaim → ℕ
+header_of_claim c = by_fate c.fate
+  where
+    by_fate : Fate → ℕ
+    by_fate Open = open_header c.type_id c.length
+    by_fate (Committed body) = committed_header c.type_id c.length
+    by_fate Aborted = aborted_header c.length
+
+-- The word at the position p can be v, if these claims come after e: it is the header of padding or of a claim, any word
+-- of a body, or 0.
+abbrev pub CanBeWord : ℕ → ℕ → ℕ → List RingClaim → Type 0
+CanBeWord p v e [] = v ≡ 0
+CanBeWord p v e (c ∷ left) = MatchBool (nat_lt p c.place) (v ≡ (if p == e then padding_header (c.place - e) else 0))
+    (MatchBool (nat_lt p (end_of_claim c)) (p ≡ c.place → v ≡ header_of_claim c) (CanBeWord p v (end_of_claim c) left))
+
+-- the words up to this position, beginning with the one after the last that was read, can be 0
+pub record AreClear (C : ℕ) (s : RingState) (to : ℕ) : Type 0 where
+  pub from : s.read ≤ to
+  pub within : to ≤ s.head + C
+  pub room : tail_of s ≤ s.head + C
+  pub clear : (p : ℕ) → s.read ≤ p → p < to → CanBeWord p 0 s.head s.left
+
+-- the word at this position can have this value, and the words before it can be 0
+pub record CanHaveWord (C : ℕ) (s : RingState) (at v : ℕ) : Type 0 where
+  pub aligned : at % 8 ≡ 0
+  pub before_end : at < s.head + C
+  pub clear : AreClear C s at
+  pub word : CanBeWord at v s.head s.left
+
+-- the ring whose words were read up to this position
+abbrev pub read_to : RingState → ℕ → RingState
+read_to s to = record { start = s.start; claims = s.claims; head = s.head; left = s.left; read = to }
 
 -- ---- the run
 
@@ -147,28 +201,32 @@ Allows C s (Full producer length) = CanRefuse C s producer length
 Allows C s (Got m) = Shows (unaborted s.left) m
 Allows C s (Head at) = IsHead at s.head s.left
 Allows C s (Positions head tail) = AreEnds C s head tail
+Allows C s (Word at v) = CanHaveWord C s at v
+Allows C s Rest = AreClear C s (s.head + C)
 Allows C s Empty = ShowsNothing (unaborted s.left)
 Allows C s Blank = Unit {0}
 
 -- the state after this line
-abbrev pub after : RingState → RingLine → RingState
-after s (Claimed c) = record { start = s.start; claims = s.claims ++ c ∷ []; head = s.head; left = s.left ++ c ∷ [] }
-after s (Full producer length) = s
-after s (Got m) = passed s (unaborted s.left)
-after s (Head at) = moved at s
-after s (Positions head tail) = moved head s
-after s Empty = s
-after s Blank = s
+abbrev pub after : ℕ → RingState → RingLine → RingState
+after C s (Claimed c) = claimed s c
+after C s (Full producer length) = s
+after C s (Got m) = passed s (unaborted s.left)
+after C s (Head at) = moved at s
+after C s (Positions head tail) = moved head s
+after C s (Word at v) = read_to s (at + 8)
+after C s Rest = read_to s (s.head + C)
+after C s Empty = s
+after C s Blank = s
 
 -- the state after these lines
-abbrev pub after_all : RingState → List RingLine → RingState
-after_all s [] = s
-after_all s (line ∷ lines) = after_all (after s line) lines
+abbrev pub after_all : ℕ → RingState → List RingLine → RingState
+after_all C s [] = s
+after_all C s (line ∷ lines) = after_all C (after C s line) lines
 
 -- a ring in this state can record these lines, one after another
 abbrev pub Records : ℕ → RingState → List RingLine → Type 0
 Records C s [] = Unit {0}
-Records C s (line ∷ lines) = Allows C s line × Records C (after s line) lines
+Records C s (line ∷ lines) = Allows C s line × Records C (after C s line) lines
 
 -- a ring of this capacity that begins at this position can record these lines of a run
 abbrev pub IsExplained : ℕ → ℕ → List RingLine → List RingLine → Type 0

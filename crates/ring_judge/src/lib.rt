@@ -15,6 +15,7 @@ pub use format::{
 pub use message::Message;
 pub use queue::{QueueLine, judge_queue};
 pub use ring::{
-    Fate, Judged, NumberedLine, RingClaim, RingCopy, RingLine, arranged, judge_ring, ring_before,
+    Cursor, Fate, Judged, NumberedLine, RingClaim, RingCopy, RingLine, arranged, judge_ring,
+    ring_before,
 };
 pub use verdict::Verdict;

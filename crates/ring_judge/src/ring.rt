@@ -8,10 +8,12 @@ pub mod heads;
 pub mod judge;
 pub mod judged;
 pub mod order;
+pub mod words;
 
 pub use judge::{judge_ring, ring_before};
 pub use judged::Judged;
 pub use order::{NumberedLine, arranged};
+pub use words::Cursor;
 
 /// What became of a claim by the end of a run.
 #[derive(Clone, Copy, Debug, PartialEq, Eq)]
@@ -87,6 +89,10 @@ pub enum RingLine {
     Head(u64),
     /// The head and the tail were at these positions when all threads had ended.
     Positions(u64, u64),
+    /// The word of the buffer at this position, in bytes, had this value.
+    Word(u64, u64),
+    /// The words after the last one of a line before were 0.
+    Rest,
     /// The producers had returned, and the consumer found nothing.
     Empty,
     /// The line says nothing: it is empty, or a comment.

@@ -59,6 +59,8 @@ fn line_of(line: &[u8]) -> Result<RingLine, LineFault> {
         Some(b"got") => got_of(words),
         Some(b"head") => head_of(words),
         Some(b"positions") => positions_of(words),
+        Some(b"word") => word_of(words),
+        Some(b"rest") => words.end().map(|_| RingLine::Rest),
         Some(b"empty") => words.end().map(|_| RingLine::Empty),
         Some(_) => Err(LineFault::UnknownWord),
     }
@@ -130,4 +132,13 @@ fn positions_of(words: Words<'_>) -> Result<RingLine, LineFault> {
     let tail = words.number()?;
     words.end()?;
     Ok(RingLine::Positions(head, tail))
+}
+
+/// A word of the buffer.
+fn word_of(words: Words<'_>) -> Result<RingLine, LineFault> {
+    let mut words = words;
+    let at = words.number()?;
+    let value = words.number()?;
+    words.end()?;
+    Ok(RingLine::Word(at, value))
 }

@@ -47,7 +47,7 @@ pub fn least_head(
     tail: u64,
 ) -> Option<u64>
     requires start { start ≤ max_position }
-    requires order { AreInOrder start claims.now }
+    requires order { AreInOrder capacity start claims.now }
     requires ends { AreWithin claims.now }
     requires behind { All (IsBehind capacity tail) (take low claims.now) }
     requires stops { (d : RingClaim) → low < length claims.now

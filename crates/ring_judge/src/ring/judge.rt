@@ -1,6 +1,6 @@
 //! The judge of a ring.
 
-ghost use Rattle.std.specs.Prelude.{◌≤◌, IfOk, IsTrue};
+ghost use Rattle.std.specs.Prelude.{◌≤◌, ◌^◌, IfOk, IsTrue};
 ghost use Rattle.std.specs.Int.{is_power_of_two};
 ghost use Rattle.ring_layout.specs.Places.{max_position};
 ghost use Rattle.ring_judge.specs.Ring.{JudgesRing};
@@ -23,6 +23,7 @@ pub fn judge_ring(
     run: &[RingLine],
 ) -> Result<Verdict, AllocError>
     requires power { IsTrue (is_power_of_two capacity) }
+    requires most { capacity ≤ 2 ^ 30 }
     requires start { start ≤ max_position }
     ensures { IfOk result (λ verdict. JudgesRing capacity start run.now verdict) }
 {
@@ -47,6 +48,7 @@ pub fn ring_before(
     end: usize,
 ) -> Result<Judged, AllocError>
     requires power { IsTrue (is_power_of_two capacity) }
+    requires most { capacity ≤ 2 ^ 30 }
     requires start { start ≤ max_position }
     ensures { IfOk result IsJudged }
 {

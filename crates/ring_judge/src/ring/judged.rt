@@ -1,14 +1,15 @@
 //! What the lines so far say of a ring.
 
-ghost use Rattle.std.specs.Prelude.{◌≡◌, ◌+◌, ◌/◌, ◌<◌, ◌≤◌, ◌↔◌, ℕ, IfOk, IsTrue, MatchOption, Some, None, All, length, take, drop, true};
+ghost use Rattle.std.specs.Prelude.{◌≡◌, ◌+◌, ◌/◌, ◌^◌, ◌<◌, ◌≤◌, ◌↔◌, ℕ, IfOk, IsTrue, MatchOption, Some, None, All, length, take, drop, true};
 ghost use Rattle.std.specs.Int.{is_power_of_two};
 ghost use Rattle.ring_layout.specs.Places.{max_position};
 ghost use Rattle.ring_judge.specs.Ring.{CanClaim, CanEnd, IsFull, fresh};
-ghost use Rattle.ring_judge.specs.Judged.{AnswersLine, IsJudged, state_of};
-ghost use Rattle.ring_judge.specs.declared.ring.RingLine.TheVariants.{Claimed, Empty, Full, Got, Head, Positions};
+ghost use Rattle.ring_judge.specs.Judged.{AnswersLine, ClearsTo, IsJudged, state_of};
+ghost use Rattle.ring_judge.specs.declared.ring.RingLine.TheVariants.{Claimed, Empty, Full, Got, Head, Positions, Rest, Word};
 
 use crate::ring::claims::{end_of_claim, first_open, is_copy_of, move_head, skip_aborted};
 use crate::ring::heads::{is_full_at, least_head, skip_behind};
+use crate::ring::words::{Cursor, can_be_word, clear_to};
 use crate::ring::{RingClaim, RingCopy, RingLine};
 use ring_layout::{is_length, is_position, is_type_id, place_record};
 use std::alloc::{AllocError, Global};
@@ -30,12 +31,17 @@ pub struct Judged {
     pub low: usize,
     /// The least head that had room for the first claim, for the first two, and so on.
     pub heads: Vec<Option<u64>>,
+    /// The position up to which the words of the buffer were read.
+    pub read: u64,
+    /// The claims that the words from `read` on are of.
+    pub cursor: Cursor,
 }
 
 impl Judged {
     /// A ring in which nothing was claimed yet.
     pub fn new(alloc: Global, capacity: u32, start: u64) -> Self
         requires power { IsTrue (is_power_of_two capacity) }
+        requires most { capacity ≤ 2 ^ 30 }
         requires start { start ≤ max_position }
         ensures judged { IsJudged result }
         ensures capacity { result.capacity ≡ capacity }
@@ -51,6 +57,11 @@ impl Judged {
             blocked_at: None,
             low: 0,
             heads: Vec::new(alloc),
+            read: start,
+            cursor: Cursor {
+                claim: 0,
+                end: start,
+            },
         }
     }
 
@@ -65,6 +76,8 @@ impl Judged {
             RingLine::Got(copy) => Ok(self.show(copy)),
             RingLine::Head(head) => Ok(self.move_head(*head)),
             RingLine::Positions(head, tail) => Ok(self.end(*head, *tail)),
+            RingLine::Word(at, value) => Ok(self.read_word(*at, *value)),
+            RingLine::Rest => Ok(self.read_rest()),
             RingLine::Empty => Ok(self.shows_nothing()),
             RingLine::Blank => Ok(true),
         }
@@ -83,6 +96,11 @@ impl Judged {
         self.blocked_at = first_open(self.blocked_at, claim);
         self.low = skip_behind(&self.claims, self.low, self.capacity, self.tail);
         self.heads.push(least_head(&self.claims, self.low, self.start, self.capacity, self.tail))?;
+        self.read = self.head;
+        self.cursor = Cursor {
+            claim: self.passed,
+            end: self.head,
+        };
         Ok(true)
     }
 
@@ -164,6 +182,11 @@ impl Judged {
         }
         self.head = end_of_claim(claim);
         self.passed = next + 1;
+        self.read = self.head;
+        self.cursor = Cursor {
+            claim: self.passed,
+            end: self.head,
+        };
         true
     }
 
@@ -176,6 +199,11 @@ impl Judged {
             Some(next) => {
                 self.passed = next;
                 self.head = head;
+                self.read = head;
+                self.cursor = Cursor {
+                    claim: next,
+                    end: head,
+                };
                 true
             }
             None => false,
@@ -199,6 +227,48 @@ impl Judged {
         match self.claims.get(next) {
             Some(claim) => claim.fate.is_open(),
             None => true,
+        }
+    }
+
+    /// Tests whether the word at this position can have this value, and the words before it that were not read 0.
+    fn read_word(&mut self, at: u64, value: u64) -> bool
+        requires { IsJudged self.old }
+        ensures { AnswersLine self.old self.new (Word at value) result }
+    {
+        if at % 8 != 0 || at >= self.head + u64::from(self.capacity) || !self.clear_to(at) {
+            return false;
+        }
+        if !can_be_word(&self.claims, self.capacity, self.cursor, at, value) {
+            return false;
+        }
+        self.read = at + 8;
+        true
+    }
+
+    /// Tests whether all words of the buffer that were not read can be 0.
+    fn read_rest(&mut self) -> bool
+        requires { IsJudged self.old }
+        ensures { AnswersLine self.old self.new Rest result }
+    {
+        self.clear_to(self.head + u64::from(self.capacity))
+    }
+
+    /// Tests whether the words up to this position that were not read can be 0. The cursor then is at this position.
+    fn clear_to(&mut self, to: u64) -> bool
+        requires { IsJudged self.old }
+        ensures { ClearsTo self.old self.new to result }
+    {
+        let end = self.head + u64::from(self.capacity);
+        if to < self.read || to > end || self.tail > end {
+            return false;
+        }
+        match clear_to(&self.claims, self.capacity, self.cursor, self.read, to) {
+            Some(cursor) => {
+                self.cursor = cursor;
+                self.read = to;
+                true
+            }
+            None => false,
         }
     }
 }

@@ -1,6 +1,6 @@
-use Rattle.std.proofs.Common.{ℕ, get_or, sym, subst, ◌∙◌, ◌+◌}
+use Rattle.std.proofs.Common.{ℕ, ap, get_or, sym, subst, ◌∙◌, ◌+◌}
 use Rattle.std.proofs.lemmas.Bool.{MatchBool-at_true, MatchBool-at_false}
-use Rattle.ring_judge.specs.Ring.{Allows}
+use Rattle.ring_judge.specs.Ring.{Allows, after}
 use Rattle.ring_judge.specs.Judged.{state_of}
 use Rattle.ring_judge.proofs.StepLemmas.{AreRecorded, one_more, first_refused, past}
 use Rattle.ring_judge.proofs.ring.judge.judge_ring.Goals as goal
@@ -19,7 +19,7 @@ loop-at-preserved c = let before = c.loop-at.invariant in let s = state_of c.loo
     record {
       judged = step.judged;
       capacity = step.capacity ∙ before.capacity;
-      recorded = subst (AreRecorded c.args.capacity c.args.start run (k + 1)) (sym step.state)
+      recorded = subst (AreRecorded c.args.capacity c.args.start run (k + 1)) (sym (step.state ∙ ap (λ C. after C s line) before.capacity))
           (one_more c.args.capacity c.args.start run k past s c.loop-at-test.true before.recorded
           (subst (λ (C : ℕ). Allows C s line) before.capacity step.allowed));
     }
