@@ -1,7 +1,7 @@
-/* Records a storm of claims on a ring of felter.h: claims CAPACITY PRODUCERS CLAIMS SEED FILE. With one producer the ring
- * is a one-to-one ring. Each producer makes CLAIMS claims, up to four of them open at once, and commits or aborts them in
- * any order. A message of eight bytes or more begins with the position of its claim. After the threads have ended, some
- * runs get more claims, of which one stays open. */
+/* Records a storm of claims on a ring of felter.h: claims CAPACITY PRODUCERS CLAIMS SEED FILE. With one producer the
+ * ring is a one-to-one ring. Each producer makes CLAIMS claims, up to four of them open at once, and commits or aborts
+ * them in any order. A message of eight bytes or more begins with the position of its claim. After the threads have
+ * ended, some runs get more claims, of which one stays open. */
 #include "felter.h"
 #include "ring_record.h"
 

@@ -12,7 +12,6 @@ enum fault {
     OVERLAPS,          /* a record is claimed 8 bytes too early */
     OVERWRITES,        /* a claim does not look at the head */
     REFUSES,           /* a claim needs 8 bytes more than its record has */
-    FIRST_HEAD,        /* a claim looks at the head of one read before */
     SHOWS_ABORTED,     /* the consumer is shown aborted claims */
     SHOWS_PADDING,     /* the consumer is shown padding */
     PASSES_OPEN,       /* the consumer passes open claims */
@@ -25,6 +24,7 @@ enum fault {
     FAULTS
 };
 
+/* The most bytes of the buffer and of a record after it. */
 #define MOST 4096
 #define OPEN 3
 
@@ -37,7 +37,7 @@ struct claim {
 
 static unsigned char buffer[MOST];
 static uint32_t capacity;
-static uint64_t head, tail, old_head, random_state;
+static uint64_t head, tail, random_state;
 static enum fault fault;
 static struct claim open_claims[OPEN];
 static int open_count;
@@ -72,8 +72,7 @@ static uint32_t span(uint32_t length) {
 
 /* Claims room for a message. Returns 0 if there is none. */
 static int claim(uint16_t producer, int32_t type_id, uint32_t length) {
-    uint64_t limit = (fault == FIRST_HEAD ? old_head : head) + capacity;
-    uint64_t room = capacity - tail % capacity, place = tail;
+    uint64_t limit = head + capacity, room = capacity - tail % capacity, place = tail;
     int is_over = span(length) > room || (span(length) == room && happens(PADDING_TOO_EARLY));
     if (is_over && !happens(NO_PADDING)) place += room;
     if (place == tail && place > head && happens(OVERLAPS)) place -= 8;
@@ -126,8 +125,8 @@ static void read_some(uint64_t limit) {
         int32_t length, type_id;
         load_header(at, &length, &type_id);
         int is_open = length <= 0;
-        if (length < 0 && (happens(PASSES_OPEN) || happens(SHOWS_OPEN))) length = -length;
-        if (length <= 0) break;
+        if (is_open && (happens(PASSES_OPEN) || happens(SHOWS_OPEN))) length = -length;
+        if (length < 8 || (uint32_t)length > capacity) break;
         before = at;
         int is_padding = type_id < 0 && (uint64_t)length + 8 > capacity / 8 + 8 + 7;
         if (type_id > 0 && !(is_open && fault == PASSES_OPEN)) show(at, length, type_id), shown++;
@@ -136,7 +135,6 @@ static void read_some(uint64_t limit) {
     }
     for (uint64_t i = from; i < at; i += 8)
         if (!happens(DOES_NOT_CLEAR) && !(fault == CLEARS_HEADERS && i != from)) memset(buffer + i % capacity, 0, 8);
-    old_head = from;
     head = at > from && happens(STAYS) ? before : at;
     ring_record_head(&logs[CONSUMER], head);
 }
@@ -146,7 +144,7 @@ int main(int count, char **words) {
     capacity = (uint32_t)strtoul(words[1], NULL, 10);
     random_state = strtoull(words[3], NULL, 10) * UINT64_C(0x9e3779b97f4a7c15) + 1;
     fault = (enum fault)atoi(words[4]);
-    if (fault >= FAULTS || capacity > MOST) return 2;
+    if (fault >= FAULTS || capacity > MOST / 2) return 2;
     for (int calls = atoi(words[2]); calls > 0; calls--) {
         uint64_t what = next_random(5);
         if (what < 2 && open_count < OPEN)
