@@ -1,91 +1,87 @@
--- The newest claim from its opening to its publication.
-use Rattle.std.proofs.Common.{◌≡◌, ℕ, ◌+◌, ◌*◌, ◌%◌, ◌<◌, List, [], ◌∷◌, ◌++◌, set, length, append-nil, sym, refl, ap, subst, ◌∙◌, arith}
-use lib.ListN.{get_elem?}
-use Rattle.atomic_table.proofs.Lists.{at_last}
-use Rattle.ring_runs.specs.Records.{AreRecords, Entry}
-use Rattle.ring_runs.specs.Spots.{spots, values_of}
-use Rattle.ring_runs.specs.Cells.{Claim, Open, Out, Published, Stage}
-use Rattle.ring_runs.specs.Views.{View, changed, new_claim, with_claims}
-use Rattle.ring_runs.specs.Steps.{IsAt, Mine, Publishes, Takes}
-use Rattle.ring_runs.specs.Writing.{batch_words, entries_of, IsLongest, MayHaveLooked, Outgoing, run_of, SendsBatch}
-use Rattle.ring_runs.proofs.SpotLemmas.{values_spots}
+-- The records of messages that are written together.
+use Rattle.std.proofs.Common.{◌≡◌, ℕ, ◌+◌, ◌<◌, ◌≤◌, ◌⊎◌, List, [], ◌∷◌, ◌++◌, drop, take, get_or, length, pos, length-append, append-nil, append_assoc, take-append-drop, sym, refl, ap, ◌∙◌, arith}
+use Rattle.std.proofs.lemmas.List.{take_more}
+use Rattle.ring_layout.specs.Places.{end_after}
+use Rattle.ring_runs.specs.Cells.{Published}
+use Rattle.ring_runs.specs.Placing.{placed, placed_words}
+use Rattle.ring_runs.specs.Views.{View, new_claim, with_claims}
+use Rattle.ring_runs.specs.Writing.{batch_end, batch_entries, batch_words, IsLongest, MayHaveLooked, message_of, Outgoing, run_of, SendsBatch, size_of, tail_after}
+use Rattle.ring_runs.proofs.PlaceLemmas.{place_on, placed_size}
 
-set_last : {A : Type 0} → (l : List A) (x y : A) → set (l ++ x ∷ []) (length l) y ≡ l ++ y ∷ []
-set_last [] x y = refl
-set_last (z ∷ zs) x y = ap (λ l. z ∷ l) (set_last zs x y)
+-- what an index that is past the end would give
+abbrev pub no_message : Outgoing
+no_message = record { type_id = pos 0; body = record { ref_ptr = (0, 0); now = [] } }
 
-module _ (n place : ℕ) (v : View) (others : List Claim) (words : List ℕ) (cap : v.capacity ≡ n)
-    (newest : v.claims ≡ others ++ new_claim Open place [] words ∷ []) where
-  -- the view with the newest claim at this stage
-  abbrev pub at_stage : Stage → List Entry → List ℕ → View
-  at_stage t es ws = with_claims (others ++ new_claim t place es ws ∷ []) v.tail v
+module _ (n : ℕ) where
+  end_append : (p : ℕ) (xs ys : List Outgoing) → batch_end n p (xs ++ ys) ≡ batch_end n (batch_end n p xs) ys
+  end_append p [] ys = refl
+  end_append p (x ∷ xs) ys = end_append (end_after n p (size_of x)) xs ys
 
-  open_view : v ≡ at_stage Open [] words
-  open_view i = with_claims (newest i) v.tail v
+  pub entries_more : (p : ℕ) (xs : List Outgoing) (y : Outgoing)
+      → batch_entries n p (xs ++ y ∷ []) ≡ batch_entries n p xs ++ placed n (batch_end n p xs) (message_of y)
+  entries_more p [] y = append-nil (placed n p (message_of y))
+  entries_more p (x ∷ xs) y =
+      let next : ℕ = end_after n p (size_of x) in
+      ap (λ l. placed n p (message_of x) ++ l) (entries_more next xs y)
+      ∙ sym (append_assoc (placed n p (message_of x)) (batch_entries n next xs)
+      (placed n (batch_end n next xs) (message_of y)))
 
-  newest_at : (t : Stage) (es : List Entry) (ws : List ℕ) (w : View) → w ≡ at_stage t es ws
-      → IsAt t (place % n) w (length others) (new_claim t place es ws)
-  newest_at t es ws w e = record {
-    has = ap (λ (u : View). get_elem? u.claims (length others)) e
-        ∙ at_last others (new_claim t place es ws) (length others) refl;
-    stage = refl;
-    index = ap (λ (u : View). place % u.capacity) e ∙ ap (λ z. place % z) cap;
+  pub words_more : (p : ℕ) (xs : List Outgoing) (y : Outgoing)
+      → batch_words n p (xs ++ y ∷ []) ≡ batch_words n p xs ++ placed_words n (batch_end n p xs) (message_of y)
+  words_more p [] y = append-nil (placed_words n p (message_of y))
+  words_more p (x ∷ xs) y =
+      let next : ℕ = end_after n p (size_of x) in
+      ap (λ l. placed_words n p (message_of x) ++ l) (words_more next xs y)
+      ∙ sym (append_assoc (placed_words n p (message_of x)) (batch_words n next xs)
+      (placed_words n (batch_end n next xs) (message_of y)))
+
+  pub words_size : (p : ℕ) (os : List Outgoing) → 0 < n → p + length (batch_words n p os) ≡ batch_end n p os
+  words_size p [] some = omega arith
+  words_size p (o ∷ os) some =
+      let next : ℕ = end_after n p (size_of o) in
+      let rest = words_size next os some in
+      let first = placed_size n p (message_of o) some in
+      let both = length-append (placed_words n p (message_of o)) (batch_words n next os) in omega arith
+
+  -- the end of one message more
+  pub end_next : (p : ℕ) (os : List Outgoing) (i : ℕ) (d : Outgoing) → i < length os
+      → batch_end n p (take (i + 1) os) ≡ end_after n (batch_end n p (take i os)) (size_of (get_or os i d))
+  end_next p os i d lt =
+      ap (batch_end n p) (take_more os i d lt) ∙ end_append p (take i os) (get_or os i d ∷ [])
+
+  pub end_on : (p : ℕ) (os : List Outgoing) → p ≤ batch_end n p os
+  end_on p [] = omega arith
+  end_on p (o ∷ os) =
+      let first = place_on n p (size_of o) in
+      let rest = end_on (end_after n p (size_of o)) os in omega arith
+
+  -- some of the messages end where all end, or before
+  pub end_upto : (p : ℕ) (os : List Outgoing) (i : ℕ) → batch_end n p (take i os) ≤ batch_end n p os
+  end_upto p os i =
+      let all : batch_end n p os ≡ batch_end n (batch_end n p (take i os)) (drop i os) =
+      ap (batch_end n p) (sym (take-append-drop i os)) ∙ end_append p (take i os) (drop i os) in
+      let on = end_on (batch_end n p (take i os)) (drop i os) in omega arith
+
+  pub end_some : (p : ℕ) (os : List Outgoing) → 0 < length os → p < batch_end n p os
+  end_some p [] h = absurd (omega arith)
+  end_some p (o ∷ os) h =
+      let first = place_on n p (size_of o) in
+      let rest = end_on (end_after n p (size_of o)) os in omega arith
+
+  -- ---- a whole call
+
+  -- nothing is sent
+  pub sends_none : (tail : ℕ) (os : List Outgoing) (old new : View) → tail_after new.alone new.tail tail ≡ new.tail
+      → MayHaveLooked old new → (0 < length os → IsLongest n tail os 0 old new) → SendsBatch n tail os 0 old new
+  sends_none tail os old new stays looked longest = record {
+    seen = new;
+    looked = looked;
+    most = omega arith;
+    sent = λ i. with_claims (sym (append-nil new.claims) i) (sym stays i) new;
+    longest = longest;
   }
 
-  changes : (t u : Stage) (es fs : List Entry) (ws ys : List ℕ) (w : View) → w ≡ at_stage t es ws
-      → changed (length others) (new_claim u place fs ys) w ≡ at_stage u fs ys
-  changes t u es fs ws ys w e =
-      ap (λ (x : View). changed (length others) (new_claim u place fs ys) x) e
-      ∙ ap (λ l. with_claims l v.tail v) (set_last others (new_claim t place es ws) (new_claim u place fs ys))
-
-  pub open_newest : IsAt Open (place % n) v (length others) (new_claim Open place [] words)
-  open_newest = newest_at Open [] words v open_view
-
-  module _ (me me1 : Mine) (mine : me.0 ≡ v) (takes : Takes (place % n) me me1) where
-    opened : IsAt Open (place % n) me.0 (length others) (new_claim Open place [] words)
-    opened = newest_at Open [] words me.0 (mine ∙ open_view)
-
-    pub out_view : me1.0 ≡ at_stage Out [] words
-    out_view = (takes (length others) (new_claim Open place [] words) opened).1
-        ∙ changes Open Out [] [] words words me.0 (mine ∙ open_view)
-
-    pub out_slots : me1.1 ≡ spots n place words
-    out_slots = (takes (length others) (new_claim Open place [] words) opened).0
-        ∙ ap (λ (u : View). spots u.capacity place words) mine ∙ ap (λ z. spots z place words) cap
-
-  pub out_newest : (w : View) → w ≡ at_stage Out [] words
-      → IsAt Out (place % n) w (length others) (new_claim Out place [] words)
-  out_newest w e = newest_at Out [] words w e
-
-  pub published_view : (es : List Entry) (ws : List ℕ) (me me' : Mine) → me.0 ≡ at_stage Out [] words
-      → me.1 ≡ spots n place ws → AreRecords (8 * n) es ws → Publishes (place % n) me me'
-      → (me'.1 ≡ []) × (me'.0 ≡ at_stage Published es ws)
-  published_view es ws me me' e held r p =
-      let values : values_of me.1 ≡ ws = ap values_of held ∙ values_spots n place ws in
-      let size : me.0.capacity ≡ n = ap (λ (u : View). u.capacity) e ∙ cap in
-      let told = p (length others) (new_claim Out place [] words) (out_newest me.0 e) es
-      (subst (λ (z : ℕ × List ℕ). AreRecords (8 * z.0) es z.1) (λ i. (sym size i, sym values i)) r) in (
-        told.0,
-        told.1 ∙ ap (λ l. changed (length others) (new_claim Published place es l) me.0) values
-            ∙ changes Out Published [] es words ws me.0 e,
-      )
-
--- ---- a whole call
-
--- nothing is sent
-pub sends_none : (n tail : ℕ) (os : List Outgoing) (old new : View) → tail ≡ new.tail → MayHaveLooked old new
-    → (0 < length os → IsLongest n tail os 0 old new)
-    → SendsBatch n tail os 0 old new
-sends_none n tail os old new tail_is looked longest = record {
-  seen = new;
-  looked = looked;
-  most = omega arith;
-  sent = λ i. with_claims (sym (append-nil new.claims) i)
-      ((let z : new.tail ≡ tail + 0 = omega arith in z) i) new;
-  longest = longest;
-}
-
-pub run_of_some : (place : ℕ) (os : List Outgoing) → 0 < length os
-    → new_claim Published place (entries_of os) (batch_words os) ∷ [] ≡ run_of place os
-run_of_some place [] h = absurd (omega arith)
-run_of_some place (o ∷ os) h = refl
+  pub run_of_some : (tail : ℕ) (os : List Outgoing) → 0 < length os
+      → new_claim Published tail (batch_entries n tail os) (batch_words n tail os) ∷ [] ≡ run_of n tail os
+  run_of_some tail [] h = absurd (omega arith)
+  run_of_some tail (o ∷ os) h = refl

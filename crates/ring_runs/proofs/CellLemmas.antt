@@ -268,6 +268,15 @@ of_unsettled cells id p es ws Out u h q a b =
     subst (λ x. IsOf id p (cells x)) z (inl (h (q - p) (omega arith)))
 of_unsettled cells id p es ws Published u h q a b = absurd u
 
+-- the cells of a claim that is not published end at the tail or before
+pub of_below : (cells : Cells) (id p len tail : ℕ) → 0 < len
+    → ((q : ℕ) → p ≤ q → q < p + len → IsOf id p (cells q)) → ((q : ℕ) → tail ≤ q → cells q ≡ free) → p + len ≤ tail
+of_below cells id p len tail most mine above = ⊎_elim
+    (λ (h : tail < p + len).
+    let q : ℕ = p + len - 1 in
+    absurd (free_not_of (cells q) id p (above q (omega arith)) (mine q (omega arith) (omega arith))))
+    (λ (h : p + len ≤ tail). h) (cases_lt tail (p + len))
+
 -- the claim is patched to this
 pub open_patched : (cells : Cells) (id p : ℕ) (ws : List ℕ)
     → ShowStage (patched p (length ws) (claimed_cells id p ws) cells) id p [] ws Open
@@ -281,6 +290,16 @@ pub out_patched : (cells : Cells) (id p : ℕ) (ws : List ℕ)
     → ShowStage (patched p (length ws) (held_cells id p) cells) id p [] ws Out
 out_patched cells id p ws i less = patched_here p (length ws) (held_cells id p) cells (p + i) (omega arith)
     (omega arith)
+
+-- a claim ends at the tail or before
+pub stage_below : (cells : Cells) (id p : ℕ) (es : List Entry) (ws : List ℕ) (t : Stage) (tail : ℕ) → 0 < length ws
+    → ShowStage cells id p es ws t → ((q : ℕ) → tail ≤ q → cells q ≡ free) → p + length ws ≤ tail
+stage_below cells id p es ws Open tail most h above =
+    of_below cells id p (length ws) tail most (of_unsettled cells id p es ws Open tt h) above
+stage_below cells id p es ws Out tail most h above =
+    of_below cells id p (length ws) tail most (of_unsettled cells id p es ws Out tt h) above
+stage_below cells id p es ws Published tail most h above =
+    has_below cells ws p tail most (run_has cells p es ws h) above
 
 -- a claim has a cell, which is not free
 pub stage_not_free : (cells : Cells) (id p : ℕ) (es : List Entry) (ws : List ℕ) (t : Stage) → 0 < length ws

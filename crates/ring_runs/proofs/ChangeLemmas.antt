@@ -13,7 +13,7 @@ use Rattle.ring_runs.specs.Views.{Reader, View, changed, new_claim}
 use Rattle.ring_runs.specs.Steps.{HasClaim, IsAt}
 use Rattle.ring_runs.proofs.SpotLemmas.{one_position}
 use Rattle.ring_runs.proofs.ListLemmas.{below_length}
-use Rattle.ring_runs.proofs.CellLemmas.{begins_not_of, free_not_of, Grows, has_grown, has_here, of_one, of_unsettled, patch_grows, patched_else, said_not_of, shows_same, Spares, stage_spared, taken_grown, word_same, word_within}
+use Rattle.ring_runs.proofs.CellLemmas.{begins_not_of, Grows, has_grown, has_here, of_below, of_one, of_unsettled, patch_grows, patched_else, said_not_of, shows_same, Spares, stage_spared, taken_grown, word_same, word_within}
 use Rattle.ring_runs.proofs.KeptLemmas.{covered_on}
 
 -- the cells are of the claim of the seat id at p
@@ -34,11 +34,7 @@ lies_in n id p len alone words homes cells tail r m most mine =
           absurd (said_not_of (cells p) (get_or r.log (p - 0) 0) id p
           (has_here cells r.log 0 p m.log (omega arith) (omega arith)) (mine p (omega arith) (omega arith))))
           (λ (h : r.scan ≤ p). h) (cases_lt p r.scan);
-      to_tail = ⊎_elim
-          (λ (h : tail < p + len).
-          let q : ℕ = p + len - 1 in
-          absurd (free_not_of (cells q) id p (m.above q (omega arith)) (mine q (omega arith) (omega arith))))
-          (λ (h : p + len ≤ tail). h) (cases_lt tail (p + len));
+      to_tail = of_below cells id p len tail most mine m.above;
     }
 
 -- words and homes change within the claim alone

@@ -14,7 +14,7 @@ use Rattle.ring_runs.specs.Views.{Reader, View, new_claim, with_claims, with_hea
 use Rattle.ring_runs.specs.Steps.{Mine, Claims, ClaimsAlone, ClaimsShared, LoadsHead, LoadsTail}
 use Rattle.ring_runs.proofs.SpotLemmas.{one_position, AreHome, gathered}
 use Rattle.ring_runs.proofs.ListLemmas.{word_at, below_length, at_end}
-use Rattle.ring_runs.proofs.CellLemmas.{begins_not_free, begins_not_of, free_not_of, Grows, has_grown, open_patched, patch_grows, patched_else, patched_here, said_not_free, shows_same, Spares, stage_not_free, stage_spared, taken_grown, word_same, word_within}
+use Rattle.ring_runs.proofs.CellLemmas.{begins_not_free, begins_not_of, free_not_of, Grows, has_grown, open_patched, patch_grows, patched_else, patched_here, said_not_free, shows_same, Spares, stage_below, stage_not_free, stage_spared, taken_grown, word_same, word_within}
 use Rattle.ring_runs.proofs.KeptLemmas.{Could, covered_on, covers_same, goes_nowhere, kept_producing, Ok, stays}
 
 -- what the words are after the tail moved up to `new`
@@ -200,6 +200,13 @@ module _ (n new : ℕ) (ys : List ℕ) (s : State ℕ View) (r : Ok n s) (id : �
       (claim_covers n new ys s.words s.homes s.views r id v at)
       (claimant n new ys s.words s.homes s.views r id v at produces most alone_new)
 
+-- the claims of a seat end at the tail or before
+claims_below : (n : ℕ) (s : State ℕ View) (r : Ok n s) (id : ℕ) (v : View) → get_elem? s.views id ≡ some v
+    → (k : ℕ) (c : Claim) → get_elem? v.claims k ≡ some c → c.place + length c.words ≤ r.tail
+claims_below n s r id v at k c has =
+    let o = (r.each id v at).claims k c has in
+    stage_below r.cells id c.place c.entries c.words c.stage r.tail o.0 o.1 r.memory.above
+
 -- what the only producer that claims is asked
 pub record MayClaim (n len : ℕ) (v : View) : Type 0 where
   pub capacity : v.capacity ≡ n
@@ -255,7 +262,13 @@ claims_alone n slots id me len i may i_is s r wide at small =
           (omega arith) index in
           let same : len ≡ other = omega arith in
           subst (λ z. Claims (me.0.tail + z) me.0.tail z me (w, me.1)) same
-          (record { words = ys; count = g.1; held = refl; view = refl })),
+          (record {
+            after = λ k c has. let below = claims_below n s r id me.0 at k c has in omega arith;
+            words = ys;
+            count = g.1;
+            held = refl;
+            view = refl;
+          })),
     )
 
 -- what one of many producers that claims is asked
@@ -312,6 +325,7 @@ claims_shared n slots id me len old new may s r wide at small =
           len,
           new_is,
           record {
+            after = λ k c has. let below = claims_below n s r id me.0 at k c has in omega arith;
             words = ys;
             count = count;
             held = refl;

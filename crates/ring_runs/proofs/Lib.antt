@@ -14,5 +14,8 @@ pub mod Calls
 pub mod LawLemmas
 pub mod TurnLemmas
 pub mod WordLemmas
+pub mod PlaceLemmas
+pub mod StageLemmas
+pub mod OpenLemmas
 pub mod BatchLemmas
 pub mod ShowLemmas

@@ -93,6 +93,10 @@ long_records C (e ∷ es) ws r =
     let rest : length (drop (entry_words e) ws) ≡ length ws - entry_words e = length-drop (entry_words e) ws in
     let whole = r.0.whole in omega arith
 
+pub total_append : (xs ys : List Entry) → total_words (xs ++ ys) ≡ total_words xs + total_words ys
+total_append [] ys = omega arith
+total_append (x ∷ xs) ys = let more = total_append xs ys in omega arith
+
 -- ---- records, one after the other
 
 body_within : (e : Entry) (k : ℕ) → 8 * k < length (entry_body e) → 1 + k < entry_words e
@@ -110,7 +114,7 @@ record_longer C e ws xs r =
       body = λ k h. let inside = body_within e k h in get_or_append_left ws xs 0 (1 + k) (omega arith) ∙ r.body k h;
     }
 
-append_records : (C : ℕ) (es fs : List Entry) (ws xs : List ℕ) → AreRecords C es ws → AreRecords C fs xs
+pub append_records : (C : ℕ) (es fs : List Entry) (ws xs : List ℕ) → AreRecords C es ws → AreRecords C fs xs
     → AreRecords C (es ++ fs) (ws ++ xs)
 append_records C [] fs ws xs r s = subst (λ l. AreRecords C fs (l ++ xs)) (sym r) s
 append_records C (e ∷ es) fs ws xs r s = (
@@ -119,13 +123,6 @@ append_records C (e ∷ es) fs ws xs r s = (
       (append_records C es fs (drop (entry_words e) ws) xs r.1 s),
 )
 
-none_left : (l : List ℕ) → length l ≡ 0 → l ≡ []
+pub none_left : (l : List ℕ) → length l ≡ 0 → l ≡ []
 none_left [] e = refl
 none_left (x ∷ xs) e = absurd (omega arith)
-
--- one record more
-pub more_records : (C : ℕ) (es : List Entry) (e : Entry) (ws xs : List ℕ) → AreRecords C es ws → IsRecord C e xs
-    → length xs ≡ entry_words e → AreRecords C (es ++ e ∷ []) (ws ++ xs)
-more_records C es e ws xs r one size =
-    append_records C es (e ∷ []) ws xs r
-    (one, none_left (drop (entry_words e) xs) (length-drop (entry_words e) xs ∙ omega arith))

@@ -11,12 +11,11 @@ use Rattle.ring_runs.specs.Records.{AreRecords, Entry, entry_bytes, entry_header
 use Rattle.ring_runs.specs.Spots.{spots}
 use Rattle.ring_runs.specs.Steps.{FindsRun, Mine}
 use Rattle.ring_runs.specs.Turns.{Held, IsPast, Passes, turned_by}
-use Rattle.ring_runs.specs.Writing.{words_in}
+use Rattle.ring_runs.specs.Placing.{words_in}
 use Rattle.ring_runs.specs.Reading.{HasRun, HasShown, IsNext, Shows, ShowsEntry, Step}
 use Rattle.ring_runs.proofs.ByteLemmas.{byte_there}
-use Rattle.ring_runs.proofs.RecordLemmas.{entry_some, not_padding}
+use Rattle.ring_runs.proofs.RecordLemmas.{entry_some, not_padding, total_append}
 use Rattle.ring_runs.proofs.TurnLemmas.{past_on, turned_all, turned_none}
-use Rattle.ring_runs.proofs.WordLemmas.{total_append}
 
 -- ---- one record
 

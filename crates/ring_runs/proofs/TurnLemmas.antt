@@ -1,6 +1,6 @@
 -- A seat goes through its slots once.
-use Rattle.std.proofs.Common.{◌≡◌, ℕ, suc, ◌+◌, ◌%◌, ◌≤◌, ◌<◌, List, [], ◌∷◌, ◌++◌, drop, take, get_or, length, length-append, append-nil, append_assoc, sym, refl, ap, ◌∙◌, subst, arith}
-use Rattle.std.proofs.lemmas.List.{drop_more, length-take-le, take_all, take_more}
+use Rattle.std.proofs.Common.{◌≡◌, ℕ, suc, ◌+◌, ◌%◌, ◌≤◌, ◌<◌, List, [], ◌∷◌, ◌++◌, drop, take, get_or, set, length, length-append, drop-set-lt, append-nil, append_assoc, sym, refl, ap, ◌∙◌, subst, arith}
+use Rattle.std.proofs.lemmas.List.{drop_more, length-take-le, take_all, take_more, take_more_set}
 use Rattle.ring_runs.specs.Spots.{spots}
 use Rattle.ring_runs.specs.Turns.{Filling, Fills, HasMore, HasRoom, Held, IsPast, Passes, turned_by}
 
@@ -146,6 +146,21 @@ looked_at n at p j y ws held held' t told =
           ∙ turned_on n p j (drop (j + 1) ws) (take j ws) w (length-take-le j ws (omega arith))
           ∙ ap (λ l. spots n (p + (j + 1)) (drop (j + 1) ws) ++ spots n p l) (sym (take_more ws j 0 (omega arith))),
     )
+
+-- the next slot was given another word
+pub set_next : (n at p j w : ℕ) (ws : List ℕ) (held held' : Held) → IsPast n at 1 p j ws held
+    → ((old : ℕ) (rest : Held) → held ≡ (at % n, old) ∷ rest → held' ≡ rest ++ (at % n, w) ∷ [])
+    → held' ≡ turned_by n p (j + 1) (set ws j w)
+set_next n at p j w ws held held' t told =
+    let more = t.more in
+    let after : drop (j + 1) (set ws j w) ≡ drop (j + 1) ws = drop-set-lt (j + 1) ws j w (omega arith) in
+    let before : take (j + 1) (set ws j w) ≡ take j ws ++ w ∷ [] =
+    take_more_set ws j w (omega arith) in
+    told (get_or ws j 0) (spots n (suc (p + j)) (drop (j + 1) ws) ++ spots n p (take j ws))
+    (past_front n at p j ws held t)
+    ∙ ap (λ q. (spots n (suc (p + j)) (drop (j + 1) ws) ++ spots n p (take j ws)) ++ (q % n, w) ∷ []) t.at_is
+    ∙ turned_on n p j (drop (j + 1) ws) (take j ws) w (length-take-le j ws (omega arith))
+    ∙ (λ i. spots n (p + (j + 1)) (sym after i) ++ spots n p (sym before i))
 
 -- some of the slots that are left
 pub past_less : {n at count p j : ℕ} {ws : List ℕ} {held : Held} → IsPast n at count p j ws held → (less : ℕ)

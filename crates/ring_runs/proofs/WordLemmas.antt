@@ -1,16 +1,15 @@
--- The words of messages.
-use Rattle.std.proofs.Common.{◌≡◌, ℕ, zero, suc, ◌+◌, ◌-◌, ◌≤◌, ◌<◌, List, [], ◌∷◌, ◌++◌, drop, take, get_or, length, pos, length-append, append-nil, append_assoc, take-append-drop, sym, refl, ap, ◌∙◌, ⊎_elim, arith}
+-- The words of one message.
+use Rattle.std.proofs.Common.{◌≡◌, ℕ, zero, suc, ◌+◌, ◌-◌, ◌*◌, ◌≤◌, ◌<◌, List, [], ◌∷◌, ◌++◌, drop, get_or, length, replicate, length-append, sym, refl, ap, ◌∙◌, ⊎_elim, arith}
 use Rattle.std.specs.List.{slice_range}
 use Rattle.std.specs.Int.{from_le_bytes, w64}
 use Rattle.std.proofs.lemmas.Bool.{cases_lt}
-use Rattle.std.proofs.lemmas.List.{get_or_append_left, get_or-append_right, take_more, take_rest}
+use Rattle.std.proofs.lemmas.List.{ext_get_or, get_or_append_left, get_or-append_right, get_or-drop, get_or_past, get_or-replicate, length-replicate, take_rest}
+use Rattle.ring_layout.proofs.WordBytes.{from_le_bytes-same}
 use Rattle.ring_layout.specs.Bytes.{word_of_bytes}
 use Rattle.ring_layout.specs.declared.message.Message.{Message}
 use Rattle.ring_layout.specs.History.{IsMessage}
-use Rattle.ring_runs.specs.Records.{Entry, entry_words, Holds, IsRecord, total_words}
-use Rattle.ring_runs.specs.Writing.{batch_words, entries_of, first_words, message_of, Outgoing, record_words, words_in}
-
--- ---- one message
+use Rattle.ring_runs.specs.Placing.{first_words, record_words, words_in}
+use Rattle.ring_runs.specs.Records.{entry_words, Holds, IsRecord}
 
 pub length_first : (bytes : List ℕ) (k : ℕ) → length (first_words bytes k) ≡ k
 length_first bytes zero = refl
@@ -18,7 +17,7 @@ length_first bytes (suc k) =
     let more = length-append (first_words bytes k) (word_of_bytes bytes k ∷ []) in
     let before = length_first bytes k in omega arith
 
-first_at : (bytes : List ℕ) (k i : ℕ) → i < k → get_or (first_words bytes k) i 0 ≡ word_of_bytes bytes i
+pub first_at : (bytes : List ℕ) (k i : ℕ) → i < k → get_or (first_words bytes k) i 0 ≡ word_of_bytes bytes i
 first_at bytes zero i h = absurd (omega arith)
 first_at bytes (suc k) i h =
     let before = length_first bytes k in
@@ -55,56 +54,17 @@ record_holds C m is =
           ∙ first_at m.body (words_in (length m.body)) k (omega arith);
     }
 
--- ---- several
+-- zeros are words of zero
+zero_word : (n k : ℕ) → word_of_bytes (replicate n 0) k ≡ 0
+zero_word n k = from_le_bytes-same (drop (8 * k) (replicate n 0)) (replicate 8 0) (λ i lt.
+    get_or-drop (8 * k) (replicate n 0) i 0 ∙ ⊎_elim
+    (λ (h : 8 * k + i < n). get_or-replicate n (8 * k + i) 0 0 h)
+    (λ (h : n ≤ 8 * k + i). get_or_past (replicate n 0) (8 * k + i) 0 (omega (arith, length-replicate {A = ℕ} n 0)))
+    (cases_lt (8 * k + i) n) ∙ sym (get_or-replicate 8 i 0 0 lt))
 
--- what an index that is past the end would give
-abbrev pub no_message : Outgoing
-no_message = record { type_id = pos 0; body = record { ref_ptr = (0, 0); now = [] } }
-
-pub entries_append : (xs ys : List Outgoing) → entries_of (xs ++ ys) ≡ entries_of xs ++ entries_of ys
-entries_append [] ys = refl
-entries_append (x ∷ xs) ys = ap (λ l. Holds (message_of x) ∷ l) (entries_append xs ys)
-
-pub total_append : (xs ys : List Entry) → total_words (xs ++ ys) ≡ total_words xs + total_words ys
-total_append [] ys = omega arith
-total_append (x ∷ xs) ys = let more = total_append xs ys in omega arith
-
-pub batch_more : (xs : List Outgoing) (y : Outgoing)
-    → batch_words (xs ++ y ∷ []) ≡ batch_words xs ++ record_words (message_of y)
-batch_more [] y = append-nil (record_words (message_of y))
-batch_more (x ∷ xs) y =
-    ap (λ l. record_words (message_of x) ++ l) (batch_more xs y)
-    ∙ sym (append_assoc (record_words (message_of x)) (batch_words xs) (record_words (message_of y)))
-
--- the words of one message more
-pub total_next : (os : List Outgoing) (i : ℕ) (d : Outgoing) → i < length os
-    → total_words (entries_of (take (i + 1) os))
-    ≡ total_words (entries_of (take i os)) + entry_words (Holds (message_of (get_or os i d)))
-total_next os i d lt =
-    let o : Outgoing = get_or os i d in
-    let last : total_words (entries_of (o ∷ [])) ≡ entry_words (Holds (message_of o)) = omega arith in
-    ap (λ l. total_words (entries_of l)) (take_more os i d lt)
-    ∙ ap total_words (entries_append (take i os) (o ∷ []))
-    ∙ total_append (entries_of (take i os)) (entries_of (o ∷ []))
-    ∙ ap (λ z. total_words (entries_of (take i os)) + z) last
-
--- some of the messages have at most the words of all
-pub total_upto : (os : List Outgoing) (i : ℕ) → total_words (entries_of (take i os)) ≤ total_words (entries_of os)
-total_upto os i =
-    let all : total_words (entries_of os)
-    ≡ total_words (entries_of (take i os)) + total_words (entries_of (drop i os)) =
-    ap (λ l. total_words (entries_of l)) (sym (take-append-drop i os))
-    ∙ ap total_words (entries_append (take i os) (drop i os))
-    ∙ total_append (entries_of (take i os)) (entries_of (drop i os)) in omega arith
-
--- there is room for one more
-pub batch_room : (os : List Outgoing) (i : ℕ) (d : Outgoing) → i < length os
-    → total_words (entries_of (take i os)) + entry_words (Holds (message_of (get_or os i d)))
-    ≤ total_words (entries_of os)
-batch_room os i d lt =
-    let upto = total_upto os (i + 1) in
-    let next = total_next os i d lt in omega arith
-
-pub batch_some : (os : List Outgoing) → 0 < length os → 0 < total_words (entries_of os)
-batch_some [] h = absurd (omega arith)
-batch_some (o ∷ os) h = omega arith
+pub zero_words : (n k : ℕ) → first_words (replicate n 0) k ≡ replicate k 0
+zero_words n k =
+    let long = length_first (replicate n 0) k in
+    let all = length-replicate {A = ℕ} k 0 in
+    ext_get_or 0 (first_words (replicate n 0) k) (replicate k 0) (omega arith) (λ i lt.
+    first_at (replicate n 0) k i (omega arith) ∙ zero_word n i ∙ sym (get_or-replicate k i 0 0 (omega arith)))

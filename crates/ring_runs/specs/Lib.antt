@@ -1,4 +1,5 @@
 pub mod Records
+pub mod Placing
 pub mod Spots
 pub mod Cells
 pub mod Views
@@ -8,4 +9,5 @@ pub mod Steps
 pub mod Laws
 pub mod Turns
 pub mod Writing
+pub mod Claiming
 pub mod Reading

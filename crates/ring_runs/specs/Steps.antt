@@ -14,8 +14,14 @@ Mine = Me ℕ View
 
 -- ---- producers
 
--- an open claim of this many words, from `place` on, comes after the others, with the words that its slots have
+-- the k-th claim is this one
+abbrev pub HasClaim : View → ℕ → Claim → Type 0
+HasClaim v k c = get_elem? v.claims k ≡ some c
+
+-- An open claim of this many words, from `place` on, comes after the others, with the words that its slots have. Each
+-- other claim ends at `place` or before.
 pub record Claims (tail place len : ℕ) (me me' : Mine) : Type 0 where
+  pub after : (k : ℕ) (c : Claim) → HasClaim me.0 k c → c.place + length c.words ≤ place
   pub words : List ℕ
   pub count : length words ≡ len
   pub held : me'.1 ≡ me.1
@@ -41,10 +47,6 @@ pub record LoadsHead (me : Mine) (n : ℕ) (me' : Mine) : Type 0 where
   pub view : me'.0 ≡ with_head_seen n me.0
   pub limit : n ≤ last_position
   pub below : me.0.alone ≡ true → n ≤ me.0.tail
-
--- the k-th claim is this one
-abbrev pub HasClaim : View → ℕ → Claim → Type 0
-HasClaim v k c = get_elem? v.claims k ≡ some c
 
 -- the claim is at this stage, and its place has the index i
 pub record IsAt (t : Stage) (i : ℕ) (v : View) (k : ℕ) (c : Claim) : Type 0 where

@@ -7,8 +7,11 @@
 //! - `write`, `read`: calls that publish and take whole runs. `slots`: records in the slots that a seat has out.
 #![tactic(auto)]
 
+mod claims;
+mod fault;
 mod laws;
 mod plays;
+mod producer;
 mod read;
 mod rule;
 mod slots;
@@ -17,7 +20,10 @@ mod table;
 mod view;
 mod write;
 
+pub use claims::{OpenClaim, claim, claim_once};
+pub use fault::TryFault;
 pub use laws::what_is_taken_was_published;
+pub use producer::Producer;
 pub use read::{Consumer, read_run};
 pub use rule::RunsRule;
 pub use steps::consumer::{look, retake, return_all, store_head};
@@ -27,4 +33,4 @@ pub use steps::producer::{
 pub use steps::{RunsSeat, SharedRuns};
 pub use table::{RunsTable, open, split_producer, split_reader};
 pub use view::{Claim, Entry, Reader, Run, Stage, View};
-pub use write::{Outgoing, Producer, write_batch};
+pub use write::{Outgoing, write_batch};

@@ -8,7 +8,7 @@ ghost use Rattle.ring_runs.specs.Records.{Entry, entry_bytes, entry_header, entr
 ghost use Rattle.ring_runs.specs.Rule.{last_position};
 ghost use Rattle.ring_runs.specs.Seats.{IsCapacity};
 ghost use Rattle.ring_runs.specs.Turns.{HasMore, IsPast, IsSameTable, Passes, turned_by};
-ghost use Rattle.ring_runs.specs.Writing.{words_in};
+ghost use Rattle.ring_runs.specs.Placing.{words_in};
 
 use crate::slots::{copy_body, look_slot, pass_slots};
 use crate::steps::consumer::{look, store_head};

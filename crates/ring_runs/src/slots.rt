@@ -1,17 +1,22 @@
 //! Records in the slots that a seat has out. It goes through them once: each slot is written or read, and then goes
 //! after the others.
-ghost use Rattle.std.specs.Prelude.{◌≡◌, ◌+◌, ◌*◌, ◌/◌, ◌%◌, ◌^◌, ◌≤◌, ◌<◌, pos, ◌≤ℤ◌, [], ◌∷◌, ◌++◌, All, List, ℕ, length, slice_index};
+ghost use Rattle.std.specs.Prelude.{◌≡◌, ◌+◌, ◌-◌, ◌*◌, ◌/◌, ◌%◌, ◌^◌, ◌≤◌, ◌<◌, pos, ◌≤ℤ◌, [], ◌∷◌, ◌++◌, All, List, ℕ, length, replicate, slice_index, slice_set};
 ghost use Rattle.ring_layout.specs.History.{IsMessage};
-ghost use Rattle.ring_runs.specs.Records.{AreRecords, entry_words, Holds, total_words};
+ghost use Rattle.ring_runs.specs.Claiming.{open_claim};
+ghost use Rattle.ring_runs.specs.Placing.{body_words, end_after, lead_words, next_place, placed_words, record_size, record_words, words_in};
+ghost use Rattle.ring_runs.specs.Records.{AreRecords, entry_words, Holds};
 ghost use Rattle.ring_runs.specs.Rule.{last_position};
 ghost use Rattle.ring_runs.specs.Seats.{IsCapacity};
 ghost use Rattle.ring_runs.specs.Spots.{spots};
 ghost use Rattle.ring_runs.specs.Turns.{Fills, HasMore, HasRoom, IsPast, IsSameTable, Passes, turned_by};
-ghost use Rattle.ring_runs.specs.Writing.{batch_words, entries_of, first_words, IsSendable, new_message, record_words, words_in};
+ghost use Rattle.ring_runs.specs.Writing.{batch_end, batch_entries, batch_words, IsSendable, new_message};
 
+use crate::producer::{place_after, record_size};
 use crate::steps::{RunsSeat, SharedRuns};
 use crate::write::Outgoing;
-use ring_layout::{byte_index, committed_header, first_word, put_part};
+use ring_layout::{
+    byte_index, committed_header, first_word, open_header, padding_header, put_part,
+};
 
 /// Puts a word into the next slot, which is that of the position `at`.
 #[inline(always)]
@@ -26,15 +31,52 @@ fn put_slot(ring: &SharedRuns, seat: &mut RunsSeat, capacity: u32, at: u64, word
     seat.turn();
 }
 
+/// Puts zeros into the next `count` slots, from the position `at` on.
+#[inline(always)]
+fn put_zeros(ring: &SharedRuns, seat: &mut RunsSeat, capacity: u32, at: u64, count: u64)
+    requires table { seat.old.table_id ≡ ring.now.table_id }
+    requires lawful { IsCapacity capacity }
+    requires small { at + count ≤ 2 ^ 60 }
+    requires room { HasRoom capacity at count seat.old.me.1 }
+    ensures seat { IsSameTable seat.old seat.new }
+    ensures fills { Fills capacity at (replicate count 0) seat.old.me.1 seat.new.me.1 }
+{
+    for k in 0..count {
+        put_slot(ring, seat, capacity, at + k, 0);
+    }
+}
+
+/// Puts the padding that comes before a record of this many words, if there is any, into the slots from the position
+/// `at` on. Returns the place of the record.
+#[inline(always)]
+fn put_padding(ring: &SharedRuns, seat: &mut RunsSeat, capacity: u32, at: u64, words: u64) -> u64
+    requires table { seat.old.table_id ≡ ring.now.table_id }
+    requires lawful { IsCapacity capacity }
+    requires small { at ≤ last_position }
+    requires room { HasRoom capacity at (next_place capacity at words - at) seat.old.me.1 }
+    ensures seat { IsSameTable seat.old seat.new }
+    ensures place { result ≡ next_place capacity at words }
+    ensures fills { Fills capacity at (lead_words capacity at words) seat.old.me.1 seat.new.me.1 }
+{
+    let place = place_after(capacity, at, words);
+    if place > at {
+        let padding = place - at;
+        let header = padding_header(8 * padding);
+        put_slot(ring, seat, capacity, at, header);
+        put_zeros(ring, seat, capacity, at + 1, padding - 1);
+    }
+    place
+}
+
 /// Puts the words of a body into the slots from the position `at` on.
 #[inline(always)]
 fn put_body(ring: &SharedRuns, seat: &mut RunsSeat, capacity: u32, at: u64, body: &[u8])
     requires table { seat.old.table_id ≡ ring.now.table_id }
     requires lawful { IsCapacity capacity }
-    requires small { (at ≤ last_position + capacity) × (length body.now ≤ capacity) }
+    requires small { (at ≤ 2 ^ 60) × (length body.now ≤ capacity) }
     requires room { HasRoom capacity at (words_in (length body.now)) seat.old.me.1 }
     ensures seat { IsSameTable seat.old seat.new }
-    ensures fills { Fills capacity at (first_words body.now (words_in (length body.now))) seat.old.me.1 seat.new.me.1 }
+    ensures fills { Fills capacity at (body_words body.now) seat.old.me.1 seat.new.me.1 }
 {
     let count = body.len().div_ceil(8);
     for k in 0..count {
@@ -43,9 +85,34 @@ fn put_body(ring: &SharedRuns, seat: &mut RunsSeat, capacity: u32, at: u64, body
     }
 }
 
-/// Puts the record of a message into the slots from the position `at` on. Returns the position after it.
+/// Puts the record of a message into the slots from the position `at` on.
 #[inline(always)]
 fn put_record(
+    ring: &SharedRuns,
+    seat: &mut RunsSeat,
+    capacity: u32,
+    at: u64,
+    type_id: i32,
+    body: &[u8],
+)
+    requires table { seat.old.table_id ≡ ring.now.table_id }
+    requires lawful { IsCapacity capacity }
+    requires small { (at ≤ last_position + capacity) × (length body.now ≤ capacity) }
+    requires type_id { pos 1 ≤ℤ type_id }
+    requires room { HasRoom capacity at (entry_words (Holds (new_message type_id body.now))) seat.old.me.1 }
+    ensures seat { IsSameTable seat.old seat.new }
+    ensures fills { Fills capacity at (record_words (new_message type_id body.now)) seat.old.me.1 seat.new.me.1 }
+    ensures valid { IsMessage (8 * capacity) (new_message type_id body.now) }
+{
+    let header = committed_header(type_id, body.len());
+    put_slot(ring, seat, capacity, at, header);
+    put_body(ring, seat, capacity, at + 1, body);
+}
+
+/// Puts the record of a message, with the padding before it, into the slots after the tail `at`. Returns the position
+/// after it.
+#[inline(always)]
+fn put_placed(
     ring: &SharedRuns,
     seat: &mut RunsSeat,
     capacity: u32,
@@ -57,16 +124,17 @@ fn put_record(
     requires lawful { IsCapacity capacity }
     requires small { (at ≤ last_position) × (length body.now ≤ capacity) }
     requires type_id { pos 1 ≤ℤ type_id }
-    requires room { HasRoom capacity at (entry_words (Holds (new_message type_id body.now))) seat.old.me.1 }
+    requires room { HasRoom capacity at (end_after capacity at (record_size (length body.now)) - at) seat.old.me.1 }
     ensures seat { IsSameTable seat.old seat.new }
-    ensures next { result ≡ at + entry_words (Holds (new_message type_id body.now)) }
-    ensures fills { Fills capacity at (record_words (new_message type_id body.now)) seat.old.me.1 seat.new.me.1 }
+    ensures next { result ≡ end_after capacity at (record_size (length body.now)) }
+    ensures fills { Fills capacity at (placed_words capacity at (new_message type_id body.now))
+        seat.old.me.1 seat.new.me.1 }
     ensures valid { IsMessage (8 * capacity) (new_message type_id body.now) }
 {
-    let header = committed_header(type_id, body.len());
-    put_slot(ring, seat, capacity, at, header);
-    put_body(ring, seat, capacity, at + 1, body);
-    at + 1 + body.len().div_ceil(8) as u64
+    let words = record_size(capacity, body.len());
+    let place = put_padding(ring, seat, capacity, at, words);
+    put_record(ring, seat, capacity, place, type_id, body);
+    place + words
 }
 
 /// Puts the records of these messages into the slots from `place` on, which are all that the seat has.
@@ -80,18 +148,46 @@ pub(crate) fn put_records(
 )
     requires table { seat.old.table_id ≡ ring.now.table_id }
     requires lawful { IsCapacity capacity }
-    requires small { place + total_words (entries_of messages.now) ≤ last_position }
+    requires small { batch_end capacity place messages.now ≤ last_position }
     requires messages { All (IsSendable capacity) messages.now }
     requires has { (ys : List ℕ) × (seat.old.me.1 ≡ spots capacity place ys)
-        × (length ys ≡ total_words (entries_of messages.now)) }
+        × (place + length ys ≡ batch_end capacity place messages.now) }
     ensures seat { IsSameTable seat.old seat.new }
-    ensures fills { seat.new.me.1 ≡ spots capacity place (batch_words messages.now) }
-    ensures records { AreRecords (8 * capacity) (entries_of messages.now) (batch_words messages.now) }
+    ensures fills { seat.new.me.1 ≡ spots capacity place (batch_words capacity place messages.now) }
+    ensures records { AreRecords (8 * capacity) (batch_entries capacity place messages.now)
+        (batch_words capacity place messages.now) }
 {
     let mut at = place;
     for message in messages {
-        at = put_record(ring, seat, capacity, at, message.type_id, message.body);
+        at = put_placed(ring, seat, capacity, at, message.type_id, message.body);
     }
+}
+
+/// Puts the record of an open claim, with the padding before it, into the slots from `start` on, which are all that
+/// the seat has. The bytes of the claim are zeros.
+#[inline(always)]
+pub(crate) fn put_claim(
+    ring: &SharedRuns,
+    seat: &mut RunsSeat,
+    capacity: u32,
+    start: u64,
+    type_id: i32,
+    len: usize,
+)
+    requires table { seat.old.table_id ≡ ring.now.table_id }
+    requires lawful { IsCapacity capacity }
+    requires small { (start ≤ last_position) × (len ≤ capacity) }
+    requires has { (ys : List ℕ) × (seat.old.me.1 ≡ spots capacity start ys)
+        × (start + length ys ≡ end_after capacity start (record_size len)) }
+    ensures seat { IsSameTable seat.old seat.new }
+    ensures fills { seat.new.me.1
+        ≡ spots capacity start (open_claim capacity start type_id (replicate len 0)).words }
+{
+    let words = record_size(capacity, len);
+    let place = put_padding(ring, seat, capacity, start, words);
+    let header = open_header(type_id, len);
+    put_slot(ring, seat, capacity, place, header);
+    put_zeros(ring, seat, capacity, place + 1, words - 1);
 }
 
 /// Reads the slot that is first, which goes after the others.
@@ -161,4 +257,18 @@ pub(crate) fn copy_body(
         let word = look_slot(ring, seat, capacity, at + k as u64);
         put_part(scratch, 8 * k, word);
     }
+}
+
+/// Puts a word into the next slot, which is that of the position `at`, in place of its own.
+#[inline(always)]
+pub(crate) fn set_slot(ring: &SharedRuns, seat: &mut RunsSeat, capacity: u32, at: u64, word: u64)
+    requires table { seat.old.table_id ≡ ring.now.table_id }
+    requires lawful { IsCapacity capacity }
+    requires more { HasMore capacity at 1 seat.old.me.1 }
+    ensures seat { IsSameTable seat.old seat.new }
+    ensures sets { (p j : ℕ) (ws : List ℕ) → IsPast capacity at 1 p j ws seat.old.me.1
+        → seat.new.me.1 ≡ turned_by capacity p (j + 1) (slice_set ws j word) }
+{
+    ring.exchange(seat, byte_index(capacity, at) as usize, word);
+    seat.turn();
 }

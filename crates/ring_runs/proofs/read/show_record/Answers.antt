@@ -4,7 +4,7 @@ use Rattle.std.proofs.lemmas.Int.{to_z-of_z}
 use Rattle.ring_layout.specs.Headers.{padding_type}
 use Rattle.ring_words.proofs.ReadBranches.{padding_from}
 use Rattle.ring_runs.specs.Records.{entry_bytes, entry_type, entry_words}
-use Rattle.ring_runs.specs.Writing.{words_in}
+use Rattle.ring_runs.specs.Placing.{words_in}
 use Rattle.ring_runs.proofs.RecordLemmas.{entry_some, type_fits}
 use Rattle.ring_runs.proofs.ShowLemmas.{behind_header, message_record, message_words, next_header, next_past, passed_record}
 use Rattle.ring_runs.proofs.TurnLemmas.{more_of, past_less}

@@ -5,7 +5,7 @@ use Rattle.ring_layout.specs.History.{overwritten}
 use Rattle.ring_layout.proofs.WordBytes.{byte_of_bytes}
 use Rattle.ring_words.proofs.BodyLemmas.{CopiesWords, more_copied}
 use Rattle.ring_runs.specs.Turns.{Passes}
-use Rattle.ring_runs.specs.Writing.{words_in}
+use Rattle.ring_runs.specs.Placing.{words_in}
 use Rattle.ring_runs.proofs.TurnLemmas.{more_of, passes_more, passes_none, past_less, past_on}
 use Rattle.ring_runs.proofs.slots.copy_body.Goals as goal
 

@@ -1,7 +1,7 @@
 use Rattle.std.proofs.Common.{◌≡◌, ℕ, ◌*◌, List, length}
 use Rattle.ring_words.proofs.BodyLemmas.{CopiesWords}
 use Rattle.ring_runs.specs.Turns.{IsPast, IsSameTable, Passes}
-use Rattle.ring_runs.specs.Writing.{words_in}
+use Rattle.ring_runs.specs.Placing.{words_in}
 use Rattle.ring_runs.proofs.slots.copy_body.Given as goal
 
 abbrev pub invariant-loop-k : goal.invariant-loop-k

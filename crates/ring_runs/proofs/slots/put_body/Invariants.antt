@@ -1,5 +1,5 @@
 use Rattle.ring_runs.specs.Turns.{Fills, IsSameTable}
-use Rattle.ring_runs.specs.Writing.{first_words}
+use Rattle.ring_runs.specs.Placing.{first_words}
 use Rattle.ring_runs.proofs.slots.put_body.Given as goal
 
 abbrev pub invariant-loop-k : goal.invariant-loop-k

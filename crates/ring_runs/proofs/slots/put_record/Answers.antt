@@ -4,20 +4,22 @@ use Rattle.std.proofs.lemmas.Int.{to_z-of_z}
 use Rattle.std.proofs.lemmas.List.Elements.{All-from_get_or}
 use Rattle.ring_layout.specs.Headers.{committed_header}
 use Rattle.ring_runs.specs.Turns.{Fills}
-use Rattle.ring_runs.specs.Writing.{first_words, words_in}
+use Rattle.ring_runs.specs.Placing.{first_words, words_in}
 use Rattle.ring_runs.proofs.TurnLemmas.{fills_both, room_after, room_less}
 use Rattle.ring_runs.proofs.slots.put_record.Goals as goal
 
 pub put_slot-requires-clause-room : goal.put_slot-requires-clause-room
 put_slot-requires-clause-room c = room_less c.requires.room 1 (omega arith)
 
+pub put_body-requires-clause-small : goal.put_body-requires-clause-small
+put_body-requires-clause-small c =
+    let small = c.requires.small in
+    let most = c.requires.lawful.most in (omega arith, small.1)
+
 pub put_body-requires-clause-room : goal.put_body-requires-clause-room
 put_body-requires-clause-room c =
     room_after c.requires.room (words_in (length c.args.body.now)) (c.args.at + 1)
     (c.committed_header-header.result ∷ []) c.put_slot.new.seat.me.1 c.put_slot.ensures.fills refl (omega arith)
-
-pub returns-clause-next : goal.returns-clause-next
-returns-clause-next c = omega arith
 
 pub returns-clause-fills : goal.returns-clause-fills
 returns-clause-fills c =

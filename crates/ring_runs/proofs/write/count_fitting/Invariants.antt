@@ -1,8 +1,10 @@
-use Rattle.std.proofs.Common.{◌≡◌, ◌≤◌, take}
-use Rattle.ring_runs.specs.Records.{total_words}
-use Rattle.ring_runs.specs.Writing.{entries_of}
+use Rattle.std.proofs.Common.{◌≡◌, ◌<◌, ◌≤◌, take}
+use Rattle.ring_runs.specs.Rule.{last_position}
+use Rattle.ring_runs.specs.Writing.{batch_end}
 use Rattle.ring_runs.proofs.write.count_fitting.Given as goal
 
 abbrev pub invariant-loop-message : goal.invariant-loop-message
 invariant-loop-message l = (l.batch.count ≡ l.message-index)
-    × (l.batch.words ≡ total_words (entries_of (take l.message-index l.messages))) × (l.batch.words ≤ l.room)
+    × (l.batch.end ≡ batch_end l.capacity l.tail (take l.message-index l.messages))
+    × (0 < l.batch.count → l.batch.end ≤ l.limit)
+    × (l.batch.end ≤ last_position)
