@@ -16,6 +16,8 @@ pub mod TurnLemmas
 pub mod WordLemmas
 pub mod PlaceLemmas
 pub mod StageLemmas
+pub mod MergeLemmas
+pub mod SettleLemmas
 pub mod OpenLemmas
 pub mod BatchLemmas
 pub mod ShowLemmas

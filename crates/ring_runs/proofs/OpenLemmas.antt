@@ -1,22 +1,28 @@
 -- Open claims that their producer holds.
-use Rattle.std.proofs.Common.{◌≡◌, ◌≢◌, ℕ, ℤ, ◌+◌, ◌-◌, ◌*◌, ◌<◌, ◌≤◌, ◌≤ℤ◌, pos, FitsSigned, All, List, [], ◌∷◌, ◌++◌, length, length-append, replicate, Option, Some, None, Result, Ok, sym, refl, ap, ◌∙◌, subst, ⊎_elim, inl, inr, arith}
+use Rattle.std.proofs.Common.{◌≡◌, ◌≢◌, ℕ, ℤ, ◌+◌, ◌-◌, ◌*◌, ◌^◌, ◌<◌, ◌≤◌, ◌≤ℤ◌, pos, FitsSigned, All, List, [], ◌∷◌, ◌++◌, length, replicate, set, Option, Some, None, Result, Ok, sym, refl, ap, ◌∙◌, subst, ⊎_elim, inl, inr, arith}
 use mathlib.Core.Option.{some, some-injective}
 use lib.ListN.{get_elem?}
 use Rattle.std.specs.Int.{w32}
-use Rattle.std.proofs.lemmas.List.{get_or-replicate, length-replicate}
-use Rattle.std.proofs.lemmas.List.Elements.{All-from_get_or}
-use Rattle.atomic_table.proofs.Lists.{at_last, at_longer, set_else}
+use Rattle.std.proofs.lemmas.List.{length-replicate}
+use Rattle.std.proofs.lemmas.List.Elements.{All-replicate}
+use Rattle.atomic_table.proofs.Lists.{at_longer, set_else, set_here}
 use Rattle.atomic_table.specs.Seated.{TableId}
 use Rattle.atomic_table.specs.declared.shared.Seat.{Seat}
-use Rattle.ring_layout.specs.History.{IsMessage}
+use Rattle.ring_layout.specs.Headers.{aborted_header}
+use Rattle.ring_layout.specs.History.{IsMessage, overwritten}
+use Rattle.ring_layout.proofs.WordBytes.{length-overwritten}
 use Rattle.ring_runs.specs.Cells.{Claim}
-use Rattle.ring_runs.specs.Claiming.{AreBelow, handle_behind, HasBody, IsOpenAt, IsRefusedBy, KeepsOpen, KeepsOthers, open_claim, open_words, OpenClaim}
+use Rattle.ring_runs.specs.Claiming.{AreBelow, handle_behind, HasBody, IsOpenAt, IsRefusedBy, KeepsOpen, KeepsOthers, open_claim, open_words, OpenClaim, PutsBytes}
 use Rattle.ring_runs.specs.Placing.{body_words, end_after, record_size, words_in}
+use Rattle.ring_runs.specs.Records.{IsRecord, Skips}
 use Rattle.ring_runs.specs.Rule.{last_position}
-use Rattle.ring_runs.specs.Seats.{IsSeatOf}
+use Rattle.ring_runs.specs.Seats.{IsSameSeat, IsSeatOf}
 use Rattle.ring_runs.specs.Steps.{HasClaim}
 use Rattle.ring_runs.specs.Views.{View, changed, with_claims, with_head_seen}
 use Rattle.ring_runs.specs.Writing.{IsProducer, IsSole, MayHaveLooked, new_message, Producer}
+use Rattle.ring_runs.proofs.Calls.{seat_on}
+use Rattle.ring_runs.proofs.ListLemmas.{below_length}
+use Rattle.ring_runs.proofs.MergeLemmas.{Small, small_overwritten}
 use Rattle.ring_runs.proofs.PlaceLemmas.{led_size}
 use Rattle.ring_runs.proofs.StageLemmas.{newest_changed, newest_has}
 use Rattle.ring_runs.proofs.WordLemmas.{length_first}
@@ -36,8 +42,7 @@ zeros_message n type_id len least fits short =
       type_id = least;
       type_fits = fits;
       short = omega arith;
-      bytes = All-from_get_or (λ b. b < 256) (replicate len 0) 0 (λ i lt.
-          subst (λ z. z < 256) (sym (get_or-replicate len i 0 0 (omega arith))) (omega arith));
+      bytes = All-replicate (λ b. b < 256) len 0 (omega arith);
     }
 
 -- an open claim stays open in a view that has it
@@ -139,3 +144,50 @@ producer_on {id} {key} {n} {p} was seat of none claims known tail is sole = reco
 pub looked_alone : (v w : View) → MayHaveLooked v w → w.alone ≡ v.alone
 looked_alone v w = ⊎_elim (λ (e : w ≡ v). ap (λ (u : View). u.alone) e)
     (λ (h : (head : ℕ) × (w ≡ with_head_seen head v)). ap (λ (u : View). u.alone) h.1)
+
+-- ---- a claim that is changed
+
+-- bytes were put into an open claim, which is open
+pub put_open : (n : ℕ) (v w : View) (t : OpenClaim) (offset : ℕ) (bytes : List ℕ) → (o : IsOpenAt n v t)
+    → offset + length bytes ≤ t.len → Small bytes → PutsBytes n t offset bytes v w → IsOpenAt n w t
+put_open n v w t offset bytes o room small puts =
+    let b = o.claim in
+    let long = b.long in
+    let new : List ℕ = overwritten offset bytes o.body in
+    let same : length new ≡ length o.body = length-overwritten offset bytes o.body (omega arith) in
+    let short = b.message.short in record {
+      nth = o.nth;
+      body = new;
+      claim = record {
+        has = ap (λ (u : View). get_elem? u.claims o.nth) (puts o.nth o.body b)
+            ∙ set_here v.claims o.nth (open_claim n t.start t.type_id new)
+            (below_length v.claims o.nth (open_claim n t.start t.type_id o.body) b.has);
+        long = same ∙ b.long;
+        message = record {
+          type_id = b.message.type_id;
+          type_fits = b.message.type_fits;
+          short = omega arith;
+          bytes = small_overwritten offset bytes o.body small b.message.bytes;
+        };
+      };
+      place = o.place;
+      limit = o.limit;
+    }
+
+-- the producer after a change of one of its claims
+pub producer_changed : {id : TableId} {key n : ℕ} {p : Producer} → IsProducer id key n p → (seat : Seat ℕ View)
+    → IsSameSeat p.seat seat → seat.me.1 ≡ [] → (k : ℕ) (d : Claim) → seat.me.0 ≡ changed k d p.seat.me.0
+    → IsProducer id key n (record { seat = seat; tail = p.tail; head = p.head })
+producer_changed {id} {key} {n} {p} was seat same none k d is =
+    producer_on was seat (seat_on was.seat same) none (set p.seat.me.0.claims k d) p.seat.me.0.tail p.tail is
+    (λ sole. let t = was.sole sole in (t.tail_is, t.order, t.near, t.limit))
+
+-- a record of padding
+pub padding_whole : (n len : ℕ) (ws : List ℕ) → 8 * n ≤ 2 ^ 24 → len ≤ n → length ws ≡ words_in len
+    → IsRecord (8 * n) (Skips (8 + len)) (aborted_header len ∷ ws)
+padding_whole n len ws most short long = record {
+  valid = (omega arith, omega arith);
+  whole = omega arith;
+  header = refl;
+  body = λ k h. absurd (omega arith);
+}

@@ -149,15 +149,14 @@ looked_at n at p j y ws held held' t told =
 
 -- the next slot was given another word
 pub set_next : (n at p j w : ℕ) (ws : List ℕ) (held held' : Held) → IsPast n at 1 p j ws held
-    → ((old : ℕ) (rest : Held) → held ≡ (at % n, old) ∷ rest → held' ≡ rest ++ (at % n, w) ∷ [])
+    → ((rest : Held) → held ≡ (at % n, get_or ws j 0) ∷ rest → held' ≡ rest ++ (at % n, w) ∷ [])
     → held' ≡ turned_by n p (j + 1) (set ws j w)
 set_next n at p j w ws held held' t told =
     let more = t.more in
     let after : drop (j + 1) (set ws j w) ≡ drop (j + 1) ws = drop-set-lt (j + 1) ws j w (omega arith) in
     let before : take (j + 1) (set ws j w) ≡ take j ws ++ w ∷ [] =
     take_more_set ws j w (omega arith) in
-    told (get_or ws j 0) (spots n (suc (p + j)) (drop (j + 1) ws) ++ spots n p (take j ws))
-    (past_front n at p j ws held t)
+    told (spots n (suc (p + j)) (drop (j + 1) ws) ++ spots n p (take j ws)) (past_front n at p j ws held t)
     ∙ ap (λ q. (spots n (suc (p + j)) (drop (j + 1) ws) ++ spots n p (take j ws)) ++ (q % n, w) ∷ []) t.at_is
     ∙ turned_on n p j (drop (j + 1) ws) (take j ws) w (length-take-le j ws (omega arith))
     ∙ (λ i. spots n (p + (j + 1)) (sym after i) ++ spots n p (sym before i))

@@ -1,5 +1,5 @@
 -- Claims that producers hold, and what the calls for claims do.
-use Rattle.std.specs.Prelude.{◌≡◌, ◌≢◌, ◌⊎◌, ℕ, ◌+◌, ◌*◌, ◌≤◌, ◌<◌, ℤ, All, List, [], ◌∷◌, ◌++◌, length, replicate, nat_lt, Option, Some, None, if◌then◌else◌}
+use Rattle.std.specs.Prelude.{◌≡◌, ◌≢◌, ◌⊎◌, ℕ, ◌+◌, ◌*◌, ◌/◌, ◌≤◌, ◌<◌, ℤ, All, List, [], ◌∷◌, ◌++◌, length, replicate, nat_lt, Option, Some, None, if◌then◌else◌}
 use Rattle.ring_layout.specs.Headers.{aborted_header, open_header}
 use Rattle.ring_layout.specs.History.{IsMessage, overwritten}
 use Rattle.ring_layout.specs.Refusals.{message_refusal_or}
@@ -10,6 +10,7 @@ use Rattle.ring_runs.specs.Cells.{Claim, Open, Published}
 use Rattle.ring_runs.specs.Placing.{body_words, end_after, lead, lead_words, next_place, placed, placed_words, record_size}
 use Rattle.ring_runs.specs.Rule.{last_position}
 use Rattle.ring_runs.specs.Steps.{HasClaim}
+use Rattle.ring_runs.specs.Turns.{Held, turned_by}
 use Rattle.ring_runs.specs.Views.{View, changed, new_claim, with_claims, with_head_seen}
 use Rattle.ring_runs.specs.Writing.{MayHaveLooked, new_message, tail_after}
 pub use Rattle.ring_layout.specs.Refusals.{IsRefusedBy}
@@ -109,6 +110,14 @@ RefusesTry n type_id len old (Refused fault) new = (tail : ℕ) × Refuses n tai
 RefusesTry n type_id len old (Contended tail seen) new = Contends tail seen old new
 
 -- ---- putting and settling
+
+-- The slots from the position p on have the words `before` and then those of this body. The next slot is that of the
+-- position `at`, and has the word of the byte `offset` of the body. At least `count` bytes come from `offset` on.
+pub record HasBodyNext (n at offset count p : ℕ) (before body : List ℕ) (held : Held) : Type 0 where
+  pub at_is : at ≡ p + (length before + offset / 8)
+  pub held_is : held ≡ turned_by n p (length before + offset / 8) (before ++ body_words body)
+  pub bytes : All (λ b. b < 256) body
+  pub room : offset + count ≤ length body
 
 -- the bytes replace those of the claim's body from `offset` on
 abbrev pub PutsBytes : ℕ → OpenClaim → ℕ → List ℕ → View → View → Type 0

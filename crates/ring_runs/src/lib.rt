@@ -14,6 +14,7 @@ mod plays;
 mod producer;
 mod read;
 mod rule;
+mod settle;
 mod slots;
 mod steps;
 mod table;
@@ -26,6 +27,7 @@ pub use laws::what_is_taken_was_published;
 pub use producer::Producer;
 pub use read::{Consumer, read_run};
 pub use rule::RunsRule;
+pub use settle::{abort, commit, put};
 pub use steps::consumer::{look, retake, return_all, store_head};
 pub use steps::producer::{
     claim_alone, claim_shared, give_back, load_head, load_tail, publish, share_tail, take,

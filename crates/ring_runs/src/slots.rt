@@ -1,7 +1,8 @@
 //! Records in the slots that a seat has out. It goes through them once: each slot is written or read, and then goes
 //! after the others.
 ghost use Rattle.std.specs.Prelude.{◌≡◌, ◌+◌, ◌-◌, ◌*◌, ◌/◌, ◌%◌, ◌^◌, ◌≤◌, ◌<◌, pos, ◌≤ℤ◌, [], ◌∷◌, ◌++◌, All, List, ℕ, length, replicate, slice_index, slice_set};
-ghost use Rattle.ring_layout.specs.History.{IsMessage};
+ghost use Rattle.std.specs.Int.{from_le_bytes, to_le_bytes, w64};
+ghost use Rattle.ring_layout.specs.History.{IsMessage, overwritten};
 ghost use Rattle.ring_runs.specs.Claiming.{open_claim};
 ghost use Rattle.ring_runs.specs.Placing.{body_words, end_after, lead_words, next_place, placed_words, record_size, record_words, words_in};
 ghost use Rattle.ring_runs.specs.Records.{AreRecords, entry_words, Holds};
@@ -15,7 +16,7 @@ use crate::producer::{place_after, record_size};
 use crate::steps::{RunsSeat, SharedRuns};
 use crate::write::Outgoing;
 use ring_layout::{
-    byte_index, committed_header, first_word, open_header, padding_header, put_part,
+    byte_index, committed_header, first_word, open_header, padding_header, put_bytes_word, put_part,
 };
 
 /// Puts a word into the next slot, which is that of the position `at`.
@@ -271,4 +272,53 @@ pub(crate) fn set_slot(ring: &SharedRuns, seat: &mut RunsSeat, capacity: u32, at
 {
     ring.exchange(seat, byte_index(capacity, at) as usize, word);
     seat.turn();
+}
+
+/// Returns the word with these bytes in place of its own from the byte `from` on.
+#[inline(always)]
+fn merged(word: u64, from: usize, bytes: &[u8]) -> u64
+    requires { from + length bytes.now ≤ 8 }
+    ensures { result ≡ from_le_bytes w64 (overwritten from bytes.now (to_le_bytes w64 word)) }
+{
+    if bytes.len() == 8 {
+        return first_word(bytes);
+    }
+    put_bytes_word(word, from, bytes)
+}
+
+/// Puts bytes into the slot that is first, which goes after the others.
+#[inline(always)]
+fn merge_front(ring: &SharedRuns, seat: &mut RunsSeat, slot: usize, from: usize, bytes: &[u8])
+    requires table { seat.old.table_id ≡ ring.now.table_id }
+    requires front { (old : ℕ) × (rest : List (ℕ × ℕ)) × (seat.old.me.1 ≡ (slot, old) ∷ rest) }
+    requires within { from + length bytes.now ≤ 8 }
+    ensures seat { IsSameTable seat.old seat.new }
+    ensures puts { (old : ℕ) (rest : List (ℕ × ℕ)) → seat.old.me.1 ≡ (slot, old) ∷ rest → seat.new.me.1
+        ≡ rest ++ (slot, from_le_bytes w64 (overwritten from bytes.now (to_le_bytes w64 old))) ∷ [] }
+{
+    let word = merged(*seat.slot_mut(ring, slot), from, bytes);
+    ring.exchange(seat, slot, word);
+    seat.turn();
+}
+
+/// Puts bytes into the next slot, which is that of the position `at`, from the byte `from` of its word on.
+#[inline(always)]
+pub(crate) fn merge_slot(
+    ring: &SharedRuns,
+    seat: &mut RunsSeat,
+    capacity: u32,
+    at: u64,
+    from: usize,
+    bytes: &[u8],
+)
+    requires table { seat.old.table_id ≡ ring.now.table_id }
+    requires lawful { IsCapacity capacity }
+    requires more { HasMore capacity at 1 seat.old.me.1 }
+    requires within { from + length bytes.now ≤ 8 }
+    ensures seat { IsSameTable seat.old seat.new }
+    ensures merges { (p j : ℕ) (ws : List ℕ) → IsPast capacity at 1 p j ws seat.old.me.1
+        → seat.new.me.1 ≡ turned_by capacity p (j + 1) (slice_set ws j
+        (from_le_bytes w64 (overwritten from bytes.now (to_le_bytes w64 (slice_index ws j))))) }
+{
+    merge_front(ring, seat, byte_index(capacity, at) as usize, from, bytes);
 }

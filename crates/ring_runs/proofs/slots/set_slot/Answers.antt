@@ -12,7 +12,7 @@ exchange-requires c =
 
 pub returns-clause-sets : goal.returns-clause-sets
 returns-clause-sets c p j ws t =
-    set_next c.args.capacity c.args.at p j c.args.word ws c.args.seat.now.me.1 c.turn.new.self.me.1 t (λ y more e.
+    set_next c.args.capacity c.args.at p j c.args.word ws c.args.seat.now.me.1 c.turn.new.self.me.1 t (λ more e.
     ap (λ (z : Mine). z.1) c.turn.ensures.2 ∙ ap (λ (z : Mine). turned z.1) c.exchange.ensures.3
     ∙ ap (λ l. rest l ++ (c.byte_index.result, c.args.word) ∷ []) e
     ∙ ap (λ k. more ++ (k, c.args.word) ∷ []) c.byte_index.ensures)
