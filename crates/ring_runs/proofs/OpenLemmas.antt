@@ -11,15 +11,15 @@ use Rattle.atomic_table.specs.declared.shared.Seat.{Seat}
 use Rattle.ring_layout.specs.Headers.{aborted_header}
 use Rattle.ring_layout.specs.History.{IsMessage, overwritten}
 use Rattle.ring_layout.proofs.WordBytes.{length-overwritten}
-use Rattle.ring_runs.specs.Cells.{Claim}
-use Rattle.ring_runs.specs.Claiming.{AreBelow, handle_behind, HasBody, IsOpenAt, IsRefusedBy, KeepsOpen, KeepsOthers, open_claim, open_words, OpenClaim, PutsBytes}
+use Rattle.ring_runs.specs.Cells.{Claim, Open}
+use Rattle.ring_runs.specs.Claiming.{handle_behind, HasBody, IsOpenAt, IsRefusedBy, KeepsOpen, KeepsOthers, open_claim, open_words, OpenClaim, PutsBytes}
 use Rattle.ring_runs.specs.Placing.{body_words, end_after, record_size, words_in}
 use Rattle.ring_runs.specs.Records.{IsRecord, Skips}
 use Rattle.ring_runs.specs.Rule.{last_position}
 use Rattle.ring_runs.specs.Seats.{IsSameSeat, IsSeatOf}
 use Rattle.ring_runs.specs.Steps.{HasClaim}
-use Rattle.ring_runs.specs.Views.{View, changed, with_claims, with_head_seen}
-use Rattle.ring_runs.specs.Writing.{IsProducer, IsSole, MayHaveLooked, new_message, Producer}
+use Rattle.ring_runs.specs.Views.{View, changed, new_claim, with_claims, with_head_seen}
+use Rattle.ring_runs.specs.Writing.{AreBelow, HasOpen, IsProducer, IsRoom, IsSole, MayHaveLooked, new_message, Producer, tail_after, TakesRoom}
 use Rattle.ring_runs.proofs.Calls.{seat_on}
 use Rattle.ring_runs.proofs.ListLemmas.{below_length}
 use Rattle.ring_runs.proofs.MergeLemmas.{Small, small_overwritten}
@@ -89,13 +89,22 @@ pub none_refused : {T F : Type 0} → (refusal : Option F) (x : T)
 none_refused None x h = refl
 none_refused (Some fault) x h = absurd cc
 
--- what the newest claim becomes
-pub newest_is : (u : View) (c d : Claim) (tail : ℕ) (v w : View) → v ≡ with_claims (u.claims ++ c ∷ []) tail u
-    → (HasClaim v (length u.claims) c → w ≡ changed (length u.claims) d v)
-    → w ≡ with_claims (u.claims ++ d ∷ []) tail u
-newest_is u c d tail v w is told =
-    told (ap (λ (z : View). get_elem? z.claims (length u.claims)) is ∙ newest_has u u.claims c tail)
-    ∙ ap (λ (z : View). changed (length u.claims) d z) is ∙ newest_changed u u.claims c d tail
+-- the room that was taken is the newest claim
+pub room_newest : {tail end : ℕ} {u v : View} → (r : TakesRoom tail end u v) → HasOpen v (length u.claims) tail r.words
+room_newest {tail} {end} {u} {v} r = ap (λ (z : View). get_elem? z.claims (length u.claims)) r.view
+    ∙ newest_has u u.claims (new_claim Open tail [] r.words) (tail_after u.alone u.tail end)
+
+pub room_taken : {tail end : ℕ} {u v : View} → TakesRoom tail end u v → IsRoom tail end v
+room_taken {tail} {end} {u} {v} r =
+    record { nth = length u.claims; words = r.words; has = room_newest r; count = r.count }
+
+-- what the room becomes
+pub room_is : {tail end : ℕ} {u v : View} → (r : TakesRoom tail end u v) → (d : Claim) (w : View)
+    → (HasOpen v (length u.claims) tail r.words → w ≡ changed (length u.claims) d v)
+    → w ≡ with_claims (u.claims ++ d ∷ []) (tail_after u.alone u.tail end) u
+room_is {tail} {end} {u} {v} r d w told =
+    told (room_newest r) ∙ ap (λ (z : View). changed (length u.claims) d z) r.view
+    ∙ newest_changed u u.claims (new_claim Open tail [] r.words) d (tail_after u.alone u.tail end)
 
 -- the claim that was made is open
 pub opened : (n tail end : ℕ) (type_id : ℤ) (len : ℕ) (u w : View)

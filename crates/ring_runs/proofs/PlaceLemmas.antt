@@ -10,7 +10,10 @@ use Rattle.ring_layout.specs.Places.{end_after, next_place, room}
 use Rattle.ring_runs.specs.Records.{AreRecords, Entry, entry_words, Holds, IsRecord, Skips}
 use Rattle.ring_runs.specs.Placing.{body_words, lead, lead_words, padding_words, placed, placed_words, record_words, words_in}
 use Rattle.ring_runs.specs.Seats.{IsCapacity}
+use Rattle.ring_runs.specs.Spots.{spots}
+use Rattle.ring_runs.specs.Turns.{HasRoom, Held}
 use Rattle.ring_runs.proofs.RecordLemmas.{append_records, none_left}
+use Rattle.ring_runs.proofs.TurnLemmas.{fill_starts}
 use Rattle.ring_runs.proofs.WordLemmas.{length_first, record_holds}
 
 -- the record follows the tail
@@ -119,3 +122,16 @@ pub placed_size : (n tail : ℕ) (m : Message) → 0 < n
 placed_size n tail m some =
     let words = length_first m.body (words_in (length m.body)) in
     led_size n tail (entry_words (Holds m)) (record_words m) some (omega arith)
+
+-- the room for a record, with the padding before it
+pub room_for : (n start size : ℕ) (held : Held) → ((ys : List ℕ) × (held ≡ spots n start ys)
+    × (start + length ys ≡ end_after n start size)) → HasRoom n start (end_after n start size - start) held
+room_for n start size held h =
+    let count = h.2 in record {
+      first = start;
+      total = end_after n start size - start;
+      done = [];
+      filling = fill_starts n start (end_after n start size - start) h.0 held h.1 (omega arith);
+      at_is = omega arith;
+      room = omega arith;
+    }

@@ -12,7 +12,7 @@ use Rattle.ring_runs.specs.Rule.{last_position}
 use Rattle.ring_runs.specs.Steps.{HasClaim}
 use Rattle.ring_runs.specs.Turns.{Held, turned_by}
 use Rattle.ring_runs.specs.Views.{View, changed, new_claim, with_claims, with_head_seen}
-use Rattle.ring_runs.specs.Writing.{MayHaveLooked, new_message, tail_after}
+use Rattle.ring_runs.specs.Writing.{AreBelow, MayHaveLooked, new_message, tail_after}
 pub use Rattle.ring_layout.specs.Refusals.{IsRefusedBy}
 pub use Rattle.ring_runs.specs.declared.claims.OpenClaim.{OpenClaim}
 pub use Rattle.ring_runs.specs.declared.fault.TryFault.{TryFault}
@@ -67,10 +67,6 @@ KeepsOpen n v w = (t : OpenClaim) → IsOpenAt n v t → IsOpenAt n w t
 abbrev pub KeepsOthers : ℕ → ℕ → View → View → Type 0
 KeepsOthers n start v w = (t : OpenClaim) → IsOpenAt n v t → t.start ≢ start → IsOpenAt n w t
 
--- each claim of the view ends at this position or before
-abbrev pub AreBelow : ℕ → View → Type 0
-AreBelow p v = (k : ℕ) (c : Claim) → HasClaim v k c → c.place + length c.words ≤ p
-
 -- ---- claiming
 
 -- The reason why a claim is refused at this tail, in the order of the tests. Positions count words.
@@ -87,6 +83,15 @@ pub record OpensClaim (n tail : ℕ) (type_id : ℤ) (len : ℕ) (old : View) (t
   pub view : new ≡ with_claims (seen.claims ++ open_claim n tail type_id (replicate len 0) ∷ [])
       (tail_after seen.alone seen.tail (end_after n tail (record_size len))) seen
   pub claim : t ≡ handle_behind n tail type_id len
+
+-- the view has one more claim, after the tail, which is a run with this message
+pub record Writes (n tail : ℕ) (type_id : ℤ) (body : List ℕ) (old new : View) : Type 0 where
+  pub admitted : refusal_of n tail type_id (length body) ≡ None
+  pub seen : View
+  pub looked : MayHaveLooked old seen
+  pub after : AreBelow tail old
+  pub view : new ≡ with_claims (seen.claims ++ committed_claim n tail type_id body ∷ [])
+      (tail_after seen.alone seen.tail (end_after n tail (record_size (length body)))) seen
 
 -- a head was loaded, and there is no room before it
 pub record IsFull (n tail : ℕ) (type_id : ℤ) (len : ℕ) (old : View) (fault : ClaimFault) (new : View) : Type 0 where

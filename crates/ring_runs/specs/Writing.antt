@@ -10,9 +10,9 @@ use Rattle.ring_runs.specs.Rule.{last_position}
 use Rattle.ring_runs.specs.Seats.{IsSeatOf}
 use Rattle.ring_runs.specs.Steps.{HasClaim}
 use Rattle.ring_runs.specs.Views.{View, new_claim, with_claims, with_head_seen}
-pub use Rattle.ring_runs.specs.declared.write.Outgoing.{Outgoing}
+pub use Rattle.ring_runs.specs.declared.batch.Outgoing.{Outgoing}
 pub use Rattle.ring_runs.specs.declared.producer.Producer.{Producer}
-pub use Rattle.ring_runs.specs.declared.write.Batch.{Batch}
+pub use Rattle.ring_runs.specs.declared.batch.Batch.{Batch}
 
 -- ---- messages and their words
 
@@ -109,12 +109,24 @@ pub record Chooses (n tail : ℕ) (os : List Outgoing) (b : Batch) (old new : Vi
 abbrev pub HasOpen : View → ℕ → ℕ → List ℕ → Type 0
 HasOpen v k start words = HasClaim v k (new_claim Open start [] words)
 
--- a claim is open, begins at `start` and has this many words
-pub record IsRoom (start total : ℕ) (v : View) : Type 0 where
+-- a claim is open, from `start` up to `stop`
+pub record IsRoom (start stop : ℕ) (v : View) : Type 0 where
   pub nth : ℕ
   pub words : List ℕ
   pub has : HasOpen v nth start words
-  pub count : length words ≡ total
+  pub count : start + length words ≡ stop
+
+-- each claim of the view ends at this position or before
+abbrev pub AreBelow : ℕ → View → Type 0
+AreBelow p v = (k : ℕ) (c : Claim) → HasClaim v k c → c.place + length c.words ≤ p
+
+-- the view has one more claim, which is open, from the tail up to `end`
+pub record TakesRoom (tail end : ℕ) (old new : View) : Type 0 where
+  pub words : List ℕ
+  pub count : tail + length words ≡ end
+  pub after : AreBelow tail old
+  pub view : new
+      ≡ with_claims (old.claims ++ new_claim Open tail [] words ∷ []) (tail_after old.alone old.tail end) old
 
 -- The published claim of these messages. There is one claim for all of them, and no claim for no messages.
 abbrev pub run_of : ℕ → ℕ → List Outgoing → List Claim

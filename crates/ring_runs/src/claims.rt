@@ -8,9 +8,11 @@ ghost use Rattle.ring_runs.specs.Views.{changed};
 ghost use Rattle.ring_runs.specs.Writing.{HasOpen, IsProducer, IsRoom, IsShared, IsSole, view_of};
 
 use crate::fault::TryFault;
-use crate::producer::{Producer, end_after, has_room, place_after, record_size};
+use crate::producer::{
+    Producer, end_after, has_room, place_after, record_size, take_room, take_room_once,
+};
 use crate::slots::put_claim;
-use crate::steps::producer::{claim_alone, claim_shared, give_back, load_tail, take};
+use crate::steps::producer::{give_back, load_tail, take};
 use crate::steps::{RunsSeat, SharedRuns};
 use ring_layout::ring_buffer_descriptor::MAX_POSITION;
 use ring_layout::{is_length, is_type_id};
@@ -65,7 +67,7 @@ impl OpenClaim {
 /// Returns the end of the claim that comes after a tail. Refuses the type id, the length, and an end above the last
 /// position, in this order.
 #[inline(always)]
-fn admit(capacity: u32, tail: u64, type_id: i32, len: usize) -> Result<u64, ClaimFault>
+pub(crate) fn admit(capacity: u32, tail: u64, type_id: i32, len: usize) -> Result<u64, ClaimFault>
     requires lawful { IsCapacity capacity }
     requires limit { tail ≤ last_position }
     ensures refused { IsRefusedBy (refusal_of capacity tail type_id len) result }
@@ -119,8 +121,7 @@ fn lay_claim(
     requires type_id { pos 1 ≤ℤ type_id }
     requires short { len ≤ capacity }
     requires limit { end_after capacity start (record_size len) ≤ last_position }
-    requires claim { (total : ℕ) × (start + total ≡ end_after capacity start (record_size len))
-        × IsRoom start total seat.old.me.0 }
+    requires claim { IsRoom start (end_after capacity start (record_size len)) seat.old.me.0 }
     ensures seat { IsSameSeat seat.old seat.new }
     ensures none { seat.new.me.1 ≡ [] }
     ensures laid { (k : ℕ) (words : List ℕ) → HasOpen seat.old.me.0 k start words → seat.new.me.0
@@ -163,10 +164,8 @@ pub fn claim(
             head: producer.head,
         });
     }
-    let count = (end - start) as usize;
-    claim_alone(ring, &mut producer.seat, capacity, start, count);
+    take_room(ring, producer, capacity, end);
     lay_claim(ring, &mut producer.seat, capacity, start, type_id, len);
-    producer.tail = end;
     Ok(handle(capacity, start, type_id, len))
 }
 
@@ -200,7 +199,7 @@ pub fn claim_once(
         let fault = ClaimFault::InsufficientCapacity { tail, head };
         return Err(TryFault::Refused(fault));
     }
-    let seen = claim_shared(ring, &mut producer.seat, capacity, tail, end);
+    let seen = take_room_once(ring, producer, capacity, tail, end);
     if seen != tail {
         return Err(TryFault::Contended { tail, seen });
     }

@@ -16,6 +16,14 @@ pub enum TryFault {
     Contended { tail: u64, seen: u64 },
 }
 
+/// Another producer was faster. `tail` was loaded first, and `seen` was found after it. The positions count words.
+#[derive(Clone, Copy, Debug, PartialEq, Eq, Error)]
+#[error("8 Contended tail {tail} seen {seen}")]
+pub struct Overtaken {
+    pub tail: u64,
+    pub seen: u64,
+}
+
 impl From<ClaimFault> for TryFault {
     ghost from_gives = { λ fault e. e ≡ Refused fault };
 

@@ -4,12 +4,16 @@
 //! - `view`: what each seat knows. `rule`: what holds between any two steps.
 //! - `plays`: what each kind of step says. `steps`: a function for each kind.
 //! - `table`: the table and its seats.
-//! - `write`, `read`: calls that publish and take whole runs. `slots`: records in the slots that a seat has out.
+//! - `producer`: a producer between two calls, and the search for room. `claims`, `settle`: claims that a producer
+//!   holds. `message`, `batch`: messages that are written at once. `read`: calls that take whole runs.
+//! - `slots`: records in the slots that a seat has out.
 #![tactic(auto)]
 
+mod batch;
 mod claims;
 mod fault;
 mod laws;
+mod message;
 mod plays;
 mod producer;
 mod read;
@@ -19,11 +23,12 @@ mod slots;
 mod steps;
 mod table;
 mod view;
-mod write;
 
+pub use batch::{Outgoing, write_batch, write_batch_once};
 pub use claims::{OpenClaim, claim, claim_once};
-pub use fault::TryFault;
+pub use fault::{Overtaken, TryFault};
 pub use laws::what_is_taken_was_published;
+pub use message::{write, write_once};
 pub use producer::Producer;
 pub use read::{Consumer, read_run};
 pub use rule::RunsRule;
@@ -35,4 +40,3 @@ pub use steps::producer::{
 pub use steps::{RunsSeat, SharedRuns};
 pub use table::{RunsTable, open, split_producer, split_reader};
 pub use view::{Claim, Entry, Reader, Run, Stage, View};
-pub use write::{Outgoing, write_batch};

@@ -1,12 +1,12 @@
 //! A producer between two calls, and the search for room.
-ghost use Rattle.std.specs.Prelude.{◌≡◌, ◌+◌, ◌≤◌, ◌<◌, true, false};
+ghost use Rattle.std.specs.Prelude.{◌≡◌, ◌≢◌, ◌+◌, ◌≤◌, ◌<◌, true, false};
 ghost use Rattle.ring_runs.specs.Placing.{end_after, next_place, record_size};
 ghost use Rattle.ring_runs.specs.Rule.{last_position};
 ghost use Rattle.ring_runs.specs.Seats.{IsCapacity};
 ghost use Rattle.ring_runs.specs.Views.{with_head_seen};
-ghost use Rattle.ring_runs.specs.Writing.{end_of_room, IsProducer, MayHaveLooked, view_of};
+ghost use Rattle.ring_runs.specs.Writing.{end_of_room, IsProducer, IsShared, IsSole, MayHaveLooked, TakesRoom, view_of};
 
-use crate::steps::producer::load_head;
+use crate::steps::producer::{claim_alone, claim_shared, load_head};
 use crate::steps::{RunsSeat, SharedRuns};
 use ring_layout::byte_index;
 use ring_layout::ring_buffer_descriptor::MAX_POSITION;
@@ -80,4 +80,41 @@ pub(crate) fn has_room(ring: &SharedRuns, producer: &mut Producer, capacity: u32
     }
     producer.head = load_head(ring, &mut producer.seat, capacity);
     end <= producer.head + u64::from(capacity)
+}
+
+/// Claims the slots from the tail of the only producer up to `end`, which is its tail from then on.
+#[inline(always)]
+pub(crate) fn take_room(ring: &SharedRuns, producer: &mut Producer, capacity: u32, end: u64)
+    requires producer { IsProducer ring.now.table_id ring.now.key capacity producer.old }
+    requires sole { IsSole producer.old }
+    requires up { producer.old.tail < end }
+    requires room { end ≤ end_of_room capacity producer.old.head }
+    ensures producer { IsProducer ring.now.table_id ring.now.key capacity producer.new }
+    ensures taken { TakesRoom producer.old.tail end (view_of producer.old) (view_of producer.new) }
+{
+    let tail = producer.tail;
+    let count = (end - tail) as usize;
+    claim_alone(ring, &mut producer.seat, capacity, tail, count);
+    producer.tail = end;
+}
+
+/// Claims the slots from a tail that was loaded up to `end`, if the tail is still there. Returns the tail found. If that
+/// is another one, nothing changed.
+#[inline(always)]
+pub(crate) fn take_room_once(
+    ring: &SharedRuns,
+    producer: &mut Producer,
+    capacity: u32,
+    tail: u64,
+    end: u64,
+) -> u64
+    requires producer { IsProducer ring.now.table_id ring.now.key capacity producer.old }
+    requires shared { IsShared producer.old }
+    requires up { tail < end }
+    requires room { end ≤ end_of_room capacity producer.old.head }
+    ensures producer { IsProducer ring.now.table_id ring.now.key capacity producer.new }
+    ensures won { result ≡ tail → TakesRoom tail end (view_of producer.old) (view_of producer.new) }
+    ensures lost { result ≢ tail → view_of producer.new ≡ view_of producer.old }
+{
+    claim_shared(ring, &mut producer.seat, capacity, tail, end)
 }

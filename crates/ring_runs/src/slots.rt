@@ -12,9 +12,9 @@ ghost use Rattle.ring_runs.specs.Spots.{spots};
 ghost use Rattle.ring_runs.specs.Turns.{Fills, HasMore, HasRoom, IsPast, IsSameTable, Passes, turned_by};
 ghost use Rattle.ring_runs.specs.Writing.{batch_end, batch_entries, batch_words, IsSendable, new_message};
 
+use crate::batch::Outgoing;
 use crate::producer::{place_after, record_size};
 use crate::steps::{RunsSeat, SharedRuns};
-use crate::write::Outgoing;
 use ring_layout::{
     byte_index, committed_header, first_word, open_header, padding_header, put_bytes_word, put_part,
 };
@@ -136,6 +136,30 @@ fn put_placed(
     let place = put_padding(ring, seat, capacity, at, words);
     put_record(ring, seat, capacity, place, type_id, body);
     place + words
+}
+
+/// Puts the record of a message, with the padding before it, into the slots from `start` on, which are all that the
+/// seat has.
+#[inline(always)]
+pub(crate) fn put_message(
+    ring: &SharedRuns,
+    seat: &mut RunsSeat,
+    capacity: u32,
+    start: u64,
+    type_id: i32,
+    body: &[u8],
+)
+    requires table { seat.old.table_id ≡ ring.now.table_id }
+    requires lawful { IsCapacity capacity }
+    requires small { (start ≤ last_position) × (length body.now ≤ capacity) }
+    requires type_id { pos 1 ≤ℤ type_id }
+    requires has { (ys : List ℕ) × (seat.old.me.1 ≡ spots capacity start ys)
+        × (start + length ys ≡ end_after capacity start (record_size (length body.now))) }
+    ensures seat { IsSameTable seat.old seat.new }
+    ensures fills { seat.new.me.1 ≡ spots capacity start (placed_words capacity start (new_message type_id body.now)) }
+    ensures valid { IsMessage (8 * capacity) (new_message type_id body.now) }
+{
+    put_placed(ring, seat, capacity, start, type_id, body);
 }
 
 /// Puts the records of these messages into the slots from `place` on, which are all that the seat has.

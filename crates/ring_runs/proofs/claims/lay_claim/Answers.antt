@@ -23,7 +23,7 @@ words_put c = subst (λ t. c.put_claim.new.seat.me.1
 
 pub take-requires-clause-claim : goal.take-requires-clause-claim
 take-requires-clause-claim c =
-    let r = c.requires.claim.2 in (
+    let r = c.requires.claim in (
       r.nth,
       _,
       open_at c.args.capacity c.args.start r.nth c.args.seat.now.me.0 r.words c.requires.seat.view_is r.has,
@@ -31,8 +31,7 @@ take-requires-clause-claim c =
 
 pub put_claim-requires-clause-has : goal.put_claim-requires-clause-has
 put_claim-requires-clause-has c =
-    let r = c.requires.claim.2 in
-    let total = c.requires.claim.1 in
+    let r = c.requires.claim in
     let count = r.count in (
       r.words,
       (taken c.args.capacity c.args.start r.nth c.args.seat.now.me.0 r.words c.requires.seat.view_is r.has
@@ -48,8 +47,7 @@ give_back-requires-clause-claim c =
     let n : ℕ = c.args.capacity in
     let start : ℕ = c.args.start in
     let zeros : List ℕ = replicate c.args.len 0 in
-    let r = c.requires.claim.2 in
-    let total = c.requires.claim.1 in
+    let r = c.requires.claim in
     let count = r.count in
     let least = c.requires.seat.lawful.least in
     let size = claim_size n start c.args.type_id zeros (omega arith) in
@@ -70,7 +68,7 @@ pub returns-clause-none : goal.returns-clause-none
 returns-clause-none c =
     let n : ℕ = c.args.capacity in
     let start : ℕ = c.args.start in
-    let r = c.requires.claim.2 in
+    let r = c.requires.claim in
     let t = taken n start r.nth c.args.seat.now.me.0 r.words c.requires.seat.view_is r.has c.args.seat.now.me
     c.take.new.seat.me refl c.take.ensures.takes in
     (given n start r.nth c.args.seat.now.me.0 r.words c.requires.seat.view_is r.has

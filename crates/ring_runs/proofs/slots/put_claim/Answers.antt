@@ -7,23 +7,10 @@ use Rattle.ring_runs.specs.Claiming.{open_claim}
 use Rattle.ring_runs.specs.Placing.{body_words, end_after, lead_words, next_place, record_size, words_in}
 use Rattle.ring_runs.specs.Spots.{spots}
 use Rattle.ring_runs.specs.Turns.{Filling, Fills, HasRoom, Held}
-use Rattle.ring_runs.proofs.PlaceLemmas.{lead_size, place_on}
+use Rattle.ring_runs.proofs.PlaceLemmas.{lead_size, place_on, room_for}
 use Rattle.ring_runs.proofs.TurnLemmas.{fill_ends, fill_starts, fills_both, room_after, room_less}
 use Rattle.ring_runs.proofs.WordLemmas.{zero_words}
 use Rattle.ring_runs.proofs.slots.put_claim.Goals as goal
-
--- the room for a claim
-room_of : (n start size : ℕ) (held : Held) → ((ys : List ℕ) × (held ≡ spots n start ys)
-    × (start + length ys ≡ end_after n start size)) → HasRoom n start (end_after n start size - start) held
-room_of n start size held h =
-    let count = h.2 in record {
-      first = start;
-      total = end_after n start size - start;
-      done = [];
-      filling = fill_starts n start (end_after n start size - start) h.0 held h.1 (omega arith);
-      at_is = omega arith;
-      room = omega arith;
-    }
 
 pub put_padding-place-requires-clause-room : goal.put_padding-place-requires-clause-room
 put_padding-place-requires-clause-room c =
@@ -32,7 +19,7 @@ put_padding-place-requires-clause-room c =
     let size : ℕ = c.record_size-words.result in
     let same : end_after n start size ≡ end_after n start (record_size c.args.len) =
     ap (end_after n start) c.record_size-words.ensures in
-    room_less (room_of n start (record_size c.args.len) c.args.seat.now.me.1 c.requires.has)
+    room_less (room_for n start (record_size c.args.len) c.args.seat.now.me.1 c.requires.has)
     (next_place n start size - start) (omega arith)
 
 pub put_slot-requires-clause-room : goal.put_slot-requires-clause-room
@@ -46,7 +33,7 @@ put_slot-requires-clause-room c =
     ap (end_after n start) c.record_size-words.ensures in
     let place = c.put_padding-place.ensures.place in
     let lead = lead_size n start size (omega arith) in
-    room_after (room_of n start (record_size c.args.len) c.args.seat.now.me.1 c.requires.has) 1
+    room_after (room_for n start (record_size c.args.len) c.args.seat.now.me.1 c.requires.has) 1
     c.put_padding-place.result (lead_words n start size) c.put_padding-place.new.seat.me.1
     c.put_padding-place.ensures.fills (omega arith) (omega arith)
 
@@ -61,7 +48,7 @@ put_zeros-requires-clause-room c =
     ap (end_after n start) c.record_size-words.ensures in
     let place = c.put_padding-place.ensures.place in
     let lead = lead_size n start size (omega arith) in
-    let after = room_after (room_of n start (record_size c.args.len) c.args.seat.now.me.1 c.requires.has) size
+    let after = room_after (room_for n start (record_size c.args.len) c.args.seat.now.me.1 c.requires.has) size
     c.put_padding-place.result (lead_words n start size) c.put_padding-place.new.seat.me.1
     c.put_padding-place.ensures.fills (omega arith) (omega arith) in
     room_after after (size - 1) (c.put_padding-place.result + 1) (c.open_header-header.result ∷ [])

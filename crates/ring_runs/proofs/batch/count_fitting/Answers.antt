@@ -3,7 +3,7 @@ use Rattle.std.proofs.lemmas.List.Elements.{All-get_or}
 use Rattle.ring_runs.specs.Placing.{end_after}
 use Rattle.ring_runs.specs.Writing.{batch_end, IsSendable, Outgoing, size_of}
 use Rattle.ring_runs.proofs.BatchLemmas.{end_next, no_message}
-use Rattle.ring_runs.proofs.write.count_fitting.Goals as goal
+use Rattle.ring_runs.proofs.batch.count_fitting.Goals as goal
 
 pub returns-then-end-limit-clause-longest : goal.returns-then-end-limit-clause-longest
 returns-then-end-limit-clause-longest c less =

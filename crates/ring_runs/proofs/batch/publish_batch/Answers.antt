@@ -5,11 +5,11 @@ use Rattle.ring_runs.specs.Writing.{batch_entries, batch_words, Outgoing}
 use Rattle.ring_runs.proofs.BatchLemmas.{words_size}
 use Rattle.ring_runs.proofs.Calls.{same_on, seat_on}
 use Rattle.ring_runs.proofs.StageLemmas.{open_at, published, stage_at, taken}
-use Rattle.ring_runs.proofs.write.publish_batch.Goals as goal
+use Rattle.ring_runs.proofs.batch.publish_batch.Goals as goal
 
 pub take-requires-clause-claim : goal.take-requires-clause-claim
 take-requires-clause-claim c =
-    let r = c.requires.claim.2 in (
+    let r = c.requires.claim in (
       r.nth,
       _,
       open_at c.args.capacity c.args.place r.nth c.args.seat.now.me.0 r.words c.requires.seat.view_is r.has,
@@ -17,8 +17,7 @@ take-requires-clause-claim c =
 
 pub put_records-requires-clause-has : goal.put_records-requires-clause-has
 put_records-requires-clause-has c =
-    let r = c.requires.claim.2 in
-    let total = c.requires.claim.1 in
+    let r = c.requires.claim in
     let stop_is = c.requires.stop.0 in
     let count = r.count in (
       r.words,
@@ -35,8 +34,7 @@ publish-requires-clause-claim c =
     let n : ℕ = c.args.capacity in
     let place : ℕ = c.args.place in
     let os : List Outgoing = c.args.messages.now in
-    let r = c.requires.claim.2 in
-    let total = c.requires.claim.1 in
+    let r = c.requires.claim in
     let stop_is = c.requires.stop.0 in
     let count = r.count in
     let least = c.requires.seat.lawful.least in
@@ -59,7 +57,7 @@ returns-clause-none c =
     let n : ℕ = c.args.capacity in
     let place : ℕ = c.args.place in
     let os : List Outgoing = c.args.messages.now in
-    let r = c.requires.claim.2 in
+    let r = c.requires.claim in
     let t = taken n place r.nth c.args.seat.now.me.0 r.words c.requires.seat.view_is r.has c.args.seat.now.me
     c.take.new.seat.me refl c.take.ensures.takes in
     (published n place r.nth c.args.seat.now.me.0 r.words c.requires.seat.view_is r.has (batch_entries n place os)

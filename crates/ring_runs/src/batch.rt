@@ -1,14 +1,16 @@
 //! Messages that are written together: one claim, and one run that is published by one store.
-ghost use Rattle.std.specs.Prelude.{◌≡◌, ◌+◌, ◌≤◌, ◌<◌, ◌++◌, [], All, List, ℕ, length, take as first_of};
+ghost use Rattle.std.specs.Prelude.{◌≡◌, ◌+◌, ◌≤◌, ◌<◌, [], All, IfErr, IfOk, List, ℕ, length, take as first_of};
 ghost use Rattle.ring_runs.specs.Cells.{Published};
+ghost use Rattle.ring_runs.specs.Claiming.{Contends};
 ghost use Rattle.ring_runs.specs.Rule.{last_position};
 ghost use Rattle.ring_runs.specs.Seats.{IsCapacity, IsSameSeat, IsSeatOf};
-ghost use Rattle.ring_runs.specs.Views.{changed, new_claim, with_claims};
-ghost use Rattle.ring_runs.specs.Writing.{batch_end, batch_entries, batch_words, Chooses, end_of_room, HasOpen, IsBatch, IsProducer, IsRoom, IsSendable, IsSole, run_of, SendsBatch, view_of};
+ghost use Rattle.ring_runs.specs.Views.{changed, new_claim};
+ghost use Rattle.ring_runs.specs.Writing.{batch_end, batch_entries, batch_words, Chooses, end_of_room, HasOpen, IsBatch, IsProducer, IsRoom, IsSendable, IsShared, IsSole, SendsBatch, view_of};
 
-use crate::producer::{Producer, end_after, end_of_room};
+use crate::fault::Overtaken;
+use crate::producer::{Producer, end_after, end_of_room, take_room, take_room_once};
 use crate::slots::put_records;
-use crate::steps::producer::{claim_alone, load_head, publish, take};
+use crate::steps::producer::{load_head, load_tail, publish, take};
 use crate::steps::{RunsSeat, SharedRuns};
 
 /// A message that is to be written.
@@ -99,7 +101,7 @@ fn publish_batch(
     requires none { seat.old.me.1 ≡ [] }
     requires messages { All (IsSendable capacity) messages.now }
     requires stop { (stop ≡ batch_end capacity place messages.now) × (stop ≤ last_position) }
-    requires claim { (total : ℕ) × (place + total ≡ stop) × IsRoom place total seat.old.me.0 }
+    requires claim { IsRoom place stop seat.old.me.0 }
     ensures seat { IsSameSeat seat.old seat.new }
     ensures none { seat.new.me.1 ≡ [] }
     ensures sent { (k : ℕ) (words : List ℕ) → HasOpen seat.old.me.0 k place words → seat.new.me.0
@@ -136,9 +138,44 @@ pub fn write_batch(
         return 0;
     }
     let chosen = &messages[..count];
-    let words = (end - place) as usize;
-    claim_alone(ring, &mut producer.seat, capacity, place, words);
+    take_room(ring, producer, capacity, end);
     publish_batch(ring, &mut producer.seat, capacity, place, end, chosen);
-    producer.tail = end;
     count
+}
+
+/// Writes messages as one run of one of many producers. One compare-exchange moves the tail, and one store publishes
+/// the run after all bodies. If there is not room for all, the first ones are written for which there is room. Returns
+/// how many were written. A call that writes none publishes nothing.
+///
+/// Returns `Overtaken` if another producer moved the tail after the call loaded it. Then nothing is written, and the
+/// call may be made again. The call never waits.
+#[inline]
+pub fn write_batch_once(
+    ring: &SharedRuns,
+    producer: &mut Producer,
+    capacity: u32,
+    messages: &[Outgoing<'_>],
+) -> Result<usize, Overtaken>
+    requires producer { IsProducer ring.now.table_id ring.now.key capacity producer.old }
+    requires shared { IsShared producer.old }
+    requires messages { All (IsSendable capacity) messages.now }
+    ensures sent { IfOk result (λ count. (tail : ℕ)
+        × SendsBatch capacity tail messages.now count (view_of producer.old) (view_of producer.new)) }
+    ensures overtaken { IfErr result (λ o. Contends o.tail o.seen (view_of producer.old) (view_of producer.new)) }
+    ensures producer { IsProducer ring.now.table_id ring.now.key capacity producer.new }
+    ensures shared { IsShared producer.new }
+{
+    let tail = load_tail(ring, &mut producer.seat, capacity);
+    let batch = choose(ring, producer, capacity, tail, messages);
+    let (count, end) = (batch.count, batch.end);
+    if count == 0 {
+        return Ok(0);
+    }
+    let chosen = &messages[..count];
+    let seen = take_room_once(ring, producer, capacity, tail, end);
+    if seen != tail {
+        return Err(Overtaken { tail, seen });
+    }
+    publish_batch(ring, &mut producer.seat, capacity, tail, end, chosen);
+    Ok(count)
 }
