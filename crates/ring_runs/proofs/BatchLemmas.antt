@@ -1,5 +1,5 @@
 -- The records of messages that are written together.
-use Rattle.std.proofs.Common.{◌≡◌, ℕ, ◌+◌, ◌<◌, ◌≤◌, ◌⊎◌, List, [], ◌∷◌, ◌++◌, drop, take, get_or, length, pos, length-append, append-nil, append_assoc, take-append-drop, sym, refl, ap, ◌∙◌, arith}
+use Rattle.std.proofs.Common.{◌≡◌, ℕ, ◌+◌, ◌<◌, ◌≤◌, List, [], ◌∷◌, ◌++◌, drop, take, get_or, length, pos, length-append, append-nil, append_assoc, take-append-drop, sym, refl, ap, ◌∙◌, arith}
 use Rattle.std.proofs.lemmas.List.{take_more}
 use Rattle.ring_layout.specs.Places.{end_after}
 use Rattle.ring_runs.specs.Cells.{Published}

@@ -48,7 +48,7 @@ shared_capacity {old} {new} {me} {me'} {n} c = dite (ℕ_discrete n old)
 pub looks_capacity : {me me' : Mine} {n : ℕ} → Looks me n me' → me'.0.capacity ≡ me.0.capacity
 looks_capacity {me} {me'} {n} l = ⊎_elim
     (λ (h : me.0.reader.scan < n). ap (λ (v : View). v.capacity) (l.run h).view)
-    (λ (h : n ≤ me.0.reader.scan). ap (λ (m : Mine). m.0.capacity) (l.nothing h))
+    (λ (h : n ≤ me.0.reader.scan). ap (λ (v : View). v.capacity) (l.nothing h).1)
     (cases_lt me.0.reader.scan n)
 
 -- what the load of a claim at the own tail says

@@ -1,5 +1,5 @@
 -- The head is stored, and the consumer's slots are given back.
-use Rattle.std.proofs.Common.{◌≡◌, ℕ, ◌+◌, ◌-◌, ◌%◌, ◌≤◌, ◌<◌, ◌⊎◌, List, [], ◌++◌, true, set, get_or, slice_index, length, map, sym, refl, ap, ◌∙◌, subst, inl, inr, ⊎_elim, append-nil, length-append, length-set, get_or-set_other, get_or-set_same, arith}
+use Rattle.std.proofs.Common.{◌≡◌, ℕ, ◌+◌, ◌-◌, ◌%◌, ◌≤◌, ◌<◌, ◌⊎◌, List, [], ◌∷◌, ◌++◌, true, set, get_or, slice_index, length, map, sym, refl, ap, ◌∙◌, subst, inl, inr, ⊎_elim, append-nil, length-append, length-set, get_or-set_other, get_or-set_same, arith}
 use mathlib.Core.Option.{Option, some}
 use lib.ListN.{get_elem?}
 use Rattle.std.proofs.lemmas.Bool.{cases_lt}
@@ -11,8 +11,8 @@ use Rattle.atomic_table.proofs.Lists.{at_map}
 use Rattle.ring_runs.specs.Spots.{spots, laid, gives_first}
 use Rattle.ring_runs.specs.Cells.{Says, Has, ShowsWord, older, Shows}
 use Rattle.ring_runs.specs.Rule.{head_at, IsMemory, Kept, table_words, tail_at}
-use Rattle.ring_runs.specs.Views.{Reader, passed, with_reader}
-use Rattle.ring_runs.specs.Steps.{HasOut, Mine, StoresHead}
+use Rattle.ring_runs.specs.Views.{Reader, moved, returned, with_reader}
+use Rattle.ring_runs.specs.Steps.{HasOut, Mine, ReturnsAll, StoresHead}
 use Rattle.ring_runs.proofs.SpotLemmas.{Away, away_in, carried_gives, homes_gives, laid_else, laid_here, length_laid, valid_gives}
 use Rattle.ring_runs.proofs.ListLemmas.{word_at}
 use Rattle.ring_runs.proofs.CellLemmas.{begins_not_free, has_cut, has_here, says_shown, shown_says, shows_same, word_low}
@@ -24,9 +24,11 @@ pub record MayReturn (n : ℕ) (me : Mine) : Type 0 where
   pub consumes : me.0.consumes ≡ true
   pub out : HasOut me.0.reader n me.1
 
-pub stores_head : (n slots id : ℕ) (me : Mine) (head : ℕ) → MayReturn n me → me.0.reader.head ≤ head
-    → head ≤ me.0.reader.scan → Allows (Ok n) slots id me (head_at n) (λ _. head) (λ _ me'. StoresHead head me me')
-stores_head n slots id me head may up down s r wide at small =
+-- the head is stored, all slots are given back, and the consumer knows that it stored these heads
+stores_as : (n slots id : ℕ) (me : Mine) (head : ℕ) (stored : List ℕ) → MayReturn n me → me.0.reader.head ≤ head
+    → head ≤ me.0.reader.scan → Allows (Ok n) slots id me (head_at n) (λ _. head)
+    (λ _ me'. (me'.1 ≡ []) × (me'.0 ≡ with_reader (moved head me.0.reader.scan stored me.0.reader) me.0))
+stores_as n slots id me head stored may up down s r wide at small =
     let out = may.out in
     let own = r.each id me.0 at in
     let mine = own.consumes may.consumes in
@@ -54,7 +56,7 @@ stores_head n slots id me head may up down s r wide at small =
     let long : length s.words ≡ table_words n = m.wide in
     let i : ℕ = head_at n in
     let words' : List ℕ = set s.words i head in
-    let u' : Reader = passed head u in
+    let u' : Reader = moved head u.scan stored u in
     let word : (q : ℕ) → slice_index words' (q % n) ≡ slice_index s.words (q % n) = λ q.
     let below = mod_below q n m.some_words in get_or-set_other s.words i (q % n) head 0 (λ e. omega arith) in
     let back : (q : ℕ) → n ≤ q → q % n ≡ (q - n) % n = λ q h.
@@ -134,12 +136,19 @@ stores_head n slots id me head may up down s r wide at small =
       (ap (λ l. carried_after l (gives_first ws)) held_is ∙ carried_gives n p ws [], refl),
     )
 
+pub stores_head : (n slots id : ℕ) (me : Mine) (head : ℕ) → MayReturn n me → me.0.reader.head ≤ head
+    → head ≤ me.0.reader.scan → Allows (Ok n) slots id me (head_at n) (λ _. head) (λ _ me'. StoresHead head me me')
+stores_head n slots id me head may = stores_as n slots id me head (head ∷ []) may
+
 -- all that is out is given back, and the head stays: a load of the head
 pub returns_all : (n slots id : ℕ) (me : Mine) → MayReturn n me
-    → Allows (Ok n) slots id me (head_at n) (λ x. x) (λ _ me'. StoresHead me.0.reader.head me me')
+    → Allows (Ok n) slots id me (head_at n) (λ x. x) (λ _ me'. ReturnsAll me me')
 returns_all n slots id me may s r wide at small =
     let m = memory_of n id me s r at may.consumes in
     let from_head = m.from_head in
     let to_scan = m.to_scan in
-    let done = stores_head n slots id me me.0.reader.head may (omega arith) (omega arith) s r wide at small in
-    subst (λ v. Could n s (head_at n) v id me (λ me'. StoresHead me.0.reader.head me me')) (sym m.head_is) done
+    let u : Reader = me.0.reader in
+    let done = stores_as n slots id me u.head [] may (omega arith) (omega arith) s r wide at small in
+    let same : moved u.head u.scan [] u ≡ returned u = λ i. record u { from = u.scan; heads = append-nil u.heads i } in
+    subst (λ v. Could n s (head_at n) v id me (λ me'. ReturnsAll me me')) (sym m.head_is)
+    (done.0, done.1, done.2, done.3, (done.4.0, done.4.1 ∙ ap (λ x. with_reader x me.0) same))

@@ -1,15 +1,16 @@
 -- What producers and the consumer have in common.
-use Rattle.std.proofs.Common.{◌≡◌, ℕ, suc, ◌+◌, ◌-◌, ◌≤◌, ◌<◌, List, [], ◌∷◌, true, get_or, length, sym, refl, subst, ⊎_elim, arith}
+use Rattle.std.proofs.Common.{◌≡◌, ℕ, suc, ◌+◌, ◌-◌, ◌*◌, ◌%◌, ◌≤◌, ◌<◌, List, [], ◌∷◌, true, get_or, length, slice_index, sym, refl, ap, subst, ⊎_elim, arith}
 use mathlib.Core.Option.{Option, some}
 use lib.ListN.{get_elem?}
 use Rattle.std.proofs.lemmas.Bool.{cases_lt}
 use Rattle.ring_runs.specs.Records.{Entry, total_words}
-use Rattle.ring_runs.specs.Cells.{BeginsAs, Cells, Claim, Open, Out, Published, Run, Says, ShowStage, Stage}
+use Rattle.ring_runs.specs.Cells.{BeginsAs, Cells, Claim, ends, older, Open, Out, Published, Run, Says, ShowsWord, ShowStage, Stage}
 use Rattle.ring_runs.specs.Laws.{IsClaimOf, IsRunOf}
 use Rattle.ring_runs.specs.Rule.{AreRuns, Kept}
 use Rattle.ring_runs.specs.Views.{Reader, View}
 use Rattle.ring_runs.specs.Steps.{HasClaim}
-use Rattle.ring_runs.proofs.CellLemmas.{begins_not_free, begins_not_of, has_here, of_unsettled, run_begins, run_once, said_not_of}
+use Rattle.ring_runs.proofs.RecordLemmas.{long_records}
+use Rattle.ring_runs.proofs.CellLemmas.{begins_not_free, begins_not_of, begins_once, has_here, of_unsettled, run_begins, run_once, said_not_of}
 
 -- where a run begins within a claim, that is published and the run
 stage_begins : (cells : Cells) (id p q : ℕ) (es fs : List Entry) (ws : List ℕ) (t : Stage)
@@ -41,6 +42,15 @@ run_at a (x ∷ xs) scan q h from to =
     (λ (l : a + total_words x.entries ≤ q).
     let t = run_at (a + total_words x.entries) xs scan q h.1 l to in (suc t.0, t.1, t.2, t.3, t.4))
     (cases_lt q (a + total_words x.entries))
+
+-- where a run of these records begins, the word is its end
+word_found : (n : ℕ) (cells : Cells) (p w : ℕ) (es : List Entry) → BeginsAs es (cells p) → ShowsWord n cells p w
+    → (p < w) × (w ≡ p + total_words es)
+word_found n cells p w es b (older low un) = absurd (un (es, b))
+word_found n cells p w es b (ends fs ws most is run records) =
+    let long = long_records (8 * n) fs ws records in
+    let same = ap total_words (begins_once (cells p) fs es (run_begins cells p fs ws most run) b) in
+    (omega arith, omega arith)
 
 module _ (n : ℕ) (words : List ℕ) (homes : List (Option ℕ)) (views : List View) (r : Kept n words homes views)
     (j : ℕ) (w : View) (at : get_elem? views j ≡ some w) (consumes : w.consumes ≡ true) where
@@ -92,3 +102,24 @@ module _ (n : ℕ) (words : List ℕ) (homes : List (Option ℕ)) (views : List 
         place = sym one.0;
         entries = one.1;
       }
+
+  pub published_is_found : (i : ℕ) (v : View) → get_elem? views i ≡ some v → (l : ℕ) (c : Claim) → HasClaim v l c
+      → c.stage ≡ Published → c.place ≡ w.reader.scan
+      → (w.reader.scan < slice_index words (w.reader.scan % n))
+      × (slice_index words (w.reader.scan % n) ≡ c.place + total_words c.entries)
+  published_is_found i v there l c has published at_scan =
+      let m = r.memory in
+      let own = (r.each i v there).claims l c has in
+      let run = subst (ShowStage r.cells i c.place c.entries c.words) published own.1 in
+      let b : BeginsAs c.entries (r.cells c.place) = run_begins r.cells c.place c.entries c.words own.0 run in
+      let below : c.place < r.tail = ⊎_elim (λ (h : c.place < r.tail). h)
+      (λ (h : r.tail ≤ c.place). absurd (begins_not_free (r.cells c.place) (m.above c.place h) (c.entries, b)))
+      (cases_lt c.place r.tail) in
+      let from_head = m.from_head in
+      let to_scan = m.to_scan in
+      let room = m.room in
+      let scan_is : r.consumer.scan ≡ w.reader.scan = ap (λ (u : Reader). u.scan) (sym consumer_is) in
+      let told = word_found n r.cells c.place (slice_index words (c.place % n)) c.entries b
+      (m.shown c.place (omega arith) (omega arith)) in
+      subst (λ p. (p < slice_index words (p % n)) × (slice_index words (p % n) ≡ c.place + total_words c.entries)) at_scan
+      told

@@ -21,3 +21,8 @@ pub mod SettleLemmas
 pub mod OpenLemmas
 pub mod BatchLemmas
 pub mod ShowLemmas
+pub mod ReadingLemmas
+pub mod RunLemmas
+pub mod StopLemmas
+pub mod EndLemmas
+pub mod HeedLemmas

@@ -1,5 +1,5 @@
 -- Bytes that are put into the words of a body.
-use Rattle.std.proofs.Common.{◌≡◌, ◌≢◌, ℕ, ◌+◌, ◌-◌, ◌*◌, ◌/◌, ◌<◌, ◌≤◌, ◌⊎◌, List, [], ◌∷◌, ◌++◌, All, drop, get_or, length, max, min, set, slice_index, take, length-set, get_or-set_other, get_or-set_same, length-append, take-append-drop, sym, refl, ap, ◌∙◌, subst, inl, inr, ⊎_elim, arith}
+use Rattle.std.proofs.Common.{◌≡◌, ◌≢◌, ℕ, ◌+◌, ◌-◌, ◌*◌, ◌/◌, ◌<◌, ◌≤◌, ◌⊎◌, List, [], ◌++◌, All, drop, get_or, length, max, min, set, slice_index, take, length-set, get_or-set_other, get_or-set_same, length-append, take-append-drop, sym, refl, ap, ◌∙◌, inl, inr, ⊎_elim, arith}
 use mathlib.Core.Logic.{dite}
 use native.Mathlib.Decide.{ℕ_discrete}
 use Rattle.std.specs.Int.{from_le_bytes, to_le_bytes, w64}
@@ -10,7 +10,7 @@ use Rattle.std.proofs.lemmas.List.Elements.{All-append, All-drop, All-get_or, Al
 use Rattle.ring_layout.specs.History.{overwritten}
 use Rattle.ring_layout.proofs.WordBytes.{length-overwritten, overwritten_more, overwritten_word, overwritten_word_apart}
 use Rattle.ring_runs.specs.Claiming.{HasBodyNext}
-use Rattle.ring_runs.specs.Placing.{body_words, first_words, words_in}
+use Rattle.ring_runs.specs.Placing.{body_words, words_in}
 use Rattle.ring_runs.specs.Turns.{Held, IsPast, turned_by}
 use Rattle.ring_runs.proofs.WordLemmas.{first_at, length_first}
 

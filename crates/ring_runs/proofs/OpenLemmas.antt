@@ -1,6 +1,6 @@
 -- Open claims that their producer holds.
-use Rattle.std.proofs.Common.{◌≡◌, ◌≢◌, ℕ, ℤ, ◌+◌, ◌-◌, ◌*◌, ◌^◌, ◌<◌, ◌≤◌, ◌≤ℤ◌, pos, FitsSigned, All, List, [], ◌∷◌, ◌++◌, length, replicate, set, Option, Some, None, Result, Ok, sym, refl, ap, ◌∙◌, subst, ⊎_elim, inl, inr, arith}
-use mathlib.Core.Option.{some, some-injective}
+use Rattle.std.proofs.Common.{◌≡◌, ℕ, ℤ, ◌+◌, ◌*◌, ◌^◌, ◌<◌, ◌≤◌, ◌≤ℤ◌, pos, FitsSigned, List, [], ◌∷◌, ◌++◌, length, replicate, set, Option, Some, None, Result, Ok, sym, refl, ap, ◌∙◌, ⊎_elim, arith}
+use mathlib.Core.Option.{some-injective}
 use lib.ListN.{get_elem?}
 use Rattle.std.specs.Int.{w32}
 use Rattle.std.proofs.lemmas.List.{length-replicate}
@@ -12,8 +12,8 @@ use Rattle.ring_layout.specs.Headers.{aborted_header}
 use Rattle.ring_layout.specs.History.{IsMessage, overwritten}
 use Rattle.ring_layout.proofs.WordBytes.{length-overwritten}
 use Rattle.ring_runs.specs.Cells.{Claim, Open}
-use Rattle.ring_runs.specs.Claiming.{handle_behind, HasBody, IsOpenAt, IsRefusedBy, KeepsOpen, KeepsOthers, open_claim, open_words, OpenClaim, PutsBytes}
-use Rattle.ring_runs.specs.Placing.{body_words, end_after, record_size, words_in}
+use Rattle.ring_runs.specs.Claiming.{handle_behind, IsOpenAt, IsRefusedBy, KeepsOpen, KeepsOthers, open_claim, open_words, OpenClaim, PutsBytes}
+use Rattle.ring_runs.specs.Placing.{end_after, record_size, words_in}
 use Rattle.ring_runs.specs.Records.{IsRecord, Skips}
 use Rattle.ring_runs.specs.Rule.{last_position}
 use Rattle.ring_runs.specs.Seats.{IsSameSeat, IsSeatOf}

@@ -1,14 +1,13 @@
 -- The places of records, and the padding before them.
-use Rattle.std.proofs.Common.{◌≡◌, ℕ, ◌+◌, ◌-◌, ◌*◌, ◌^◌, ◌<◌, ◌≤◌, ◌⊎◌, List, [], ◌∷◌, ◌++◌, cond, drop, length, replicate, length-append, length-drop, sym, refl, ap, ◌∙◌, subst, inl, inr, ⊎_elim, arith}
+use Rattle.std.proofs.Common.{◌≡◌, ℕ, ◌+◌, ◌-◌, ◌*◌, ◌^◌, ◌<◌, ◌≤◌, ◌⊎◌, List, [], ◌∷◌, ◌++◌, drop, length, length-append, length-drop, sym, refl, ap, ◌∙◌, subst, inl, inr, ⊎_elim, arith}
 use Rattle.std.proofs.lemmas.Bool.{cases_lt, cond-false, cond-true, le-leb, lt-leb}
 use Rattle.std.proofs.lemmas.List.{length-replicate}
 use Rattle.std.proofs.lemmas.Nat.{mod_below}
-use Rattle.ring_layout.specs.Headers.{padding_header}
 use Rattle.ring_layout.specs.declared.message.Message.{Message}
 use Rattle.ring_layout.specs.History.{IsMessage}
 use Rattle.ring_layout.specs.Places.{end_after, next_place, room}
 use Rattle.ring_runs.specs.Records.{AreRecords, Entry, entry_words, Holds, IsRecord, Skips}
-use Rattle.ring_runs.specs.Placing.{body_words, lead, lead_words, padding_words, placed, placed_words, record_words, words_in}
+use Rattle.ring_runs.specs.Placing.{lead, lead_words, padding_words, placed, placed_words, record_words, words_in}
 use Rattle.ring_runs.specs.Seats.{IsCapacity}
 use Rattle.ring_runs.specs.Spots.{spots}
 use Rattle.ring_runs.specs.Turns.{HasRoom, Held}

@@ -1,5 +1,5 @@
 -- The consumer looks for a run, and takes again what it knows.
-use Rattle.std.proofs.Common.{◌≡◌, ◌≢◌, ℕ, ◌+◌, ◌*◌, ◌%◌, ◌≤◌, ◌<◌, ◌⊎◌, List, [], ◌∷◌, ◌++◌, true, set, slice_index, length, sym, refl, ap, ◌∙◌, subst, inl, inr, ⊎_elim, append-nil, length-append, arith}
+use Rattle.std.proofs.Common.{◌≡◌, ◌≢◌, ℕ, ◌+◌, ◌*◌, ◌%◌, ◌≤◌, ◌<◌, ◌⊎◌, List, [], ◌∷◌, ◌++◌, Bool, true, set, slice_index, length, sym, refl, ap, ◌∙◌, subst, inl, inr, ⊎_elim, append-nil, length-append, arith}
 use mathlib.Core.Option.{Option, some}
 use lib.ListN.{get_elem?}
 use Rattle.std.proofs.lemmas.Bool.{cases_lt}
@@ -11,13 +11,13 @@ use Rattle.ring_runs.specs.Records.{AreRecords, Entry, total_words}
 use Rattle.ring_runs.specs.Spots.{spots, takes_spots}
 use Rattle.ring_runs.specs.Cells.{Cells, ends, Has, older, Run, ShowsWord}
 use Rattle.ring_runs.specs.Rule.{AreRuns, IsMemory, IsTaken, Knows, Kept}
-use Rattle.ring_runs.specs.Views.{Reader, View, looked, retaken, with_reader}
+use Rattle.ring_runs.specs.Views.{Reader, View, found_none, looked, retaken, with_reader}
 use Rattle.ring_runs.specs.Steps.{Looks, Mine, Retakes}
 use Rattle.ring_runs.proofs.SpotLemmas.{AreHome, away_in, carried_takes, length_homes, takes_else, valid_takes}
 use Rattle.ring_runs.proofs.ListLemmas.{below_length, cut}
 use Rattle.ring_runs.proofs.RecordLemmas.{long_records}
 use Rattle.ring_runs.proofs.CellLemmas.{has_append, has_below, has_cut, run_has, shown_says, shows_same, word_low}
-use Rattle.ring_runs.proofs.KeptLemmas.{Could, covered_on, covers_same, Ok, stays}
+use Rattle.ring_runs.proofs.KeptLemmas.{Could, covered_on, covers_same, Ok}
 
 -- the consumer goes on
 pub kept_reading : (n : ℕ) (words : List ℕ) (homes : List (Option ℕ)) (views : List View) (r : Kept n words homes views)
@@ -62,6 +62,30 @@ kept_reading n words homes views r id v at consumes words' homes' u m rises =
           })
           (at_set views id j (with_reader u v) w e);
     }
+
+-- a word that was found changes nothing else
+memory_found : (n : ℕ) (alone : Bool) (words : List ℕ) (homes : List (Option ℕ)) (cells : Cells) (tail : ℕ)
+    (r : Reader) (word : ℕ) → IsMemory n alone words homes cells tail r
+    → IsMemory n alone words homes cells tail (found_none word r)
+memory_found n alone words homes cells tail r word m = record {
+  some_words = m.some_words;
+  wide = m.wide;
+  long = m.long;
+  tail_is = m.tail_is;
+  head_is = m.head_is;
+  limit = m.limit;
+  room = m.room;
+  from_head = m.from_head;
+  to_scan = m.to_scan;
+  to_tail = m.to_tail;
+  scanned = m.scanned;
+  log = m.log;
+  back_to_back = m.back_to_back;
+  runs = m.runs;
+  above = m.above;
+  shown = m.shown;
+  home = m.home;
+}
 
 pub heads_same : {a b : ℕ} → b ≡ a → a ≤ b
 heads_same e = omega arith
@@ -162,13 +186,17 @@ module _ (n id : ℕ) (me : Mine) (s : State ℕ View) (r : Ok n s) (at : get_el
     value = slice_index s.words (me.0.reader.scan % n)
 
     looks_low : value ≤ me.0.reader.scan → Could n s (me.0.reader.scan % n) value id me (λ me'. Looks me value me')
-    looks_low low = (
-      me.0,
-      keeps,
-      tt,
-      stays n s (me.0.reader.scan % n) id me r at,
-      record { nothing = λ _. refl; run = λ h. absurd (omega arith) },
-    )
+    looks_low low =
+        let u : Reader = found_none value me.0.reader in (
+          with_reader u me.0,
+          keeps,
+          tt,
+          subst (λ ws. Kept n ws s.homes (set s.views id (with_reader u me.0)))
+              (sym (set-get_or s.words (me.0.reader.scan % n) 0))
+              (kept_reading n s.words s.homes s.views r id me.0 at consumes s.words s.homes u
+              (memory_found n r.alone s.words s.homes r.cells r.tail me.0.reader value m) same_head),
+          record { nothing = λ _. (refl, refl); run = λ h. absurd (omega arith) },
+        )
 
     -- the runs with one more
     more_runs : (p : ℕ) (xs : List Run) (scan : ℕ) (es : List Entry) → AreRuns p xs scan

@@ -1,9 +1,9 @@
 -- A claim of a seat from one stage to the next.
-use Rattle.std.proofs.Common.{◌≡◌, ◌≢◌, ℕ, ◌*◌, ◌%◌, List, [], ◌∷◌, ◌++◌, set, length, sym, refl, ap, subst, ◌∙◌}
+use Rattle.std.proofs.Common.{◌≡◌, ℕ, ◌*◌, ◌%◌, List, [], ◌∷◌, ◌++◌, length, sym, refl, ap, subst, ◌∙◌}
 use lib.ListN.{get_elem?}
 use Rattle.std.proofs.lemmas.List.{set-set}
 use Rattle.std.proofs.Math.Seq.{set-append_seam}
-use Rattle.atomic_table.proofs.Lists.{at_last, set_else, set_here}
+use Rattle.atomic_table.proofs.Lists.{at_last, set_here}
 use Rattle.ring_runs.specs.Records.{AreRecords, Entry}
 use Rattle.ring_runs.specs.Spots.{spots, values_of}
 use Rattle.ring_runs.specs.Cells.{Claim, Open, Out, Published, Stage}

@@ -7,7 +7,7 @@ use Rattle.ring_runs.specs.Records.{AreRecords, Entry}
 use Rattle.ring_runs.specs.Spots.{spots, values_of}
 use Rattle.ring_runs.specs.Cells.{Claim, Open, Out, Published, Stage}
 use Rattle.ring_runs.specs.Rule.{last_position}
-use Rattle.ring_runs.specs.Views.{Reader, View, changed, looked, new_claim, passed, retaken, sharing, with_claims, with_head_seen, with_reader}
+use Rattle.ring_runs.specs.Views.{Reader, View, changed, found_none, looked, new_claim, passed, retaken, returned, sharing, with_claims, with_head_seen, with_reader}
 
 abbrev pub Mine : Type 0
 Mine = Me ℕ View
@@ -86,14 +86,18 @@ pub record FindsRun (me : Mine) (n : ℕ) (me' : Mine) : Type 0 where
   pub near : n ≤ me.0.reader.head + me.0.capacity
   pub limit : n ≤ last_position
 
--- a word above the scan is the end of a run
+-- A word above the scan is the end of a run. The consumer knows each word that it found.
 pub record Looks (me : Mine) (n : ℕ) (me' : Mine) : Type 0 where
-  pub nothing : n ≤ me.0.reader.scan → me' ≡ me
+  pub nothing : n ≤ me.0.reader.scan → (me'.1 ≡ me.1) × (me'.0 ≡ with_reader (found_none n me.0.reader) me.0)
   pub run : me.0.reader.scan < n → FindsRun me n me'
 
 -- all slots are given back, and those below the head may be claimed
 abbrev pub StoresHead : ℕ → Mine → Mine → Type 0
 StoresHead head me me' = (me'.1 ≡ []) × (me'.0 ≡ with_reader (passed head me.0.reader) me.0)
+
+-- all slots are given back
+abbrev pub ReturnsAll : Mine → Mine → Type 0
+ReturnsAll me me' = (me'.1 ≡ []) × (me'.0 ≡ with_reader (returned me.0.reader) me.0)
 
 -- the consumer has out the slots that are published from `from` up to its scan
 pub record HasOut (r : Reader) (n : ℕ) (slots : List (ℕ × ℕ)) : Type 0 where

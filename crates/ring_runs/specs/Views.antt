@@ -6,7 +6,7 @@ pub use Rattle.ring_runs.specs.declared.view.Reader.{Reader}
 pub use Rattle.ring_runs.specs.declared.view.View.{View}
 
 abbrev pub first_reader : Reader
-first_reader = record { head = 0; from = 0; scan = 0; log = []; runs = [] }
+first_reader = record { head = 0; from = 0; scan = 0; log = []; runs = []; heads = []; looks = [] }
 
 -- the view of the first seat, which is the only producer and the consumer
 abbrev pub first_view : ℕ → View
@@ -59,16 +59,30 @@ with_head_seen head v = record v { head_seen = head; heads = v.heads ++ head ∷
 abbrev pub with_reader : Reader → View → View
 with_reader r v = record v { reader = r }
 
--- a run of these records was found at the scan, and the run has these words
+-- a look found this word, and a run of these records at the scan, which has these words
 abbrev pub looked : List Entry → List ℕ → Reader → Reader
 looked es ws r = record r {
   scan = r.scan + length ws;
   log = r.log ++ ws;
   runs = r.runs ++ (record { place = r.scan; entries = es }) ∷ [];
+  looks = r.looks ++ (r.scan + length ws) ∷ [];
 }
 
+-- a look found this word, which is no end of a run at the scan
+abbrev pub found_none : ℕ → Reader → Reader
+found_none word r = record r { looks = r.looks ++ word ∷ [] }
+
+-- the head is there, the slots from `from` on are out, and these heads were stored
+abbrev pub moved : ℕ → ℕ → List ℕ → Reader → Reader
+moved head from stored r = record r { head = head; from = from; heads = r.heads ++ stored }
+
+-- the head is stored, and all slots are given back
 abbrev pub passed : ℕ → Reader → Reader
-passed head r = record r { head = head; from = r.scan }
+passed head r = moved head r.scan (head ∷ []) r
+
+-- all slots are given back
+abbrev pub returned : Reader → Reader
+returned r = record r { from = r.scan }
 
 abbrev pub retaken : Reader → Reader
 retaken r = record r { from = r.head }

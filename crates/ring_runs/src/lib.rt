@@ -5,7 +5,7 @@
 //! - `plays`: what each kind of step says. `steps`: a function for each kind.
 //! - `table`: the table and its seats.
 //! - `producer`: a producer between two calls, and the search for room. `claims`, `settle`: claims that a producer
-//!   holds. `message`, `batch`: messages that are written at once. `read`: calls that take whole runs.
+//!   holds. `message`, `batch`: messages that are written at once. `reader`, `turn`: reads.
 //! - `slots`: records in the slots that a seat has out.
 #![tactic(auto)]
 
@@ -16,21 +16,22 @@ mod laws;
 mod message;
 mod plays;
 mod producer;
-mod read;
+mod reader;
 mod rule;
 mod settle;
 mod slots;
 mod steps;
 mod table;
+mod turn;
 mod view;
 
 pub use batch::{Outgoing, write_batch, write_batch_once};
 pub use claims::{OpenClaim, claim, claim_once};
 pub use fault::{Overtaken, TryFault};
-pub use laws::what_is_taken_was_published;
+pub use laws::{what_is_published_is_found, what_is_taken_was_published};
 pub use message::{write, write_once};
 pub use producer::Producer;
-pub use read::{Consumer, read_run};
+pub use reader::{Consumer, controlled_read, read};
 pub use rule::RunsRule;
 pub use settle::{abort, commit, put};
 pub use steps::consumer::{look, retake, return_all, store_head};

@@ -1,6 +1,6 @@
 //! What each kind of step says to its caller.
 ghost use Rattle.ring_runs.specs.Steps.{ClaimsAlone, ClaimsShared, GivesBack, LoadsHead, LoadsTail, Looks, Publishes};
-ghost use Rattle.ring_runs.specs.Steps.{Retakes, SharesTail, StoresHead, Takes};
+ghost use Rattle.ring_runs.specs.Steps.{Retakes, ReturnsAll, SharesTail, StoresHead, Takes};
 
 use crate::view::View;
 use atomic_table::Play;
@@ -68,7 +68,7 @@ impl Play<u64, View> for StoreHead {
 pub struct ReturnAll;
 
 impl Play<u64, View> for ReturnAll {
-    ghost then = { λ st me n me'. StoresHead me.0.reader.head me me' };
+    ghost then = { λ st me n me'. ReturnsAll me me' };
 }
 
 pub struct Retake;

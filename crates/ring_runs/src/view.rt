@@ -47,6 +47,10 @@ pub struct Reader {
     pub log: LinkedList<u64>,
     /// The runs below `scan`.
     pub runs: LinkedList<Run>,
+    /// All heads that it stored.
+    pub heads: LinkedList<u64>,
+    /// All words that it found at its scan.
+    pub looks: LinkedList<u64>,
 }
 
 /// What a seat knows.

@@ -1,7 +1,7 @@
 //! The steps of the consumer.
 ghost use Rattle.std.specs.Prelude.{◌≡◌, ◌≤◌, [], true};
 ghost use Rattle.ring_runs.specs.Seats.{IsSameSeat, IsSeatOf};
-ghost use Rattle.ring_runs.specs.Steps.{HasOut, Looks, Retakes, StoresHead};
+ghost use Rattle.ring_runs.specs.Steps.{HasOut, Looks, Retakes, ReturnsAll, StoresHead};
 
 use crate::plays::{Look, Retake, ReturnAll, StoreHead};
 use crate::steps::{RunsSeat, SharedRuns};
@@ -41,7 +41,7 @@ pub fn return_all(ring: &SharedRuns, seat: &mut RunsSeat, capacity: u32)
     requires consumes { seat.old.me.0.consumes ≡ true }
     requires has { HasOut seat.old.me.0.reader capacity seat.old.me.1 }
     ensures seat { IsSameSeat seat.old seat.new }
-    ensures returns { StoresHead seat.old.me.0.reader.head seat.old.me seat.new.me }
+    ensures returns { ReturnsAll seat.old.me seat.new.me }
 {
     ring.load::<ReturnAll>(seat, capacity as usize + HEAD_POSITION_WORD);
 }

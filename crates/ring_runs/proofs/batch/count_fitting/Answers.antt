@@ -1,7 +1,6 @@
-use Rattle.std.proofs.Common.{◌≡◌, ◌+◌, ℕ, List, get_or, take, ap, sym, ◌∙◌, arith}
-use Rattle.std.proofs.lemmas.List.Elements.{All-get_or}
+use Rattle.std.proofs.Common.{◌+◌, ℕ, List, get_or, take, ap, sym, ◌∙◌, arith}
 use Rattle.ring_runs.specs.Placing.{end_after}
-use Rattle.ring_runs.specs.Writing.{batch_end, IsSendable, Outgoing, size_of}
+use Rattle.ring_runs.specs.Writing.{batch_end, Outgoing, size_of}
 use Rattle.ring_runs.proofs.BatchLemmas.{end_next, no_message}
 use Rattle.ring_runs.proofs.batch.count_fitting.Goals as goal
 

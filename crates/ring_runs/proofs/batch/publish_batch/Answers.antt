@@ -1,4 +1,4 @@
-use Rattle.std.proofs.Common.{ℕ, ◌*◌, List, [], length, refl, ap, ◌∙◌, arith}
+use Rattle.std.proofs.Common.{ℕ, List, [], refl, ◌∙◌, arith}
 use Rattle.ring_runs.specs.Cells.{Out}
 use Rattle.ring_runs.specs.Views.{new_claim}
 use Rattle.ring_runs.specs.Writing.{batch_entries, batch_words, Outgoing}

@@ -1,4 +1,4 @@
-use Rattle.std.proofs.Common.{◌≡◌, ◌≤ℤ◌, ℕ, of_z, pos, to_z, List, [], ◌∷◌, ◌++◌, length, replicate, true, sym, refl, ap, subst, ◌∙◌, arith}
+use Rattle.std.proofs.Common.{◌≡◌, ◌≤ℤ◌, ℕ, of_z, pos, to_z, List, [], ◌∷◌, ◌++◌, length, replicate, true, sym, ap, subst, ◌∙◌, arith}
 use Rattle.std.specs.Int.{w32}
 use Rattle.std.proofs.lemmas.Int.{to_z-of_z}
 use Rattle.ring_runs.specs.Cells.{Claim}

@@ -1,11 +1,11 @@
-use Rattle.std.proofs.Common.{◌≡◌, ℕ, List, length, of_z, to_z, false, sym, refl, ap, subst, ◌∙◌, arith}
+use Rattle.std.proofs.Common.{◌≡◌, ℕ, List, length, of_z, to_z, false, sym, ap, subst, ◌∙◌, arith}
 use Rattle.std.specs.Int.{w32}
 use Rattle.std.proofs.lemmas.Int.{to_z-of_z}
 use Rattle.ring_runs.specs.Claiming.{committed_claim, refusal_of}
 use Rattle.ring_runs.specs.Placing.{end_after, record_size}
 use Rattle.ring_runs.specs.Steps.{Mine}
-use Rattle.ring_runs.specs.Views.{View, changed, with_claims}
-use Rattle.ring_runs.specs.Writing.{HasOpen, MayHaveLooked, tail_after, TakesRoom}
+use Rattle.ring_runs.specs.Views.{View, changed}
+use Rattle.ring_runs.specs.Writing.{HasOpen, MayHaveLooked, TakesRoom}
 use Rattle.ring_runs.proofs.OpenLemmas.{below_looked, looked_alone, none_refused, producer_changed, room_is, room_newest, room_taken}
 use Rattle.ring_runs.proofs.PlaceLemmas.{place_on}
 use Rattle.ring_runs.proofs.message.write_once.Goals.{After-has_room, After-publish_message, After-take_room_once-seen}

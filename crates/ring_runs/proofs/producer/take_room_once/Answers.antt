@@ -1,10 +1,10 @@
-use Rattle.std.proofs.Common.{◌≡◌, ◌≢◌, ℕ, [], ◌∷◌, ◌++◌, true, false, true≢false, sym, refl, ap, ◌∙◌, subst, ⊎_elim, arith}
+use Rattle.std.proofs.Common.{[], ◌∷◌, ◌++◌, true≢false, sym, ap, ◌∙◌, arith}
 use mathlib.Core.Logic.{dite}
 use native.Mathlib.Decide.{ℕ_discrete}
 use Rattle.ring_runs.specs.Cells.{Open}
 use Rattle.ring_runs.specs.Steps.{Mine}
 use Rattle.ring_runs.specs.Views.{View, new_claim, with_claims}
-use Rattle.ring_runs.specs.Writing.{IsProducer, tail_after}
+use Rattle.ring_runs.specs.Writing.{tail_after}
 use Rattle.ring_runs.proofs.Calls.{seat_on}
 use Rattle.ring_runs.proofs.OpenLemmas.{producer_on}
 use Rattle.ring_runs.proofs.producer.take_room_once.Goals as goal

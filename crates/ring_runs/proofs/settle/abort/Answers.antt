@@ -2,7 +2,7 @@ use Rattle.std.proofs.Common.{◌≡◌, ℕ, ◌+◌, ◌*◌, List, [], ◌∷
 use Rattle.ring_layout.specs.Headers.{aborted_header}
 use Rattle.ring_layout.specs.History.{IsMessage}
 use Rattle.ring_runs.specs.Cells.{Published}
-use Rattle.ring_runs.specs.Claiming.{aborted_claim, HasBody, KeepsOthers, OpenClaim, open_claim}
+use Rattle.ring_runs.specs.Claiming.{KeepsOthers, OpenClaim, open_claim}
 use Rattle.ring_runs.specs.Placing.{body_words, lead, lead_words, record_size, words_in}
 use Rattle.ring_runs.specs.Records.{IsRecord, Skips}
 use Rattle.ring_runs.specs.Views.{View, changed, new_claim}

@@ -5,7 +5,7 @@ use Rattle.ring_layout.specs.Headers.{committed_header}
 use Rattle.ring_layout.specs.declared.message.Message.{Message}
 use Rattle.ring_layout.specs.History.{IsMessage}
 use Rattle.ring_runs.specs.Cells.{Published}
-use Rattle.ring_runs.specs.Claiming.{committed_claim, HasBody, KeepsOthers, OpenClaim, open_claim}
+use Rattle.ring_runs.specs.Claiming.{KeepsOthers, OpenClaim, open_claim}
 use Rattle.ring_runs.specs.Placing.{body_words, lead, lead_words, record_size}
 use Rattle.ring_runs.specs.Records.{Holds, IsRecord}
 use Rattle.ring_runs.specs.Views.{View, changed, new_claim}

@@ -1,4 +1,4 @@
-use Rattle.std.proofs.Common.{◌≡◌, ℕ, ◌+◌, ◌-◌, ◌*◌, ◌/◌, List, ◌++◌, length, max, take}
+use Rattle.std.proofs.Common.{◌≡◌, ℕ, ◌+◌, ◌-◌, ◌*◌, List, ◌++◌, length, max, take}
 use Rattle.ring_layout.specs.History.{overwritten}
 use Rattle.ring_runs.specs.Claiming.{HasBodyNext}
 use Rattle.ring_runs.specs.Placing.{body_words}

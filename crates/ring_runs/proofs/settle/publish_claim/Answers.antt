@@ -2,14 +2,14 @@ use Rattle.std.proofs.Common.{◌≡◌, ℕ, ◌+◌, ◌-◌, ◌*◌, List, [
 use Rattle.ring_layout.specs.Headers.{open_header}
 use Rattle.ring_runs.specs.Cells.{Out, Published}
 use Rattle.ring_runs.specs.Claiming.{HasBody, OpenClaim, open_claim}
-use Rattle.ring_runs.specs.Placing.{body_words, end_after, lead, lead_words, next_place, record_size, words_in}
+use Rattle.ring_runs.specs.Placing.{body_words, end_after, lead, lead_words, record_size, words_in}
 use Rattle.ring_runs.specs.Records.{AreRecords, Entry, entry_words, IsRecord}
 use Rattle.ring_runs.specs.Spots.{spots}
 use Rattle.ring_runs.specs.Turns.{HasMore, IsSameTable, Passes}
-use Rattle.ring_runs.specs.Views.{View, changed, new_claim}
+use Rattle.ring_runs.specs.Views.{changed, new_claim}
 use Rattle.ring_runs.proofs.Calls.{same_on, seat_on}
 use Rattle.ring_runs.proofs.OpenLemmas.{claim_size}
-use Rattle.ring_runs.proofs.PlaceLemmas.{led_records, led_size}
+use Rattle.ring_runs.proofs.PlaceLemmas.{led_records}
 use Rattle.ring_runs.proofs.SettleLemmas.{first_more, header_set, second_more, SlotsOut, slots_out, third_more}
 use Rattle.ring_runs.proofs.StageLemmas.{open_at, published, stage_at}
 use Rattle.ring_runs.proofs.WordLemmas.{length_first}

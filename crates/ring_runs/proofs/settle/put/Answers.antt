@@ -1,8 +1,7 @@
-use Rattle.std.proofs.Common.{◌≡◌, ◌<◌, ℕ, sym, refl, subst, ◌∙◌, arith}
+use Rattle.std.proofs.Common.{◌<◌, ℕ, sym, refl, subst, arith}
 use Rattle.std.proofs.lemmas.List.Elements.{All-from_get_or}
 use Rattle.ring_layout.specs.History.{overwritten}
 use Rattle.ring_runs.specs.Claiming.{KeepsOthers, OpenClaim, open_claim}
-use Rattle.ring_runs.specs.Views.{View, changed}
 use Rattle.ring_runs.proofs.OpenLemmas.{keeps_others, producer_changed, put_open}
 use Rattle.ring_runs.proofs.settle.put.Goals as goal
 

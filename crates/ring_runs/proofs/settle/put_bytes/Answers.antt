@@ -1,4 +1,4 @@
-use Rattle.std.proofs.Common.{◌≡◌, ℕ, ◌+◌, ◌-◌, ◌*◌, ◌/◌, ◌≤◌, List, [], ◌∷◌, ◌++◌, length, sym, refl, ap, subst, ◌∙◌, arith}
+use Rattle.std.proofs.Common.{◌≡◌, ℕ, ◌+◌, ◌-◌, ◌/◌, ◌≤◌, List, [], ◌∷◌, ◌++◌, length, sym, refl, ap, subst, ◌∙◌, arith}
 use Rattle.ring_layout.specs.Headers.{open_header}
 use Rattle.ring_layout.specs.History.{overwritten}
 use Rattle.ring_layout.proofs.WordBytes.{length-overwritten}
@@ -7,7 +7,7 @@ use Rattle.ring_runs.specs.Claiming.{HasBody, OpenClaim, open_claim}
 use Rattle.ring_runs.specs.Placing.{body_words, end_after, lead_words, record_size}
 use Rattle.ring_runs.specs.Spots.{spots}
 use Rattle.ring_runs.specs.Turns.{HasMore, IsSameTable, Passes}
-use Rattle.ring_runs.specs.Views.{View, changed, new_claim}
+use Rattle.ring_runs.specs.Views.{changed, new_claim}
 use Rattle.ring_runs.proofs.Calls.{same_on, seat_on}
 use Rattle.ring_runs.proofs.OpenLemmas.{claim_size}
 use Rattle.ring_runs.proofs.SettleLemmas.{body_next, bytes_put, front_more, last_more, SlotsOut, slots_out}

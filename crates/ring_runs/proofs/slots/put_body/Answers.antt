@@ -1,6 +1,6 @@
 use Rattle.std.proofs.Common.{◌≡◌, ℕ, ◌+◌, ◌*◌, List, [], ◌∷◌, length, sym, refl, ap, subst, ◌∙◌, arith}
 use Rattle.ring_runs.specs.Turns.{Fills}
-use Rattle.ring_runs.specs.Placing.{body_words, first_words, words_in}
+use Rattle.ring_runs.specs.Placing.{first_words, words_in}
 use Rattle.ring_runs.proofs.TurnLemmas.{fills_both, fills_none, room_after}
 use Rattle.ring_runs.proofs.WordLemmas.{length_first, word_of_rest, words_more}
 use Rattle.ring_runs.proofs.slots.put_body.Goals as goal

@@ -6,8 +6,8 @@ use Rattle.ring_layout.specs.Headers.{open_header}
 use Rattle.ring_runs.specs.Claiming.{open_claim}
 use Rattle.ring_runs.specs.Placing.{body_words, end_after, lead_words, next_place, record_size, words_in}
 use Rattle.ring_runs.specs.Spots.{spots}
-use Rattle.ring_runs.specs.Turns.{Filling, Fills, HasRoom, Held}
-use Rattle.ring_runs.proofs.PlaceLemmas.{lead_size, place_on, room_for}
+use Rattle.ring_runs.specs.Turns.{Fills, Held}
+use Rattle.ring_runs.proofs.PlaceLemmas.{lead_size, room_for}
 use Rattle.ring_runs.proofs.TurnLemmas.{fill_ends, fill_starts, fills_both, room_after, room_less}
 use Rattle.ring_runs.proofs.WordLemmas.{zero_words}
 use Rattle.ring_runs.proofs.slots.put_claim.Goals as goal

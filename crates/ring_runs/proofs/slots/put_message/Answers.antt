@@ -1,8 +1,8 @@
-use Rattle.std.proofs.Common.{◌≡◌, ℕ, ◌+◌, ◌-◌, [], List, length, ap, subst, ◌∙◌, arith}
+use Rattle.std.proofs.Common.{ℕ, ◌-◌, [], List, length, subst, arith}
 use Rattle.std.specs.Int.{w32}
 use Rattle.std.proofs.lemmas.Int.{to_z-of_z}
 use Rattle.ring_runs.specs.Placing.{end_after, placed_words, record_size}
-use Rattle.ring_runs.specs.Turns.{Filling, Fills}
+use Rattle.ring_runs.specs.Turns.{Fills}
 use Rattle.ring_runs.specs.Writing.{new_message}
 use Rattle.ring_runs.proofs.PlaceLemmas.{placed_size, room_for}
 use Rattle.ring_runs.proofs.TurnLemmas.{fill_ends, fill_starts}

@@ -1,10 +1,10 @@
-use Rattle.std.proofs.Common.{◌≡◌, ℕ, ◌+◌, ◌-◌, ◌*◌, ◌<◌, ◌≤◌, List, [], ◌∷◌, replicate, sym, refl, ap, subst, ◌∙◌, ⊎_elim, arith}
+use Rattle.std.proofs.Common.{◌≡◌, ℕ, ◌+◌, ◌-◌, ◌*◌, List, [], ◌∷◌, replicate, sym, refl, ap, subst, ◌∙◌, ⊎_elim, arith}
 use Rattle.ring_layout.specs.Headers.{padding_header}
 use Rattle.ring_layout.specs.Places.{room}
 use Rattle.ring_runs.specs.Placing.{lead_words, padding_words}
 use Rattle.ring_runs.specs.Turns.{Fills}
-use Rattle.ring_runs.proofs.PlaceLemmas.{HasLead, HasNoLead, lead_cases, place_on, room_some}
-use Rattle.ring_runs.proofs.TurnLemmas.{fills_both, fills_none, room_after, room_less}
+use Rattle.ring_runs.proofs.PlaceLemmas.{HasLead, HasNoLead, lead_cases, room_some}
+use Rattle.ring_runs.proofs.TurnLemmas.{fills_both, fills_none, room_after}
 use Rattle.ring_runs.proofs.slots.put_padding.Goals as goal
 
 pub put_zeros-requires-clause-room : goal.put_zeros-requires-clause-room

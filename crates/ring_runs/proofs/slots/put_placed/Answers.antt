@@ -4,7 +4,7 @@ use Rattle.std.proofs.lemmas.Int.{to_z-of_z}
 use Rattle.ring_runs.specs.Placing.{end_after, lead_words, next_place, record_size, record_words}
 use Rattle.ring_runs.specs.Turns.{Fills}
 use Rattle.ring_runs.specs.Writing.{new_message}
-use Rattle.ring_runs.proofs.PlaceLemmas.{lead_size, place_on}
+use Rattle.ring_runs.proofs.PlaceLemmas.{lead_size}
 use Rattle.ring_runs.proofs.TurnLemmas.{fills_both, room_after, room_less}
 use Rattle.ring_runs.proofs.slots.put_placed.Goals as goal
 

@@ -1,4 +1,4 @@
-use Rattle.std.proofs.Common.{◌≡◌, ◌+◌, ◌-◌, ◌*◌, length, take}
+use Rattle.std.proofs.Common.{◌≡◌, ◌-◌, ◌*◌, take}
 use Rattle.ring_runs.specs.Records.{AreRecords}
 use Rattle.ring_runs.specs.Turns.{Filling, IsSameTable}
 use Rattle.ring_runs.specs.Writing.{batch_end, batch_entries, batch_words}

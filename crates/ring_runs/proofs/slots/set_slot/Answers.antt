@@ -1,4 +1,4 @@
-use Rattle.std.proofs.Common.{◌∷◌, ◌++◌, [], sym, ap, ◌∙◌, arith}
+use Rattle.std.proofs.Common.{◌∷◌, ◌++◌, [], sym, ap, ◌∙◌}
 use Rattle.atomic_table.specs.Table.{rest, turned}
 use Rattle.ring_runs.specs.Steps.{Mine}
 use Rattle.ring_runs.proofs.TurnLemmas.{more_front, set_next}

@@ -1,6 +1,6 @@
 use Rattle.std.proofs.Common.{ℕ, refl, arith}
 use Rattle.ring_runs.specs.Rule.{head_at}
-use Rattle.ring_runs.specs.Steps.{StoresHead}
+use Rattle.ring_runs.specs.Steps.{ReturnsAll}
 use Rattle.ring_runs.proofs.Calls.{same_seat, step_at}
 use Rattle.ring_runs.proofs.HeadLemmas.{returns_all}
 use Rattle.ring_runs.proofs.steps.consumer.return_all.Goals as goal
@@ -9,7 +9,7 @@ pub load-requires : goal.load-requires
 load-requires c =
     let n : ℕ = c.args.capacity in
     step_at c.requires.seat _ (head_at n) refl (omega arith) (λ x. x)
-    (λ _ _ me'. StoresHead c.args.seat.now.me.0.reader.head c.args.seat.now.me me')
+    (λ _ _ me'. ReturnsAll c.args.seat.now.me me')
     (returns_all n _ _ c.args.seat.now.me (record { consumes = c.requires.consumes; out = c.requires.has }))
 
 pub returns-clause-seat : goal.returns-clause-seat

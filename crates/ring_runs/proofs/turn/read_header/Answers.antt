@@ -3,7 +3,7 @@ use Rattle.std.specs.Int.{w32}
 use Rattle.std.proofs.lemmas.Int.{to_z-of_z}
 use Rattle.ring_runs.specs.Records.{entry_bytes, entry_type}
 use Rattle.ring_runs.proofs.RecordLemmas.{entry_header_is, len_fits, type_fits}
-use Rattle.ring_runs.proofs.read.read_header.Goals as goal
+use Rattle.ring_runs.proofs.turn.read_header.Goals as goal
 
 pub returns : goal.returns
 returns c C e small is at =

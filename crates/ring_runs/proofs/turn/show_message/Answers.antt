@@ -6,7 +6,7 @@ use Rattle.ring_layout.specs.declared.message.Message.{Message}
 use Rattle.ring_runs.specs.Writing.{new_message}
 use Rattle.ring_runs.proofs.ByteLemmas.{same_message}
 use Rattle.ring_runs.proofs.ShowLemmas.{body_is}
-use Rattle.ring_runs.proofs.read.show_message.Goals as goal
+use Rattle.ring_runs.proofs.turn.show_message.Goals as goal
 
 pub copy_body-requires-clause-small : goal.copy_body-requires-clause-small
 copy_body-requires-clause-small g c =
@@ -33,8 +33,6 @@ returns-clause-shown g c p j ws m t type_is long small holds =
     let same : bytes ≡ m.body = body_is ws bytes m.body j (long ∙ sym size) small holds (λ k lt.
     get_or-take len c.copy_body.new.scratch k 0 (omega arith) ∙ c.copy_body.ensures.copies p j ws t k (omega arith)) in
     let id : ℤ = to_z w32 (of_z w32 c.args.type_id) in
-    let id_is : id ≡ m.type_id = to_z-of_z w32 c.args.type_id c.ranges.type_id ∙ sym type_is in (
-      c.on_message.result,
-      subst (λ (z : Message). g.H.Handler.step c.args.handler.now z c.on_message.new.self c.on_message.result)
-          (same_message (new_message id bytes) m id_is same) c.on_message.ensures.step,
-    )
+    let id_is : id ≡ m.type_id = to_z-of_z w32 c.args.type_id c.ranges.type_id ∙ sym type_is in
+    subst (λ (z : Message). g.H.Handler.step c.args.handler.now z c.on_message.new.self c.on_message.result)
+    (same_message (new_message id bytes) m id_is same) c.on_message.ensures.step
