@@ -8,7 +8,7 @@ use Rattle.ring_words.specs.Read.{stop_of}
 use Rattle.ring_words.specs.declared.read.action.Action.{Action}
 use Rattle.ring_words.specs.declared.read.action.Action.TheVariants.{Break, Commit, Continue}
 use Rattle.ring_words.specs.declared.read.end.Stop.TheVariants.{Limit, Block, Unpublished}
-use Rattle.ring_runs.specs.Reading.{commit_end, Consumer, FindsOn, IsConsumer, IsNext, IsReading, IsTight, Passed, Shown, Step, Turn, TurnIs}
+use Rattle.ring_runs.specs.Reading.{commit_end, Consumer, FindsOn, IsConsumer, IsNext, IsReading, IsTight, Passed, Shown, Step, stored_from, Turn, TurnIs}
 use Rattle.ring_runs.specs.Records.{AreRecords, Entry, entry_words, Holds}
 use Rattle.ring_runs.specs.Turns.{IsSameTable, turned_by}
 use Rattle.ring_runs.specs.Views.{Reader, View, moved, with_reader}
@@ -100,6 +100,13 @@ record_within {id} {key} {n} {at} {c} r e is =
     let to_scan = r.to_scan in
     let logged = r.logged in (entry_some (8 * n) e is.record_is.valid, omega arith)
 
+-- the head was stored at the end of a read
+pub stored_as : {id : TableId} {key n turned head : ℕ} {c : Consumer} {w : View} → IsReading id key n turned c
+    → w ≡ with_reader (moved head c.scan (stored_from c.head head) c.seat.me.0.reader) c.seat.me.0
+    → w ≡ with_reader (moved head c.scan (stored_from c.seat.me.0.reader.head head) c.seat.me.0.reader) c.seat.me.0
+stored_as {id} {key} {n} {turned} {head} {c} r view =
+    view ∙ ap (λ h. with_reader (moved head c.scan (stored_from h head) c.seat.me.0.reader) c.seat.me.0) r.head_is
+
 -- all slots were given back at the end of a read
 pub rested : {id : TableId} {key n turned : ℕ} {c c' : Consumer} → IsReading id key n turned c
     → IsReading id key n c'.scan c' → (head : ℕ) (stored : List ℕ)
@@ -129,6 +136,15 @@ rested {id} {key} {n} {turned} {c} {c'} r r' head stored view below left records
       left = left;
       records = subst (λ (v : View). AreRecords (8 * n) left (drop v.reader.head v.reader.log)) (sym view) records;
     }
+
+-- the read left the rest of the records
+pub rested_on : {S : Type 0} {step : Step S} {limit n : ℕ} {v : View} {at messages : ℕ} {s t : S} {id : TableId}
+    {key turned : ℕ} {c c' : Consumer} → RunsOn step limit n v c.seat.me.0 at messages s t → IsReading id key n turned c
+    → IsReading id key n c'.scan c' → (stored : List ℕ)
+    → c'.seat.me.0 ≡ with_reader (moved at c.scan stored c.seat.me.0.reader) c.seat.me.0 → at ≤ turned
+    → IsConsumer id key n c'
+rested_on {S} {step} {limit} {n} {v} {at} {messages} {s} {t} {id} {key} {turned} {c} x r r' stored view below =
+    rested r r' at stored view below x.rest (left_records step limit n v s c.seat.me.0 at messages t x)
 
 -- ---- why a read stopped
 

@@ -121,5 +121,6 @@ module _ (n : ℕ) (words : List ℕ) (homes : List (Option ℕ)) (views : List 
       let scan_is : r.consumer.scan ≡ w.reader.scan = ap (λ (u : Reader). u.scan) (sym consumer_is) in
       let told = word_found n r.cells c.place (slice_index words (c.place % n)) c.entries b
       (m.shown c.place (omega arith) (omega arith)) in
-      subst (λ p. (p < slice_index words (p % n)) × (slice_index words (p % n) ≡ c.place + total_words c.entries)) at_scan
+      subst (λ p. (p < slice_index words (p % n)) × (slice_index words (p % n) ≡ c.place + total_words c.entries))
+      at_scan
       told

@@ -80,7 +80,8 @@ module _ (before body bs : List ℕ) (k b : ℕ) (small : Small body) (in_word :
       ∙ sym (apart i ne) ∙ sym right))
 
   pub merge_word : set (before ++ body_words body) (length before + k)
-      (from_le_bytes w64 (overwritten b bs (to_le_bytes w64 (get_or (before ++ body_words body) (length before + k) 0))))
+      (from_le_bytes w64 (overwritten b bs
+      (to_le_bytes w64 (get_or (before ++ body_words body) (length before + k) 0))))
       ≡ before ++ body_words (overwritten (8 * k + b) bs body)
   unfolding new merged
   merge_word =
@@ -91,7 +92,8 @@ module _ (before body bs : List ℕ) (k b : ℕ) (small : Small body) (in_word :
 -- ---- all the bytes, word by word
 
 -- taking no more than there are
-take_most : (m n : ℕ) (bytes : List ℕ) → (m ≡ n) ⊎ ((length bytes ≤ m) × (length bytes ≤ n)) → take m bytes ≡ take n bytes
+take_most : (m n : ℕ) (bytes : List ℕ) → (m ≡ n) ⊎ ((length bytes ≤ m) × (length bytes ≤ n))
+    → take m bytes ≡ take n bytes
 take_most m n bytes (inl e) = ap (λ k. take k bytes) e
 take_most m n bytes (inr h) = take_all m bytes h.0 ∙ sym (take_all n bytes h.1)
 
@@ -150,8 +152,8 @@ module _ (offset : ℕ) (bytes body : List ℕ) (room : offset + length bytes �
         (cases_lt (8 * k + 8) (offset + length bytes))))
 
     pub put_next : (before : List ℕ) → set (before ++ body_words (put_before offset bytes body k)) (length before + k)
-        (from_le_bytes w64 (overwritten (from - 8 * k) (slice_range bytes (from - offset) (to - offset)) (to_le_bytes w64
-        (get_or (before ++ body_words (put_before offset bytes body k)) (length before + k) 0))))
+        (from_le_bytes w64 (overwritten (from - 8 * k) (slice_range bytes (from - offset) (to - offset))
+        (to_le_bytes w64 (get_or (before ++ body_words (put_before offset bytes body k)) (length before + k) 0))))
         ≡ before ++ body_words (put_before offset bytes body (k + 1))
     unfolding so_far part
     put_next before =

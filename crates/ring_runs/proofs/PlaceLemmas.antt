@@ -114,7 +114,8 @@ pub placed_records : (n tail : ℕ) (m : Message) → IsCapacity n → IsMessage
     → AreRecords (8 * n) (placed n tail m) (placed_words n tail m)
 placed_records n tail m cap valid =
     let words = length_first m.body (words_in (length m.body)) in
-    led_records n tail (entry_words (Holds m)) (Holds m) (record_words m) cap (record_holds (8 * n) m valid) (omega arith)
+    led_records n tail (entry_words (Holds m)) (Holds m) (record_words m) cap (record_holds (8 * n) m valid)
+    (omega arith)
 
 pub placed_size : (n tail : ℕ) (m : Message) → 0 < n
     → tail + length (placed_words n tail m) ≡ end_after n tail (entry_words (Holds m))

@@ -120,4 +120,5 @@ out_is r n held out =
     out.slots_are ∙ ap (spots n r.from) (sym rest)
   where
     drop-append : (a b : List ℕ) → drop (length a) (a ++ b) ≡ b
-    drop-append a b = drop-append-le (length a) a b (omega arith) ∙ ap (λ l. l ++ b) (no_words (length a) a (omega arith))
+    drop-append a b = drop-append-le (length a) a b (omega arith)
+        ∙ ap (λ l. l ++ b) (no_words (length a) a (omega arith))

@@ -164,7 +164,8 @@ module _ {S : Type 0} (step : Step S) (limit n : ℕ) (v : View) (s : S) where
             log = ap (λ l. l ++ f.words) x.only.log ∙ append_assoc v.reader.log x.only.words f.words;
             found = x.only.found ++ (record { place = w.reader.scan; entries = f.entries }) ∷ [];
             runs = ap (λ l. l ++ (record { place = w.reader.scan; entries = f.entries }) ∷ []) x.only.runs
-                ∙ append_assoc v.reader.runs x.only.found ((record { place = w.reader.scan; entries = f.entries }) ∷ []);
+                ∙ append_assoc v.reader.runs x.only.found ((record { place = w.reader.scan; entries = f.entries })
+                ∷ []);
             seen = x.only.seen ++ stop ∷ [];
             looks = ap (λ l. l ++ stop ∷ []) x.only.looks ∙ append_assoc v.reader.looks x.only.seen (stop ∷ []);
           };
@@ -278,14 +279,16 @@ module _ {S : Type 0} (step : Step S) (limit n : ℕ) (v : View) (s : S) where
           ends_of p q [] (b ∷ as') h = absurd h
           ends_of p q (Skips k ∷ es) as' h =
               let e : Entry = Skips k in
-              let z : p + entry_words e + total_words (es ++ Holds m ∷ []) ≡ p + total_words (e ∷ (es ++ Holds m ∷ [])) =
+              let z : p + entry_words e + total_words (es ++ Holds m ∷ []) ≡ p + total_words
+              (e ∷ (es ++ Holds m ∷ [])) =
               omega arith in
               ends_of (p + entry_words e) q es as' h
               ∙ ap (λ y. commit_ends (p + entry_words e) es as' ++ commit_end y a) z
           ends_of p q (Holds o ∷ es) [] h = absurd h
           ends_of p q (Holds o ∷ es) (b ∷ as') h =
               let e : Entry = Holds o in
-              let z : p + entry_words e + total_words (es ++ Holds m ∷ []) ≡ p + total_words (e ∷ (es ++ Holds m ∷ [])) =
+              let z : p + entry_words e + total_words (es ++ Holds m ∷ []) ≡ p + total_words
+              (e ∷ (es ++ Holds m ∷ [])) =
               omega arith in
               ap (λ l. commit_end (p + entry_words e) b ++ l) (ends_of (p + entry_words e) h.0 es as' h.2
               ∙ ap (λ y. commit_ends (p + entry_words e) es as' ++ commit_end y a) z)

@@ -150,7 +150,8 @@ module _ (n start place size h0 offset : ℕ) (lead body bytes : List ℕ) (at :
       bytes_put p3 =
           let long = long_before in
           let all = new_words in
-          at_end n start (length before + (offset + length bytes + 7) / 8 + (size - 1 - (offset + length bytes + 7) / 8))
+          at_end n start (length before + (offset + length bytes + 7) / 8
+          + (size - 1 - (offset + length bytes + 7) / 8))
           (lead ++ h0 ∷ body_words new) held3
           (p3 start (length before + (offset + length bytes + 7) / 8) (lead ++ h0 ∷ body_words new) last) (omega arith)
 

@@ -12,7 +12,7 @@ use Rattle.ring_runs.specs.Records.{AreRecords, Entry, Holds}
 use Rattle.ring_runs.specs.Views.{View, moved, with_reader}
 use Rattle.ring_runs.proofs.RunLemmas.{left_records, RunsOn, RunsTo, to_here}
 
-module _ {S : Type 0} (step : Step S) (limit n : ℕ) (v w w' : View) (at messages scan : ℕ) (s t : S)
+module _ {S : Type 0} {step : Step S} {limit n : ℕ} {v w w' : View} {at messages scan : ℕ} {s t : S}
     (view : w' ≡ with_reader (moved at scan (stored_from w.reader.head at) w.reader) w) where
   pub stores : (x : RunsTo step limit n v w at messages s t)
       → (r : ReadsStoring step limit n v w' s t messages) × (r.reads.actions ≡ x.actions) × (r.reads.gone ≡ x.gone)
@@ -46,13 +46,11 @@ module _ {S : Type 0} (step : Step S) (limit n : ℕ) (v w w' : View) (at messag
         refl,
       )
 
-  head_is : w'.reader.head ≡ at
-  head_is = ap (λ (z : View). z.reader.head) view
-
   -- the handler let the read go on
   pub ends_on : RunsOn step limit n v w at messages s t → (end : ReadEnd) → end.messages ≡ messages
       → end.stopped ≡ stop_of n limit end.messages at end.bytes → Controls step limit n v w' s t end
   ends_on x end count stopped =
+      let head_is : w'.reader.head ≡ at = ap (λ (z : View). z.reader.head) view in
       let r = stores (to_here x) in
       let moved_count = subst (λ k. (y : ReadsStoring step limit n v w' s t k) × (y.reads.actions ≡ x.actions))
       (sym count) (r.0, r.1) in inl (record {
@@ -83,6 +81,7 @@ module _ {S : Type 0} (step : Step S) (limit n : ℕ) (v w w' : View) (at messag
       → (v.reader.head < at → at % n ≢ 0) → (end : ReadEnd) → end.messages ≡ messages → end.stopped ≡ Stop.Action
       → Controls step limit n v w' s u end
   ends_aborted x m more is u aborted less inside end count stopped =
+      let head_is : w'.reader.head ≡ at = ap (λ (z : View). z.reader.head) view in
       let r = stores (to_here x) in
       let here = subst (λ k. (y : ReadsStoring step limit n v w' s t k) × (y.reads.actions ≡ x.actions))
       (sym count) (r.0, r.1) in

@@ -142,8 +142,8 @@ pub record OnlyReads (v w : View) : Type 0 where
 abbrev pub IsTight : List Entry → Type 0
 IsTight gone = (gone ≡ []) ⊎ ((front : List Entry) × (m : Message) × (gone ≡ front ++ Holds m ∷ []))
 
--- The records `gone` are the first ones from the old head on, and the head is behind them. This many of them are
--- messages, and the handler was shown these, in order.
+-- The records `gone` are the first ones from the old head on, and the new head is the place after them. This many of
+-- them are messages, and the handler was shown these, in order.
 pub record Reads {S : Type 0} (step : Step S) (limit n : ℕ) (v w : View) (s t : S) (count : ℕ) : Type 0 where
   pub gone : List Entry
   pub rest : List Entry

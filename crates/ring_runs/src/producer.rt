@@ -63,8 +63,8 @@ pub(crate) fn end_after(capacity: u32, tail: u64, len: usize) -> u64
     place_after(capacity, tail, words) + words
 }
 
-/// Tests whether there is room for a claim that ends at `end`. The test goes by the head that was loaded before. If this
-/// head leaves no room, the head is loaded first.
+/// Tests whether there is room for a claim that ends at `end`. The test goes by the head that was loaded before. If
+/// this head leaves no room, the head is loaded first.
 #[inline(always)]
 pub(crate) fn has_room(ring: &SharedRuns, producer: &mut Producer, capacity: u32, end: u64) -> bool
     requires producer { IsProducer ring.now.table_id ring.now.key capacity producer.old }
@@ -98,8 +98,8 @@ pub(crate) fn take_room(ring: &SharedRuns, producer: &mut Producer, capacity: u3
     producer.tail = end;
 }
 
-/// Claims the slots from a tail that was loaded up to `end`, if the tail is still there. Returns the tail found. If that
-/// is another one, nothing changed.
+/// Claims the slots from a tail that was loaded up to `end`, if the tail is still there. Returns the tail found. If
+/// that is another one, nothing changed.
 #[inline(always)]
 pub(crate) fn take_room_once(
     ring: &SharedRuns,

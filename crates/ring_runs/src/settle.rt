@@ -100,7 +100,8 @@ fn publish_claim(
     requires none { seat.old.me.1 ≡ [] }
     requires claim { IsOpenAt capacity seat.old.me.0 claim.now }
     requires header { (body : List ℕ) → IsMessage (8 * capacity) (new_message claim.now.type_id body)
-        → length body ≡ claim.now.len → (e : Entry) × IsRecord (8 * capacity) e (header ∷ body_words body) × (entry_words e ≡ record_size claim.now.len) }
+        → length body ≡ claim.now.len → (e : Entry) × IsRecord (8 * capacity) e (header ∷ body_words body)
+        × (entry_words e ≡ record_size claim.now.len) }
     ensures seat { IsSameSeat seat.old seat.new }
     ensures none { seat.new.me.1 ≡ [] }
     ensures published { (k : ℕ) (body : List ℕ) (e : Entry) → HasBody capacity seat.old.me.0 claim.now k body

@@ -13,7 +13,8 @@ use Rattle.ring_runs.proofs.batch.write_batch_once.Goals as goal
 -- the load of the tail changed nothing, so the view after the choice is the first one or has one more head
 looked : (c : After-choose-batch)
     → MayHaveLooked c.args.producer.now.seat.me.0 c.choose-batch.new.producer.seat.me.0
-looked c = subst (λ (m : Mine). MayHaveLooked m.0 c.choose-batch.new.producer.seat.me.0) c.load_tail-tail.ensures.loads.0
+looked c = subst (λ (m : Mine). MayHaveLooked m.0 c.choose-batch.new.producer.seat.me.0)
+    c.load_tail-tail.ensures.loads.0
     c.choose-batch.ensures.chooses.looked
 
 -- so it is with the messages for which there was no room
@@ -52,7 +53,8 @@ slice_bounds-chosen-end c =
     omega arith
 
 pub take_room_once-seen-requires-clause-shared : goal.take_room_once-seen-requires-clause-shared
-take_room_once-seen-requires-clause-shared c = shared (goal.at.take_room_once-seen-requires-clause-shared c).After-choose-batch
+take_room_once-seen-requires-clause-shared c =
+    shared (goal.at.take_room_once-seen-requires-clause-shared c).After-choose-batch
 
 pub take_room_once-seen-requires-clause-up : goal.take_room_once-seen-requires-clause-up
 take_room_once-seen-requires-clause-up c =

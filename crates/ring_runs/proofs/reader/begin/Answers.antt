@@ -59,7 +59,8 @@ returns-clause-reading c =
       scan_is = k.scan_is;
       from_at = omega arith;
       to_scan = omega arith;
-      held = all_out c.args.capacity u.head u.log c.retake.new.seat.me.1 (out_is u c.args.capacity c.retake.new.seat.me.1 out)
+      held = all_out c.args.capacity u.head u.log c.retake.new.seat.me.1
+          (out_is u c.args.capacity c.retake.new.seat.me.1 out)
           ∙ ap (λ z. turned_by c.args.capacity u.head (z - u.head) (drop u.head u.log)) (sym k.head_is);
       logged = k.logged;
       limit = k.limit;

@@ -39,8 +39,10 @@ returns-clause-aborted c k body b =
     let x = (goal.at.returns-clause-aborted c).After-aborted_header-header in
     let t : OpenClaim = c.args.claim in
     let n : ℕ = c.args.capacity in
-    c.publish_claim.ensures.published k body (Skips (8 + length body)) b (record_is x body b.message b.long) (ap record_size b.long)
-    ∙ (λ i. changed k (new_claim Published t.start (lead n t.start (record_size (sym b.long i)) ++ Skips (8 + length body) ∷ [])
+    c.publish_claim.ensures.published k body (Skips (8 + length body)) b (record_is x body b.message b.long)
+    (ap record_size b.long)
+    ∙ (λ i. changed k (new_claim Published t.start (lead n t.start (record_size (sym b.long i)) ++ Skips
+    (8 + length body) ∷ [])
     (lead_words n t.start (record_size (sym b.long i)) ++ header_is x body b.long i ∷ body_words body))
     c.args.producer.now.seat.me.0)
 
@@ -49,7 +51,8 @@ returns-clause-producer c =
     let x = (goal.at.returns-clause-producer c).After-aborted_header-header in
     let r = c.requires.claim in
     producer_changed c.requires.producer c.publish_claim.new.seat c.publish_claim.ensures.seat
-    c.publish_claim.ensures.none r.nth _ (c.publish_claim.ensures.published r.nth r.body (Skips (8 + length r.body)) r.claim
+    c.publish_claim.ensures.none r.nth _ (c.publish_claim.ensures.published r.nth r.body (Skips (8 + length r.body))
+    r.claim
     (record_is x r.body r.claim.message r.claim.long) (ap record_size r.claim.long))
 
 pub returns-clause-others : goal.returns-clause-others
@@ -59,6 +62,7 @@ returns-clause-others c =
     let n : ℕ = c.args.capacity in
     let t : OpenClaim = c.args.claim in
     let v : View = c.args.producer.now.seat.me.0 in
-    subst (KeepsOthers n t.start v) (sym (c.publish_claim.ensures.published r.nth r.body (Skips (8 + length r.body)) r.claim
+    subst (KeepsOthers n t.start v) (sym (c.publish_claim.ensures.published r.nth r.body (Skips (8 + length r.body))
+    r.claim
     (record_is x r.body r.claim.message r.claim.long) (ap record_size r.claim.long)))
     (keeps_others n t.start r.nth v (open_claim n t.start t.type_id r.body) _ r.claim.has refl)

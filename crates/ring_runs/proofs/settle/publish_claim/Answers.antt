@@ -53,7 +53,8 @@ kept c =
 records : (c : After-pass_slots-2) (body : List ℕ) (e : Entry) → length body ≡ c.args.claim.now.len
     → IsRecord (8 * c.args.capacity) e (c.args.header ∷ body_words body)
     → entry_words e ≡ record_size c.args.claim.now.len
-    → AreRecords (8 * c.args.capacity) (lead c.args.capacity c.args.claim.now.start (record_size (length body)) ++ e ∷ [])
+    → AreRecords (8 * c.args.capacity) (lead c.args.capacity c.args.claim.now.start (record_size (length body)) ++ e
+    ∷ [])
     (lead_words c.args.capacity c.args.claim.now.start (record_size (length body)) ++ c.args.header ∷ body_words body)
 records c body e long one size =
     let words = length_first body (words_in (length body)) in
@@ -93,7 +94,8 @@ pass_slots-requires-2-clause-more c =
     let r = c.requires.claim in
     let t : OpenClaim = c.args.claim.now in
     let o = out (goal.at.pass_slots-requires-2-clause-more c).After-take r.nth r.body r.claim in
-    subst (λ z. HasMore c.args.capacity (t.place + 1) (z - 1) c.set_slot.new.seat.me.1) (sym c.record_size-words.ensures)
+    subst (λ z. HasMore c.args.capacity (t.place + 1) (z - 1) c.set_slot.new.seat.me.1)
+    (sym c.record_size-words.ensures)
     (third_more c.args.capacity t.start t.place (record_size t.len) (open_header t.type_id (length r.body))
     c.args.header (lead_words c.args.capacity t.start (record_size (length r.body))) (body_words r.body) o.at o.whole
     c.take.new.seat.me.1 c.pass_slots.new.seat.me.1 o.is c.pass_slots.ensures.passes c.set_slot.new.seat.me.1 []

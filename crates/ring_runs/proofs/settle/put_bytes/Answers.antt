@@ -97,7 +97,8 @@ merge_slots-requires-clause-next c =
       t.start,
       lead_words c.args.capacity t.start (record_size (length r.body)) ++ open_header t.type_id (length r.body) ∷ [],
       r.body,
-      body_next c.args.capacity t.start t.place (record_size t.len) (open_header t.type_id (length r.body)) c.args.offset
+      body_next c.args.capacity t.start t.place (record_size t.len) (open_header t.type_id (length r.body))
+          c.args.offset
           (lead_words c.args.capacity t.start (record_size (length r.body))) r.body c.args.bytes.now o.at o.body_whole
           (omega arith) r.claim.message.bytes c.take.new.seat.me.1 c.pass_slots.new.seat.me.1 o.is
           c.pass_slots.ensures.passes,

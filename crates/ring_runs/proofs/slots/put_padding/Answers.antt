@@ -39,7 +39,8 @@ returns-else-place-at-clause-fills c =
     let n : ℕ = c.args.capacity in
     let place = c.place_after-place.ensures in
     let stays = c.if-place-at.false in
-    let none : lead_words n c.args.at c.args.words ≡ [] = ⊎_elim (λ (h : HasNoLead n c.args.at c.args.words). h.no_words)
+    let none : lead_words n c.args.at c.args.words ≡ [] = ⊎_elim
+    (λ (h : HasNoLead n c.args.at c.args.words). h.no_words)
     (λ (h : HasLead n c.args.at c.args.words).
     let least = c.requires.lawful.least in
     let some = (room_some n c.args.at (omega arith)).0 in

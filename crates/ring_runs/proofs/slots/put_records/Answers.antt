@@ -18,7 +18,8 @@ pub loop-message-init : goal.loop-message-init
 loop-message-init c =
     let h = c.requires.has in
     let end = h.2 in (
-      fill_starts c.args.capacity c.args.place (batch_end c.args.capacity c.args.place c.args.messages.now - c.args.place)
+      fill_starts c.args.capacity c.args.place (batch_end c.args.capacity c.args.place c.args.messages.now
+          - c.args.place)
           h.0 _ h.1 (omega arith),
       record { table = refl; id = refl; view = refl },
       refl,

@@ -24,7 +24,8 @@ loop-k-preserved c =
     let s = c.put_slot.ensures.seat in
     let inv = c.loop-k.invariant in
     let long = length-replicate {A = ℕ} k 0 in (
-      subst (λ l. Fills c.args.capacity c.args.at l c.args.seat.now.me.1 c.put_slot.new.seat.me.1) (replicate-append-replicate k 1 0)
+      subst (λ l. Fills c.args.capacity c.args.at l c.args.seat.now.me.1 c.put_slot.new.seat.me.1)
+          (replicate-append-replicate k 1 0)
           (fills_both c.args.capacity c.args.at (c.args.at + k) (replicate k 0) (0 ∷ []) c.args.seat.now.me.1
           c.loop-k.seat.me.1 c.put_slot.new.seat.me.1 inv.0 (ap (λ z. c.args.at + z) (sym long))
           c.put_slot.ensures.fills),

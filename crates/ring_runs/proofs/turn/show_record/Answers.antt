@@ -62,14 +62,16 @@ pub pass_slots-requires-clause-small : goal.pass_slots-requires-clause-small
 pass_slots-requires-clause-small g c =
     let x = c.requires.next in
     let within = x.within in
-    let s = is_seen g (goal.at.pass_slots-requires-clause-small g c).After-read_header-bytes x.first x.nth x.words x.entry x.next in
+    let s = is_seen g (goal.at.pass_slots-requires-clause-small g c).After-read_header-bytes x.first x.nth x.words
+    x.entry x.next in
     let bytes = s.bytes_are in omega arith
 
 pub pass_slots-requires-clause-more : goal.pass_slots-requires-clause-more
 pass_slots-requires-clause-more g c =
     let x = c.requires.next in
     let within = x.within in
-    let s = is_seen g (goal.at.pass_slots-requires-clause-more g c).After-read_header-bytes x.first x.nth x.words x.entry x.next in
+    let s = is_seen g (goal.at.pass_slots-requires-clause-more g c).After-read_header-bytes x.first x.nth x.words
+    x.entry x.next in
     let bytes = s.bytes_are in
     let some = s.some_words in
     more_of (behind_header x.next (c.div_ceil-words.result - 1) c.look_slot-word.new.seat.me.1 s.past (omega arith))
@@ -102,7 +104,8 @@ pub show_message-action-requires-clause-small : goal.show_message-action-require
 show_message-action-requires-clause-small g c =
     let x = c.requires.next in
     let within = x.within in
-    let s = is_seen g (goal.at.show_message-action-requires-clause-small g c).After-read_header-bytes x.first x.nth x.words x.entry x.next in
+    let s = is_seen g (goal.at.show_message-action-requires-clause-small g c).After-read_header-bytes x.first x.nth
+    x.words x.entry x.next in
     let bytes = s.bytes_are in
     let most = c.requires.lawful.most in
     let size = message_words (8 * c.args.capacity) x.entry s.valid
@@ -114,7 +117,8 @@ pub show_message-action-requires-clause-more : goal.show_message-action-requires
 show_message-action-requires-clause-more g c =
     let x = c.requires.next in
     let within = x.within in
-    let s = is_seen g (goal.at.show_message-action-requires-clause-more g c).After-read_header-bytes x.first x.nth x.words x.entry x.next in
+    let s = is_seen g (goal.at.show_message-action-requires-clause-more g c).After-read_header-bytes x.first x.nth
+    x.words x.entry x.next in
     let bytes = s.bytes_are in
     let size = message_words (8 * c.args.capacity) x.entry s.valid
     (λ e. c.if-type_id.false (ap (of_z w32) (s.type_is ∙ e))) in
