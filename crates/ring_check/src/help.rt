@@ -65,7 +65,7 @@ The verdict on a ring is yes if the lines keep these rules:
   - At some time between the claims of the producer before and after a refusal, the ring can have been full.
   - The messages that were shown are those of the committed claims, in the order of their positions. The consumer passes
     aborted claims and padding, and never an open claim. No message is left at a line `empty`.
-  - The head is where the consumer can have moved it, and the tail is at the end of the last claim.
+  - The consumer can have moved the head to its position, and the tail is at the end of the last claim.
   - The words from the head on are the headers of the claims that are left and of padding, any words of bodies, and 0.
 
 Otherwise the verdict is no, with the first line that breaks these rules. Claims are judged in the order of their

@@ -166,8 +166,8 @@ impl Report {
         })
     }
 
-    /// Returns the report of a run of a ring, from its text, its lines, and the index of the line that cannot be, with the
-    /// reason.
+    /// Returns the report of a run of a ring, from its text, its lines, and the index of the line that cannot be, with
+    /// the reason.
     pub fn of_ring(
         alloc: Global,
         text: &[u8],

@@ -61,7 +61,7 @@ pub end_append : (head : ℕ) (left : List RingClaim) (c : RingClaim)
 end_append head [] c = refl
 end_append head (d ∷ left) c = end_append (end_of_claim d) left c
 
--- beyond claims that are behind
+-- beyond claims that the consumer can pass, and at whose ends there is no room yet
 skipped : (C tail at n : ℕ) (left : List RingClaim) → All (IsBehind C tail) (take n left) → tail ≤ at + C
     → IsBeyond at left → IsBeyond at (drop n left)
 skipped C tail at zero left behind room beyond = beyond
@@ -80,10 +80,11 @@ added C tail at zero left behind beyond = beyond
 added C tail at (suc n) [] behind beyond = beyond
 added C tail at (suc n) (c ∷ left) behind beyond = inr (
   (All-head (IsBehind C tail) c (take n left) behind).settled,
-  reach_beyond at (end_of_claim c) left (added C tail at n left (All-tail (IsBehind C tail) c (take n left) behind) beyond),
+  reach_beyond at (end_of_claim c) left
+      (added C tail at n left (All-tail (IsBehind C tail) c (take n left) behind) beyond),
 )
 
--- the claims before the index `low` are behind, and the start too
+-- the start and the ends of the claims before the index `low` are heads that are too far back
 pub record AreBehind (C start tail low : ℕ) (claims : List RingClaim) : Type 0 where
   pub order : AreInOrder C start claims
   pub start_behind : start + C < tail

@@ -1,3 +1,4 @@
+pub mod ListLemmas
 pub mod PartLemmas
 pub mod FollowLemmas
 pub mod SentLemmas
@@ -10,3 +11,4 @@ pub mod StepLemmas
 pub mod HeadLemmas
 pub mod RefusalLemmas
 pub mod WordLemmas
+pub mod ThreadLemmas

@@ -57,7 +57,8 @@ heads_more C start claims heads c found are its =
           let at = get_or_append_left heads (found ∷ []) None k (omega (arith, less, are.same)) in
           subst (λ (l : List RingClaim). Finds l (get_or (heads ++ found ∷ []) k None)) (sym made)
           (subst (Finds (take (k + 1) claims)) (sym at) (are.found k less)))
-          (λ last. let made = take_all (k + 1) (claims ++ c ∷ []) (omega (arith, last, length-append claims (c ∷ []))) in
+          (λ last. let made = take_all (k + 1) (claims ++ c ∷ [])
+          (omega (arith, last, length-append claims (c ∷ []))) in
           let at = get_or_at heads found [] None k (are.same ∙ sym last) in
           subst (λ (l : List RingClaim). Finds l (get_or (heads ++ found ∷ []) k None)) (sym made)
           (subst (Finds (claims ++ c ∷ [])) (sym at) its))

@@ -12,11 +12,13 @@ records-append : (C : ℕ) (s : RingState) (xs ys : List RingLine) → Records C
 records-append C s [] ys first second = second
 records-append C s (x ∷ xs) ys first second = (first.0, records-append C (after C s x) xs ys first.1 second)
 
-records-rest : (C : ℕ) (s : RingState) (xs ys : List RingLine) → Records C s (xs ++ ys) → Records C (after_all C s xs) ys
+records-rest : (C : ℕ) (s : RingState) (xs ys : List RingLine) → Records C s (xs ++ ys)
+    → Records C (after_all C s xs) ys
 records-rest C s [] ys both = both
 records-rest C s (x ∷ xs) ys both = records-rest C (after C s x) xs ys both.1
 
-after_all-append : (C : ℕ) (s : RingState) (xs ys : List RingLine) → after_all C s (xs ++ ys) ≡ after_all C (after_all C s xs) ys
+after_all-append : (C : ℕ) (s : RingState) (xs ys : List RingLine)
+    → after_all C s (xs ++ ys) ≡ after_all C (after_all C s xs) ys
 after_all-append C s [] ys = refl
 after_all-append C s (x ∷ xs) ys = after_all-append C (after C s x) xs ys
 
@@ -26,7 +28,8 @@ pub record AreRecorded (C start : ℕ) (run : List RingLine) (k : ℕ) (s : Ring
   pub state : after_all C (fresh start) (take k run) ≡ s
 
 pub one_more : (C start : ℕ) (run : List RingLine) (k : ℕ) (d : RingLine) (s : RingState) → k < length run
-    → AreRecorded C start run k s → Allows C s (get_or run k d) → AreRecorded C start run (k + 1) (after C s (get_or run k d))
+    → AreRecorded C start run k s → Allows C s (get_or run k d)
+    → AreRecorded C start run (k + 1) (after C s (get_or run k d))
 one_more C start run k d s lt before allowed = let line = get_or run k d in
     let there : Allows C (after_all C (fresh start) (take k run)) line =
     subst (λ (t : RingState). Allows C t line) (sym before.state) allowed in record {

@@ -3,9 +3,10 @@ use Rattle.std.proofs.Common.{◌≡◌, ℕ, ◌+◌, ◌-◌, ◌<◌, ◌≤�
 use Rattle.std.specs.List.{slice_get}
 use Rattle.std.specs.Bool.{MatchBool}
 use Rattle.std.proofs.lemmas.Bool.{cases_eq, cases_Bool, eqb-true, eqb-false}
-use Rattle.std.proofs.lemmas.List.{drop_more, length-set, length-map, get_or-map, map-set, get_or_default, nil_from_length}
+use Rattle.std.proofs.lemmas.List.{drop_more, length-set, length-map, get_or_default, nil_from_length}
 use Rattle.std.proofs.lemmas.Option.{slice_get_within, get_or_from_slice_get}
 use Rattle.ring_judge.specs.Lists.{lists_of}
+use Rattle.ring_judge.proofs.ListLemmas.{lists_of-at}
 use Rattle.ring_judge.specs.declared.message.Message.{Message}
 use Rattle.ring_judge.specs.declared.queue.QueueLine.TheVariants.{Got, Empty}
 use Rattle.ring_judge.specs.declared.queue.QueueLine.{QueueLine}
@@ -26,16 +27,6 @@ get_from_drop (x ∷ xs) zero m rest e = ap Some (first_is x m xs rest e)
     first_is : (x m : Message) (xs rest : List Message) → x ∷ xs ≡ m ∷ rest → x ≡ m
     first_is x m xs rest e = cc
 get_from_drop (x ∷ xs) (suc i) m rest e = get_from_drop xs i m rest e
-
--- the lists of an element, with it changed
-pub lists_of-set : (lists : List (Vec (Message) Global)) (i : ℕ) (v : Vec Message Global) (l : List Message)
-    → v.items ≡ l → lists_of (set lists i v) ≡ set (lists_of lists) i l
-lists_of-set lists i v l e = map-set (λ (u : Vec Message Global). u.items) lists i v ∙ ap (set (lists_of lists) i) e
-
-pub lists_of-at : (lists : List (Vec Message Global)) (i : ℕ) (v : Vec Message Global) → i < length lists
-    → v ≡ get_or lists i v → get_or (lists_of lists) i [] ≡ v.items
-lists_of-at lists i v lt e = get_or-map (λ (u : Vec Message Global). u.items) lists i v [] lt
-    ∙ ap (λ (u : Vec Message Global). u.items) (sym e)
 
 -- a message that is not next in its producer's list is refused
 pub refuses_other : (lists : List (List Message)) (taken : List ℕ) (left : ℕ) (m : Message) → m.producer < length taken

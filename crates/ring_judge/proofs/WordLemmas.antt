@@ -69,7 +69,8 @@ pub in_claim : (p v e : ℕ) (c : RingClaim) (left : List RingClaim) → c.place
     → CanBeWord p v e (c ∷ left) ↔ (p ≡ c.place → v ≡ header_of_claim c)
 in_claim p v e c left le lt = let first = le-ltb p c.place le in let second = lt-ltb p (end_of_claim c) lt in
     let Header = p ≡ c.place → v ≡ header_of_claim c in let Later = CanBeWord p v (end_of_claim c) left in (
-      λ can. MatchBool-at_true Header Later second (MatchBool-at_false (BeforeClaim p v e c) (FromClaim p v c left) first can),
+      λ can. MatchBool-at_true Header Later second
+          (MatchBool-at_false (BeforeClaim p v e c) (FromClaim p v c left) first can),
       λ is. match_false (nat_lt p c.place) (BeforeClaim p v e c) (FromClaim p v c left) first
           (match_true (nat_lt p (end_of_claim c)) Header Later second is),
     )
@@ -79,7 +80,8 @@ pub after_claim : (p v e : ℕ) (c : RingClaim) (left : List RingClaim) → end_
 after_claim p v e c left le = let first = le-ltb p c.place (omega (arith, le)) in
     let second = le-ltb p (end_of_claim c) le in
     let Header = p ≡ c.place → v ≡ header_of_claim c in let Later = CanBeWord p v (end_of_claim c) left in (
-      λ can. MatchBool-at_false Header Later second (MatchBool-at_false (BeforeClaim p v e c) (FromClaim p v c left) first can),
+      λ can. MatchBool-at_false Header Later second
+          (MatchBool-at_false (BeforeClaim p v e c) (FromClaim p v c left) first can),
       λ is. match_false (nat_lt p c.place) (BeforeClaim p v e c) (FromClaim p v c left) first
           (match_false (nat_lt p (end_of_claim c)) Header Later second is),
     )
@@ -154,7 +156,8 @@ stopped C read to claims from at end c are here none lt = let rest = drop (at + 
       (λ later. (are.same p 0 later).1 (subst (CanBeWord p 0 end) (sym here.is)
       (clear_here read to end p c rest none first until (omega (arith, until, lt))))) (cases_lt p end);
   same = λ p v past. are.same p v (omega (arith, past, are.behind));
-  before_end = λ d less. let e : c ≡ get_or claims at d = same_head c (get_or claims at d) rest (sym here.is ∙ drop_more claims at d less) in
+  before_end = λ d less. let e : c ≡ get_or claims at d =
+      same_head c (get_or claims at d) rest (sym here.is ∙ drop_more claims at d less) in
       subst (λ (x : RingClaim). to < end_of_claim x) e lt;
 }
 
@@ -194,7 +197,8 @@ header_found C read to claims from at end c small are here first until all = let
     header_not_zero c small ((in_claim p 0 end c rest (omega arith) (past_place c)).0 can refl)
 
 pub not_clear : (C read to : ℕ) (claims : List RingClaim) (from : Cursor) (at end : ℕ) (c : RingClaim)
-    → C ≤ 2 ^ 30 → c.length ≤ C / 8 → ArePassed C read to claims from at end → IsAt claims at c → HasHeader read to end c
+    → C ≤ 2 ^ 30 → c.length ≤ C / 8 → ArePassed C read to claims from at end → IsAt claims at c
+    → HasHeader read to end c
     → ((p : ℕ) → read ≤ p → p < to → CanBeWord p 0 from.end (drop from.claim claims)) → ⊥
 not_clear C read to claims from at end c most short are here has all = ⊎_elim
     (λ its. padding_found C read to claims from at end c most are here its.0 its.1 its.2 all)

@@ -5,3 +5,5 @@ pub mod Broadcast
 pub mod Ring
 pub mod Judged
 pub mod Kinds
+pub mod Threads
+pub mod Merged

@@ -12,8 +12,8 @@ use Rattle.ring_judge.specs.declared.ring.RingLine.TheVariants.{Claimed, Full, G
 use Rattle.ring_judge.specs.declared.verdict.Verdict.{Verdict}
 use Rattle.ring_judge.specs.Verdicts.{IsRightVerdict}
 
--- A ring between two lines: the position at which it began, all claims so far, the oldest first, the head, the claims that
--- the consumer has not passed, and the position up to which the words of the buffer were read.
+-- A ring between two lines: the position at which it began, all claims so far, the oldest first, the head, the claims
+-- that the consumer has not passed, and the position up to which the words of the buffer were read.
 pub record RingState : Type 0 where
   pub start : ℕ
   pub claims : List RingClaim
@@ -83,8 +83,8 @@ CanReach at head [] = at ≡ head
 CanReach at head (c ∷ left) =
     (at ≡ head) ⊎ ((at ≡ c.place) ⊎ ((is_open c.fate ≡ false) × CanReach at (end_of_claim c) left))
 
--- With these claims the ring can be full for a message of this length: the head can be at a position at which the claims
--- had room, and at which the message has none.
+-- With these claims the ring can be full for a message of this length: the head can be at a position at which the
+-- claims had room, and at which the message has none.
 pub record IsFull (C start : ℕ) (claims : List RingClaim) (len : ℕ) : Type 0 where
   pub head : ℕ
   pub reached : CanReach head start claims
@@ -167,8 +167,8 @@ header_of_claim c = by_fate c.fate
     by_fate (Committed body) = committed_header c.type_id c.length
     by_fate Aborted = aborted_header c.length
 
--- The word at the position p can be v, if these claims come after e: it is the header of padding or of a claim, any word
--- of a body, or 0.
+-- The word at the position p can be v, if these claims come after e: it is the header of padding or of a claim, any
+-- word of a body, or 0.
 abbrev pub CanBeWord : ℕ → ℕ → ℕ → List RingClaim → Type 0
 CanBeWord p v e [] = v ≡ 0
 CanBeWord p v e (c ∷ left) = MatchBool (nat_lt p c.place) (v ≡ (if p == e then padding_header (c.place - e) else 0))

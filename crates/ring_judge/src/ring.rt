@@ -7,7 +7,10 @@ pub mod claims;
 pub mod heads;
 pub mod judge;
 pub mod judged;
+pub mod merged;
 pub mod order;
+pub mod threads;
+pub mod turns;
 pub mod words;
 
 pub use judge::{judge_ring, ring_before};
@@ -20,7 +23,8 @@ pub use words::Cursor;
 pub enum Fate {
     /// The claim was neither committed nor aborted.
     Open,
-    /// The claim was committed. The number is the checksum of the message's bytes, or another number that depends on them.
+    /// The claim was committed. The number is the checksum of the message's bytes, or another number that depends on
+    /// them.
     Committed(u64),
     /// The claim was aborted.
     Aborted,
@@ -53,7 +57,8 @@ impl Fate {
 pub struct RingClaim {
     /// The producer.
     pub producer: u16,
-    /// The position of the claim's header, in bytes. Positions only rise, and do not start again at the end of the buffer.
+    /// The position of the claim's header, in bytes. Positions only rise, and do not start again at the end of the
+    /// buffer.
     pub place: u64,
     /// The type id of the message.
     pub type_id: i32,

@@ -30,8 +30,8 @@ pub fn skip_aborted(claims: &[RingClaim], from: usize) -> usize
     at
 }
 
-/// Returns the index of the first claim at or after the position `at`, if the head can be there: it was at `head`, before
-/// the claim with the index `passed`.
+/// Returns the index of the first claim at or after the position `at`, if the head can be there: it was at `head`,
+/// before the claim with the index `passed`.
 pub fn move_head(claims: &[RingClaim], passed: usize, head: u64, at: u64) -> Option<usize>
     requires passed { passed ≤ length claims.now }
     requires ends { AreWithin claims.now }

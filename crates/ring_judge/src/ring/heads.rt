@@ -20,7 +20,7 @@ fn is_behind(claim: &RingClaim, capacity: u32, tail: u64) -> bool
     !claim.fate.is_open() && end_of_claim(claim) + u64::from(capacity) < tail
 }
 
-/// Returns the index of the first claim from `low` on that is not behind.
+/// Returns the index of the first claim from `low` on for which `is_behind` is false.
 pub fn skip_behind(claims: &[RingClaim], low: usize, capacity: u32, tail: u64) -> usize
     requires low { low ≤ length claims.now }
     requires ends { AreWithin claims.now }
@@ -37,8 +37,8 @@ pub fn skip_behind(claims: &[RingClaim], low: usize, capacity: u32, tail: u64) -
     at
 }
 
-/// Returns the least position at which the head can be while the ring has room for these claims, whose end is `tail`. The
-/// claims before the index `low` are behind, and the next one is not.
+/// Returns the least position at which the head can be while the ring has room for these claims, whose end is `tail`.
+/// For the claims before the index `low` the function `is_behind` returns true, and for the next one it returns false.
 pub fn least_head(
     claims: &[RingClaim],
     low: usize,

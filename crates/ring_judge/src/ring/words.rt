@@ -29,8 +29,8 @@ fn header_of_claim(claim: &RingClaim) -> u64
     }
 }
 
-/// Tests whether the header of a claim that comes after `end`, or of the padding before the claim, is at a position from
-/// `read` to `to`.
+/// Tests whether the header of a claim that comes after `end`, or of the padding before the claim, is at a position
+/// from `read` to `to`.
 fn has_header(claim: &RingClaim, end: u64, read: u64, to: u64) -> bool
     ensures { IsTrue result ↔ HasHeader read to end claim.now }
 {

@@ -1,5 +1,5 @@
 use Rattle.std.proofs.Common.{◌<◌, ◌++◌, ◌∷◌, [], length, ap, ◌∙◌, sym, arith}
-use Rattle.ring_judge.proofs.WaitingLemmas.{lists_of-set, lists_of-at}
+use Rattle.ring_judge.proofs.ListLemmas.{lists_of-set, lists_of-at}
 use Rattle.ring_judge.proofs.queue.sent.append.Goals as goal
 
 pub returns-clause-lists : goal.returns-clause-lists

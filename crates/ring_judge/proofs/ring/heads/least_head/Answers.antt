@@ -10,7 +10,8 @@ returns-then-tail-start c = least_at_start c.args.capacity c.args.start c.args.t
     (omega (arith, c.if-tail-start.true, c.from.ensures))
 
 pub returns-in_default : goal.returns-in_default
-returns-in_default c = λ at can room. none_at_end c.args.capacity c.args.start c.args.tail c.args.low at c.args.claims.now
+returns-in_default c = λ at can room.
+    none_at_end c.args.capacity c.args.start c.args.tail c.args.low at c.args.claims.now
     record {
       order = c.requires.order;
       start_behind = omega (arith, c.if-tail-start.false, c.from.ensures);

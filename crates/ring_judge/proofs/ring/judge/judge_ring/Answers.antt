@@ -19,7 +19,8 @@ loop-at-preserved c = let before = c.loop-at.invariant in let s = state_of c.loo
     record {
       judged = step.judged;
       capacity = step.capacity ∙ before.capacity;
-      recorded = subst (AreRecorded c.args.capacity c.args.start run (k + 1)) (sym (step.state ∙ ap (λ C. after C s line) before.capacity))
+      recorded = subst (AreRecorded c.args.capacity c.args.start run (k + 1))
+          (sym (step.state ∙ ap (λ C. after C s line) before.capacity))
           (one_more c.args.capacity c.args.start run k past s c.loop-at-test.true before.recorded
           (subst (λ (C : ℕ). Allows C s line) before.capacity step.allowed));
     }

@@ -31,7 +31,8 @@ loop-at-preserved c = let claims = c.args.claims.now in let at = c.loop-at.at in
     c.loop-at.invariant record { lt = lt; is = drop_more claims at nowhere lt }
     (iff_false c.has_header.ensures c.if-has_header.false)
     (omega (arith, c.if-to-next.false, c.end_of_claim-next.ensures)) in
-    subst (ArePassed c.args.capacity c.args.read c.args.to claims c.args.from (at + 1)) (sym c.end_of_claim-next.ensures)
+    subst (ArePassed c.args.capacity c.args.read c.args.to claims c.args.from (at + 1))
+    (sym c.end_of_claim-next.ensures)
     next
 
 pub returns : goal.returns

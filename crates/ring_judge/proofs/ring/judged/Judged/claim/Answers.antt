@@ -59,12 +59,15 @@ returns c = let its = c.args.self.now in let claim = c.args.claim.now in let ite
         blocked_within = subst (λ (o : Option ℕ). MatchOption o (Unit {0}) (λ place. place ≤ max_position))
             (sym c.first_open-self.ensures)
             (first_within max_position its.blocked_at claim c.requires.blocked_within (omega (arith, can.within)));
-        low = subst (λ (xs : List RingClaim). c.skip_behind-self.result ≤ length xs) same c.skip_behind-self.ensures.within;
-        behind = subst (λ (xs : List RingClaim). All (IsBehind its.capacity tail) (take c.skip_behind-self.result xs)) same
+        low = subst (λ (xs : List RingClaim). c.skip_behind-self.result ≤ length xs) same
+            c.skip_behind-self.ensures.within;
+        behind = subst
+            (λ (xs : List RingClaim). All (IsBehind its.capacity tail) (take c.skip_behind-self.result xs)) same
             c.skip_behind-self.ensures.behind;
         heads = subst (λ (hs : List (Option ℕ)). AreLeastHeads its.capacity its.start c.push.new.self.items hs)
             (sym c.in_ok-push-2.ensures.items)
-            (subst (λ (xs : List RingClaim). AreLeastHeads its.capacity its.start xs (its.heads.items ++ c.least_head.result ∷ []))
+            (subst
+            (λ (xs : List RingClaim). AreLeastHeads its.capacity its.start xs (its.heads.items ++ c.least_head.result ∷ []))
             (sym more)
             (heads_more its.capacity its.start items its.heads.items claim c.least_head.result c.requires.heads
             (subst (λ (t : ℕ). FindsHead its.capacity its.start t (items ++ claim ∷ []) c.least_head.result)
@@ -73,8 +76,20 @@ returns c = let its = c.args.self.now in let claim = c.args.claim.now in let ite
             c.least_head.ensures))));
       };
       capacity = refl;
-      state = ap (λ xs. record { start = its.start; claims = xs; head = its.head; left = drop its.passed c.push.new.self.items; read = its.head }) more
-          ∙ ap (λ l. record { start = its.start; claims = items ++ claim ∷ []; head = its.head; left = l; read = its.head }) left;
+      state = ap (λ xs. record {
+        start = its.start;
+        claims = xs;
+        head = its.head;
+        left = drop its.passed c.push.new.self.items;
+        read = its.head;
+      }) more
+          ∙ ap (λ l. record {
+            start = its.start;
+            claims = items ++ claim ∷ [];
+            head = its.head;
+            left = l;
+            read = its.head;
+          }) left;
     }
 
 pub least_head-requires-clause-order : goal.least_head-requires-clause-order

@@ -51,10 +51,12 @@ returns-in-Some c = let its = c.args.self.now in let j = c.requires.judged in le
     let claim = c.index-in-Some.result.now in
     let end : end_of_claims its.start (take count items) ≡ c.end_of_claim.result =
     subst (λ (n : ℕ). end_of_claims its.start (take n items) ≡ c.end_of_claim.result) e
-    (end_of_first its.start k items claim lt ∙ (ap end_of_claim (sym c.index-in-Some.ensures) ∙ sym c.end_of_claim.ensures)) in
+    (end_of_first its.start k items claim lt
+    ∙ (ap end_of_claim (sym c.index-in-Some.ensures) ∙ sym c.end_of_claim.ensures)) in
     let least' : IsLeastHead its.capacity its.start c.end_of_claim.result (take count items) c.in-Some.head =
     subst (λ (t : ℕ). IsLeastHead its.capacity its.start t (take count items) c.in-Some.head) end least in
-    let full = full_at_least its.capacity its.start c.end_of_claim.result c.in-Some.head c.args.len (take count items) least' end in (
+    let full = full_at_least its.capacity its.start c.end_of_claim.result c.in-Some.head c.args.len (take count items)
+    least' end in (
       λ yes. full.0 (c.is_full_at-in-Some.ensures.0 yes),
       λ is. c.is_full_at-in-Some.ensures.1 (full.1 is),
     )

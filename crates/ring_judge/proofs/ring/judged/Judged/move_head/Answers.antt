@@ -10,7 +10,8 @@ use Rattle.ring_judge.proofs.ring.judged.Judged.move_head.Goals as goal
 pub returns-in-Some : goal.returns-in-Some
 returns-in-Some c = let its = c.args.self.now in let items = its.claims.items in let at = c.args.head in
     let move : IsMove items its.passed its.head at c.in-Some.next =
-    subst (λ (xs : List RingClaim). IsMove xs its.passed its.head at c.in-Some.next) c.deref.ensures.value c.in-Some.ensures in
+    subst (λ (xs : List RingClaim). IsMove xs its.passed its.head at c.in-Some.next) c.deref.ensures.value
+    c.in-Some.ensures in
     let order : AreInOrder its.capacity at (drop c.in-Some.next items) = subst (AreInOrder its.capacity at) move.left
     (order-claims_from its.capacity at its.head (drop its.passed items) move.is_head c.requires.left_order) in
     record {

@@ -11,7 +11,8 @@ pub returns : goal.returns
 returns c = let its = c.args.self.now in let s = state_of its in let count = c.loop-count.count in
     let own : (d : RingClaim) → 0 < count → (get_or its.claims.items (count - 1) d).producer ≡ c.args.producer =
     λ d some. elim c.loop-count-test.branch [
-      | then-loop-count-test+else-index-producer w ↦ let lt : count - 1 < length its.claims.items = omega (arith, some) in
+      | then-loop-count-test+else-index-producer w ↦
+          let lt : count - 1 < length its.claims.items = omega (arith, some) in
           let at = get_or_default its.claims.items (count - 1) d w.index.result.now lt in
           ap (λ (x : RingClaim). x.producer) (at ∙ sym w.index.ensures) ∙ w.if-index-producer.false
       | else-loop-count-test w ↦ absurd (omega (arith, some))
@@ -33,5 +34,6 @@ returns c = let its = c.args.self.now in let s = state_of its in let count = c.l
 
 pub loop-count-preserved : goal.loop-count-preserved
 loop-count-preserved c = let its = c.args.self.now in let s = state_of its in let count = c.loop-count.count in
-    not_full_more its.capacity s c.args.producer c.args.length count c.index.result.now c.loop-count.invariant (omega arith)
-    (λ is. c.if-index-producer.true (ap (λ (x : RingClaim). x.producer) c.index.ensures ∙ is)) (iff_false c.is_full.ensures c.if-is_full.false)
+    not_full_more its.capacity s c.args.producer c.args.length count c.index.result.now c.loop-count.invariant
+    (omega arith) (λ is. c.if-index-producer.true (ap (λ (x : RingClaim). x.producer) c.index.ensures ∙ is))
+    (iff_false c.is_full.ensures c.if-is_full.false)

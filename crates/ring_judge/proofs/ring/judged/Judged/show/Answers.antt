@@ -40,7 +40,8 @@ returns c = let its = c.args.self.now in let items = its.claims.items in
         short = c.requires.short;
         order = c.requires.order;
         left_order = order;
-        left_tail = ap (λ h. end_of_claims h rest') end ∙ (end-unaborted its.head (drop its.passed items) claim rest' first
+        left_tail = ap (λ h. end_of_claims h rest') end
+            ∙ (end-unaborted its.head (drop its.passed items) claim rest' first
             ∙ c.requires.left_tail);
         low = c.requires.low;
         behind = c.requires.behind;
@@ -51,6 +52,7 @@ returns c = let its = c.args.self.now in let items = its.claims.items in
         blocked_within = c.requires.blocked_within;
       };
       capacity = refl;
-      state = ap (λ h. record { start = its.start; claims = items; head = h; left = drop (next + 1) items; read = h }) c.end_of_claim-self.ensures
+      state = ap (λ h. record { start = its.start; claims = items; head = h; left = drop (next + 1) items; read = h })
+          c.end_of_claim-self.ensures
           ∙ sym (ap (passed (state_of its)) first);
     }

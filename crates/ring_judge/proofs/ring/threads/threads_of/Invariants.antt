@@ -1,0 +1,7 @@
+use Rattle.std.proofs.Common.{◌<◌, take}
+use Rattle.std.specs.List.{All}
+use Rattle.ring_judge.specs.Threads.{thread_of}
+use Rattle.ring_judge.proofs.ring.threads.threads_of.Given as goal
+
+abbrev pub invariant-loop-line : goal.invariant-loop-line
+invariant-loop-line l = All (λ line. thread_of line < l.count) (take l.line-index l.run)
