@@ -1,67 +1,9 @@
 """Faults of a ring, planted in a run that is right: each function takes the lines of a run and a generator, and returns
 the lines with the fault and the number of the line that is wrong then, or None if the run has no place for it.
 """
-from ring_search import CLAIMS, CONSUMER, header, headers, next_place, span
-
-
-class Run:
-    """What the lines of a run say. A claim is the place of its line, its producer, position, length and end."""
-
-    def __init__(self, lines):
-        self.lines = lines
-        words = lines[0].split()
-        self.capacity, self.start = int(words[1]), int(words[2]) if len(words) > 2 else 0
-        self.claims = sorted((int(it[2]), int(it[2]) + span(int(it[4])), place, it) for place, it in self.words(CLAIMS))
-        self.consumer = self.words(CONSUMER)
-        self.got = [it for it in self.consumer if it[1][0] == "got"]
-        shown = [it for it in self.claims if it[3][0] == "committed"]
-        self.claim_of = dict(zip([place for place, _ in self.got], shown))
-
-    def words(self, kinds):
-        split = [(place, line.split()) for place, line in enumerate(self.lines)]
-        return [it for it in split if it[1] and it[1][0] in kinds]
-
-    def tail_before(self, index):
-        return self.claims[index - 1][1] if index else self.start
-
-    def follows_refusal(self, place):
-        """Tests whether the line before this one in its producer's log is a refusal."""
-        producer = self.lines[place].split()[1]
-        before = [words[0] for at, words in self.words((*CLAIMS, "full")) if at < place and words[1] == producer]
-        return before[-1:] == ["full"]
-
-    def replaced(self, place, index, word):
-        words = self.lines[place].split()
-        words[index] = str(word)
-        return [*self.lines[:place], " ".join(words), *self.lines[place + 1:]]
-
-    def inserted(self, place, line):
-        return [*self.lines[:place], line, *self.lines[place:]], place + 1
-
-    def removed(self, place):
-        return [*self.lines[:place], *self.lines[place + 1:]]
-
-    def known(self):
-        """The messages that were shown with their positions."""
-        return [it for it in self.got if it[1][1] != "-"]
-
-    def neighbours(self):
-        """Each two messages that were shown with nothing noted between them."""
-        return [(a, b) for a, b in zip(self.consumer, self.consumer[1:])
-                if a[1][0] == b[1][0] == "got" and "-" not in (a[1][1], b[1][1])]
-
-    def first_past(self, position):
-        """The first line of the consumer that needs a head beyond this position, or an end of the messages."""
-        for place, words in self.consumer:
-            if words[0] == "got" and self.claim_of[place][0] > position:
-                return place
-            if words[0] in ("head", "positions") and int(words[1]) > position or words[0] == "empty":
-                return place
-        return None
-
-
-def some(generator, choices):
-    return generator.choice(choices) if choices else None
+import ring_end_faults
+from ring_lines import Run, some
+from ring_search import next_place, span
 
 
 # ---- claims
@@ -317,128 +259,12 @@ def shown_after_the_end(lines, generator):
     return run.inserted(places[-1] + 1, lines[run.known()[-1][0]])
 
 
-# ---- positions
-
-def head_too_far(lines, generator):
-    """The head passes a message before it is shown."""
-    run = Run(lines)
-    its = some(generator, run.got)
-    return its and run.inserted(its[0], f"head {run.claim_of[its[0]][1]}")
-
-
-def head_goes_back(lines, generator):
-    """The head goes back to the beginning of a message that was shown."""
-    run = Run(lines)
-    its = some(generator, run.got)
-    return its and run.inserted(its[0] + 1, f"head {run.claim_of[its[0]][0]}")
-
-
-def head_inside_a_record(lines, generator):
-    """The head is inside the record of a message."""
-    run = Run(lines)
-    its = some(generator, run.got)
-    return its and run.inserted(its[0] + 1, f"head {run.claim_of[its[0]][1] + 4}")
-
-
-def other_tail(lines, generator):
-    """The tail is not at the end of the last claim."""
-    run = Run(lines)
-    its = [place for place, words in run.consumer if words[0] == "positions"]
-    return (run.replaced(its[0], 2, int(lines[its[0]].split()[2]) + 8), its[0] + 1) if its else None
-
-
-def other_head(lines, generator):
-    """The head is after the last claim."""
-    run = Run(lines)
-    its = [place for place, words in run.consumer if words[0] == "positions"]
-    return (run.replaced(its[0], 1, run.claims[-1][1] + 8), its[0] + 1) if its and run.claims else None
-
-
-# ---- words
-
-def ends_of(run):
-    """The place of the line `rest`, the head, the claims that are left, and the places of words by their positions."""
-    rest = [place for place, words in run.consumer if words[0] == "rest"]
-    noted = [int(words[1]) for _, words in run.consumer if words[0] == "positions"]
-    if not rest or not noted:
-        return None
-    left = [(place, end, words[0], int(words[3]), int(words[4]), 0)
-            for place, end, _, words in run.claims if place >= noted[0]]
-    return rest[0], noted[0], left, {int(words[1]): place for place, words in run.consumer if words[0] == "word"}
-
-
-def not_cleared(lines, generator):
-    """The head passed a word that was not cleared."""
-    run = Run(lines)
-    ends = ends_of(run)
-    if ends is None:
-        return None
-    rest, head, left, _ = ends
-    tail = left[-1][1] if left else head
-    if tail == head + run.capacity:
-        return None
-    place = generator.randrange(tail, head + run.capacity, 8)
-    lines = [line for line in lines if line.split()[:2] != ["word", str(place)]]
-    after = [at for at, words in Run(lines).consumer
-             if words[0] == "rest" or words[0] == "word" and int(words[1]) > place]
-    return Run(lines).inserted(after[0], f"word {place} {generator.randrange(1, 2**64)}")
-
-
-def header_lost(lines, generator):
-    """The header of a claim or of padding is 0."""
-    run = Run(lines)
-    ends = ends_of(run)
-    known = ends and headers(ends[1], ends[2])[0]
-    place = some(generator, sorted(known)) if known else None
-    if place is None:
-        return None
-    return run.removed(ends[3][place]), ends[3][place] + 1
-
-
-def header_changed(lines, generator):
-    """The header of a claim or of padding is another one."""
-    run = Run(lines)
-    ends = ends_of(run)
-    known = ends and headers(ends[1], ends[2])[0]
-    place = some(generator, sorted(known)) if known else None
-    if place is None:
-        return None
-    return run.replaced(ends[3][place], 2, (known[place] + 1) % 2**64), ends[3][place] + 1
-
-
-def open_header_settled(lines, generator):
-    """The header of an open claim is that of a committed one."""
-    run = Run(lines)
-    ends = ends_of(run)
-    its = some(generator, [it for it in ends[2] if it[2] == "open"] if ends else [])
-    return its and (run.replaced(ends[3][its[0]], 2, header(8 + its[4], its[3])), ends[3][its[0]] + 1)
-
-
-def word_twice(lines, generator):
-    """A word is noted twice."""
-    ends = ends_of(Run(lines))
-    place = some(generator, sorted(ends[3].values())) if ends else None
-    return place and Run(lines).inserted(place + 1, lines[place])
-
-
-def word_after_the_buffer(lines, generator):
-    """A word is noted that is a capacity after the head."""
-    run = Run(lines)
-    ends = ends_of(run)
-    return ends and run.inserted(ends[0], f"word {ends[1] + run.capacity} 0")
-
-
-def words_before_the_end(lines, generator):
-    """The tail is more than a lap after the head when the words are noted."""
-    run = Run(lines)
-    over = [place for place, _ in run.got if run.claims[-1][1] > run.claim_of[place][0] + run.capacity]
-    return run.inserted(over[0], "rest") if over and ends_of(run) is not None else None
-
-
 ALL = {it.__name__: it for it in (
     overlapping, with_a_gap, not_aligned, claim_lost, claimed_twice, across_the_end, padded_although_it_fits,
     type_zero, too_long, over_an_open_claim, refused_at_the_beginning, refused_with_room, refused_as_too_long, lost,
     lost_at_the_end, doubled, swapped, torn, of_another_type, of_another_length, at_another_place, aborted_shown,
     shown_and_aborted, committed_and_passed, past_an_open_claim, padding_shown, empty_too_early, shown_after_the_end,
-    head_too_far, head_goes_back, head_inside_a_record, other_tail, other_head, not_cleared, header_lost,
-    header_changed, open_header_settled, word_twice, word_after_the_buffer, words_before_the_end)}
+    ring_end_faults.head_too_far, ring_end_faults.head_goes_back, ring_end_faults.head_inside_a_record,
+    ring_end_faults.other_tail, ring_end_faults.other_head, ring_end_faults.not_cleared, ring_end_faults.header_lost,
+    ring_end_faults.header_changed, ring_end_faults.open_header_settled, ring_end_faults.word_twice,
+    ring_end_faults.word_after_the_buffer, ring_end_faults.words_before_the_end)}

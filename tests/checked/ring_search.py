@@ -88,9 +88,9 @@ class Search:
         return self.can(tuple(0 for _ in self.logs), 0, [], 0, self.start, self.start)
 
     def can(self, done, noted, claims, passed, head, read):
-        """Tests whether the lines that are left can be. `done` has the number of lines of each producer before them, and
-        `noted` is that of the consumer. `claims` were made, and the consumer passed `passed` of them. `read` is the head
-        that was noted last, or the position up to which words were read after that."""
+        """Tests whether the lines that are left can be. `done` has the number of lines of each producer before them,
+        and `noted` is that of the consumer. `claims` were made, and the consumer passed `passed` of them. `read` is the
+        head that was noted last, or the position up to which words were read after that."""
         if all(count == len(log) for count, log in zip(done, self.logs)) and noted == len(self.consumer):
             return True
         state = done, noted, tuple(claims), passed, head, read
