@@ -1,4 +1,5 @@
 pub mod ListLemmas
+pub mod JoinLemmas
 pub mod SpotLemmas
 pub mod ByteLemmas
 pub mod RecordLemmas

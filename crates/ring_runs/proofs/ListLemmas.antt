@@ -24,6 +24,16 @@ at_append (x ∷ xs) b i =
     let z : suc (length xs) + i ≡ suc (length xs + i) = omega arith in
     ap (get_elem? (x ∷ (xs ++ b))) z ∙ at_append xs b i
 
+-- an element of two lists is one of the first or of the second
+pub at_either : {A : Type 0} → (a b : List A) (i : ℕ) (y : A) → get_elem? (a ++ b) i ≡ some y
+    → (get_elem? a i ≡ some y) ⊎ ((j : ℕ) × (i ≡ length a + j) × (get_elem? b j ≡ some y))
+at_either [] b i y e = inr (i, omega arith, e)
+at_either (x ∷ xs) b zero y e = inl e
+at_either (x ∷ xs) b (suc i) y e = ⊎_elim
+    (λ t. inl t)
+    (λ (t : (j : ℕ) × (i ≡ length xs + j) × (get_elem? b j ≡ some y)). let z = t.1 in inr (t.0, omega arith, t.2))
+    (at_either xs b i y e)
+
 -- an element of a list that is longer by one
 pub at_end : {A : Type 0} → (l : List A) (a b : A) (j : ℕ) → get_elem? (l ++ a ∷ []) j ≡ some b
     → (get_elem? l j ≡ some b) ⊎ ((j ≡ length l) × (a ≡ b))

@@ -39,6 +39,30 @@ producer_alone v = record v { consumes = false; claims = []; heads = [] }
 abbrev pub sharing : View → View
 sharing v = record v { alone = false }
 
+-- ---- seats that are joined
+
+-- the consumer's part comes to this seat
+abbrev pub with_reader_of : View → View → View
+with_reader_of v w = record v { consumes = true; reader = w.reader }
+
+-- the claims of another producer come after the own ones
+abbrev pub with_claims_of : View → View → View
+with_claims_of v w = record v { claims = v.claims ++ w.claims }
+
+-- the view of a seat that was joined into another
+abbrev pub spent : View
+spent = record {
+  capacity = 0;
+  produces = false;
+  alone = false;
+  tail = 0;
+  claims = [];
+  head_seen = 0;
+  heads = [];
+  consumes = false;
+  reader = first_reader;
+}
+
 -- ---- producers
 
 abbrev pub new_claim : Stage → ℕ → List Entry → List ℕ → Claim

@@ -39,5 +39,5 @@ pub use steps::producer::{
     claim_alone, claim_shared, give_back, load_head, load_tail, publish, share_tail, take,
 };
 pub use steps::{RunsSeat, SharedRuns};
-pub use table::{RunsTable, open, split_producer, split_reader};
+pub use table::{RunsTable, join_producer, join_reader, open, split_producer, split_reader};
 pub use view::{Claim, Entry, Reader, Run, Stage, View};

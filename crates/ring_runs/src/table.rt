@@ -1,12 +1,14 @@
 //! A table of runs from its making on, and its seats.
-ghost use Rattle.std.specs.Prelude.{◌≡◌, ◌<◌, IfOk, [], replicate, true, false};
+ghost use Rattle.std.specs.Prelude.{◌≡◌, ◌<◌, ℕ, IfOk, [], replicate, true, false};
 ghost use Rattle.ring_runs.specs.Seats.{IsCapacity, IsSameSeat, IsSeatOf};
+ghost use Rattle.ring_runs.specs.Claiming.{KeepsOpen};
 ghost use Rattle.ring_runs.specs.Views.{first_view, producer_alone, reader_alone, without_reader};
+ghost use Rattle.ring_runs.specs.Views.{spent, with_claims_of, with_reader_of};
 
 use crate::rule::RunsRule;
 use crate::steps::{RunsSeat, SharedRuns};
 use crate::view::View;
-use atomic_table::{Refused, Split, Table};
+use atomic_table::{Join, Refused, Split, Table};
 use ring_layout::ring_buffer_descriptor::TRAILER_WORDS;
 use std::alloc::{AllocError, Global};
 
@@ -42,6 +44,12 @@ impl Split<View> for TheReader {
     ghost right = { reader_alone };
 }
 
+impl Join<View> for TheReader {
+    ghost both = { with_reader_of };
+
+    ghost spent = { spent };
+}
+
 /// Gives the consumer's part to a new seat.
 pub fn split_reader(ring: &SharedRuns, seat: &mut RunsSeat) -> RunsSeat
     requires table { seat.old.table_id ≡ ring.now.table_id }
@@ -62,6 +70,12 @@ impl Split<View> for OneProducer {
     ghost right = { producer_alone };
 }
 
+impl Join<View> for OneProducer {
+    ghost both = { with_claims_of };
+
+    ghost spent = { spent };
+}
+
 /// Makes one more of many producers, with no claims.
 pub fn split_producer(ring: &SharedRuns, seat: &mut RunsSeat) -> RunsSeat
     requires table { seat.old.table_id ≡ ring.now.table_id }
@@ -72,4 +86,33 @@ pub fn split_producer(ring: &SharedRuns, seat: &mut RunsSeat) -> RunsSeat
     ensures right { (result.table_id ≡ seat.old.table_id) × (result.me ≡ (producer_alone seat.old.me.0, [])) }
 {
     ring.split_seat::<OneProducer>(seat)
+}
+
+/// Gives the consumer's part to this seat. The consumer's seat has no slots out, and is used up.
+pub fn join_reader(ring: &SharedRuns, seat: &mut RunsSeat, reader: RunsSeat)
+    requires table { (seat.old.table_id ≡ ring.now.table_id) × (reader.table_id ≡ ring.now.table_id) }
+    requires words { 0 < ring.now.table_id.words }
+    requires slots { reader.me.1 ≡ [] }
+    requires consumes { reader.me.0.consumes ≡ true }
+    requires produces { reader.me.0.produces ≡ false }
+    ensures seat { IsSameSeat seat.old seat.new }
+    ensures view { seat.new.me ≡ (with_reader_of seat.old.me.0 reader.me.0, seat.old.me.1) }
+{
+    ring.join_seat::<TheReader>(seat, reader);
+}
+
+/// Joins another producer into this one. This producer has the claims of both from then on, and those that were open
+/// stay open. The other producer has no slots out, and its seat is used up.
+pub fn join_producer(ring: &SharedRuns, seat: &mut RunsSeat, other: RunsSeat)
+    requires table { (seat.old.table_id ≡ ring.now.table_id) × (other.table_id ≡ ring.now.table_id) }
+    requires words { 0 < ring.now.table_id.words }
+    requires slots { other.me.1 ≡ [] }
+    requires produces { seat.old.me.0.produces ≡ true }
+    requires no_reader { other.me.0.consumes ≡ false }
+    ensures seat { IsSameSeat seat.old seat.new }
+    ensures view { seat.new.me ≡ (with_claims_of seat.old.me.0 other.me.0, seat.old.me.1) }
+    ensures own { (n : ℕ) → KeepsOpen n seat.old.me.0 seat.new.me.0 }
+    ensures others { (n : ℕ) → KeepsOpen n other.me.0 seat.new.me.0 }
+{
+    ring.join_seat::<OneProducer>(seat, other);
 }

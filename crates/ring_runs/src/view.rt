@@ -62,7 +62,8 @@ pub struct View {
     pub alone: bool,
     /// The tail, if it is alone.
     pub tail: u64,
-    /// All its claims, in the order in which they were made.
+    /// All its claims, in the order in which they were made. The claims of a seat that was joined into this one come
+    /// after the claims that this one had.
     pub claims: LinkedList<Claim>,
     /// The head that it loaded last.
     pub head_seen: u64,
