@@ -168,6 +168,8 @@ module _ (n : ℕ) (words : List ℕ) (homes : List (Option ℕ)) (views : List 
         many = own.many;
         consumes = own.consumes;
         idle = λ idle. absurd (some-ne-none c (sym has ∙ ap (λ l. get_elem? l k) (own.idle idle)));
+        rich = own.rich;
+        poor = own.poor;
       }
 
   pub change_covers : (k : ℕ) (c : Claim) → HasClaim v k c → (t : Stage) (es : List Entry) (ws : List ℕ)

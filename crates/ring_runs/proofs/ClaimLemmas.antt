@@ -10,12 +10,12 @@ use Rattle.atomic_table.specs.Table.{State, Allows, keeps}
 use Rattle.atomic_table.proofs.Lists.{at_snoc, at_longer, at_last, set_here, exchanged}
 use Rattle.ring_runs.specs.Cells.{Cells, claimed_cells, Claim, free, Open, patched, Shows, ShowClaim, ShowsWord}
 use Rattle.ring_runs.specs.Rule.{IsMemory, Knows, IsCovered, Kept, head_at, last_position, table_words, tail_at}
-use Rattle.ring_runs.specs.Views.{Reader, View, new_claim, with_claims, with_head_seen}
-use Rattle.ring_runs.specs.Steps.{Mine, Claims, ClaimsAlone, ClaimsShared, LoadsHead, LoadsTail}
+use Rattle.ring_runs.specs.Views.{Reader, View, new_claim, with_claims}
+use Rattle.ring_runs.specs.Steps.{Mine, Claims, ClaimsAlone, ClaimsShared}
 use Rattle.ring_runs.proofs.SpotLemmas.{one_position, AreHome, gathered}
 use Rattle.ring_runs.proofs.ListLemmas.{word_at, below_length, at_end}
 use Rattle.ring_runs.proofs.CellLemmas.{begins_not_free, begins_not_of, free_not_of, Grows, has_grown, open_patched, patch_grows, patched_else, patched_here, said_not_free, shows_same, Spares, stage_below, stage_not_free, stage_spared, taken_grown, word_same, word_within}
-use Rattle.ring_runs.proofs.KeptLemmas.{Could, covered_on, covers_same, goes_nowhere, kept_producing, Ok, stays}
+use Rattle.ring_runs.proofs.KeptLemmas.{Could, covered_on, kept_producing, Ok, stays}
 
 -- what the words are after the tail moved up to `new`
 pub record TailMoves (n : ℕ) (alone : Bool) (words words' : List ℕ) (new : ℕ) : Type 0 where
@@ -147,6 +147,8 @@ claimant n new ys words homes views r id v at produces most alone_new =
       many = k.many;
       consumes = k.consumes;
       idle = λ un. absurd (true≢false (sym produces ∙ un));
+      rich = k.rich;
+      poor = k.poor;
     }
 
 -- what is covered after a claim
@@ -199,6 +201,7 @@ module _ (n new : ℕ) (ys : List ℕ) (s : State ℕ View) (r : Ok n s) (id : �
       })
       (claim_covers n new ys s.words s.homes s.views r id v at)
       (claimant n new ys s.words s.homes s.views r id v at produces most alone_new)
+      refl
 
 -- the claims of a seat end at the tail or before
 claims_below : (n : ℕ) (s : State ℕ View) (r : Ok n s) (id : ℕ) (v : View) → get_elem? s.views id ≡ some v
@@ -342,56 +345,3 @@ claims_shared n slots id me len old new may s r wide at small =
       stays n s t id me r at,
       record { won = λ e. absurd (miss e); lost = λ _. refl },
     ))
-
--- ---- loads of the tail and of the head
-
-pub loads_tail : (n slots id : ℕ) (me : Mine) → me.0.produces ≡ true → me.0.alone ≡ false
-    → Allows (Ok n) slots id me (tail_at n) (λ x. x) (λ x me'. LoadsTail me x me')
-loads_tail n slots id me produces shared s r wide at small =
-    let m = r.memory in
-    let is : slice_index s.words (tail_at n) ≡ r.tail = m.tail_is ((r.each id me.0 at).many produces shared) in
-    let limit = m.limit in (
-      me.0,
-      keeps,
-      tt,
-      stays n s (tail_at n) id me r at,
-      (refl, omega arith),
-    )
-
-pub loads_head : (n slots id : ℕ) (me : Mine)
-    → Allows (Ok n) slots id me (head_at n) (λ x. x) (λ x me'. LoadsHead me x me')
-loads_head n slots id me s r wide at small =
-    let own = r.each id me.0 at in
-    let m = r.memory in
-    let seen = own.seen in
-    let x : ℕ = slice_index s.words (head_at n) in
-    let is : x ≡ r.consumer.head = m.head_is in
-    let low = m.from_head in
-    let mid = m.to_scan in
-    let high = m.to_tail in
-    let limit = m.limit in
-    let w : View = with_head_seen x me.0 in
-    let facts : Knows r.alone r.cells r.tail r.writer r.reader id r.consumer w = record {
-      seen = omega arith;
-      claims = own.claims;
-      apart = own.apart;
-      only = own.only;
-      many = own.many;
-      consumes = own.consumes;
-      idle = own.idle;
-    } in (
-      w,
-      keeps,
-      tt,
-      subst (λ ws. Kept n ws s.homes (set s.views id w)) (sym (set-get_or s.words (head_at n) 0))
-          (kept_producing n s.words s.homes s.views r id me.0 w at s.words s.homes r.cells r.tail m
-          (goes_nowhere r.alone r.writer id r.cells r.tail)
-          (λ q h. covered_on s.views id me.0 w at q (covers_same me.0 w q refl) (r.covered q h)) facts),
-      record {
-        held = refl;
-        rises = omega arith;
-        view = refl;
-        limit = omega arith;
-        below = λ alone. let tail_is = (own.only alone).2 in omega arith;
-      },
-    )

@@ -56,6 +56,7 @@ module _ (n slots id : ℕ) (me : Mine) (i k : ℕ) (c : Claim) (cap : me.0.capa
         })
         (λ q h. change_covers n s.words s.homes s.views r id me.0 at k c is.has u es ws size q (r.covered q h))
         (changer n s.words s.homes s.views r id me.0 at k c is.has unsettled new mine_at u es ws size shows)
+        refl
 
 -- ---- the slots of an open claim are taken
 

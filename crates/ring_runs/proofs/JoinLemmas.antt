@@ -9,7 +9,10 @@ use Rattle.atomic_table.proofs.Lists.{at_set, at_longer, set_else, set_here}
 use Rattle.ring_runs.specs.Cells.{Begins, Cell, Cells, Claim, claimed, ends, free, held, IsOf, IsUnsettled, older, Open, Out, Published, published, ShowClaim, Shows, ShowStage, ShowsWord, Stage}
 use Rattle.ring_runs.specs.Claiming.{HasBody, IsOpenAt, KeepsOpen}
 use Rattle.ring_runs.specs.Records.{Entry}
-use Rattle.ring_runs.specs.Rule.{Covers, IsCovered, IsMemory, Kept, Knows}
+use Rattle.ring_layout.specs.Lists.{total}
+use Rattle.ring_layout.specs.Refusals.{all_shares}
+use Rattle.ring_layout.proofs.Sums.{total-set}
+use Rattle.ring_runs.specs.Rule.{Covers, IsCovered, IsMemory, Kept, Knows, shares_of}
 use Rattle.ring_runs.specs.Steps.{HasClaim}
 use Rattle.ring_runs.specs.Views.{Reader, View, spent, with_claims_of, with_reader_of}
 use Rattle.ring_runs.proofs.CellLemmas.{begins_not_of, Grows, has_grown, of_one, of_unsettled, run_grown, taken_grown}
@@ -137,6 +140,13 @@ module _ (views : List View) (id other : ℕ) (v w both : View) (at : get_elem? 
       (at_set views id j both u t.1))
       (at_set (set views id both) other j spent u e)
 
+  pub shares_joined : both.shares ≡ v.shares + w.shares → total shares_of views ≡ all_shares
+      → total shares_of (set (set views id both) other spent) ≡ all_shares
+  shares_joined added all =
+      let one = total-set shares_of views id v both at in
+      let two = total-set shares_of (set views id both) other w spent
+      (set_else views id other both apart ∙ at_other) in omega arith
+
 own_covers : (v w : View) (q : ℕ) → Covers v q → Covers (with_claims_of v w) q
 own_covers v w q c = record {
   nth = c.nth;
@@ -234,6 +244,8 @@ spent_knows alone cells tail writer reader id r = record {
   many = λ un _. absurd (true≢false (sym un));
   consumes = λ un. absurd (true≢false (sym un));
   idle = λ _. refl;
+  rich = λ un. absurd (true≢false (sym un));
+  poor = λ _. refl;
 }
 
 there_still : (views : List View) (id other : ℕ) (both w : View) → ¬ (other ≡ id)
@@ -260,6 +272,8 @@ joins_reader n id v other w consumes idle s r at apart at_set_other =
           (λ c. record { nth = c.nth; claim = c.claim; has = c.has; from = c.from; to = c.to })
           (λ c. absurd (some-ne-none c.claim (sym (ap (λ l. get_elem? l c.nth) (sym no_claims) ∙ c.has))))
           (r.covered q h);
+      shares = shares_joined s.views id other v w both at apart at_other
+          (let z = theirs.poor idle in omega arith) r.shares;
       each = λ j u e. view_joined s.views id other v w both at apart at_other j u e
           (λ k x. Knows r.alone r.cells r.tail r.writer id k r.consumer x)
           (spent_knows r.alone r.cells r.tail r.writer id other r.consumer)
@@ -271,6 +285,8 @@ joins_reader n id v other w consumes idle s r at apart at_set_other =
             many = own.many;
             consumes = λ _. (refl, reads.1);
             idle = own.idle;
+            rich = own.rich;
+            poor = own.poor;
           })
           (λ ne ne' there.
           let k = r.each j u there in record {
@@ -281,6 +297,8 @@ joins_reader n id v other w consumes idle s r at apart at_set_other =
             many = k.many;
             consumes = λ p. absurd (ne ((k.consumes p).0 ∙ sym reads.0));
             idle = k.idle;
+            rich = k.rich;
+            poor = k.poor;
           });
     }
 
@@ -302,6 +320,7 @@ joins_producer n id v other w produces s r at apart at_set_other =
       memory = memory_joined other id r.cells n r.alone s.words s.homes r.tail r.consumer r.memory;
       covered = λ q h. covered_joined s.views id other v w both at apart at_other q (own_covers v w q)
           (others_cover v w q) (r.covered q h);
+      shares = shares_joined s.views id other v w both at apart at_other refl r.shares;
       each = λ j u e. view_joined s.views id other v w both at apart at_other j u e
           (λ k x. Knows r.alone cells' r.tail r.writer r.reader k r.consumer x)
           (spent_knows r.alone cells' r.tail r.writer r.reader other r.consumer)
@@ -317,6 +336,8 @@ joins_producer n id v other w produces s r at apart at_set_other =
             many = own.many;
             consumes = own.consumes;
             idle = λ un. absurd (true≢false (sym produces ∙ un));
+            rich = λ _. let some_shares = own.rich produces in omega arith;
+            poor = λ un. absurd (true≢false (sym produces ∙ un));
           })
           (λ ne ne' there.
           let k = r.each j u there in record {
@@ -327,5 +348,7 @@ joins_producer n id v other w produces s r at apart at_set_other =
             many = k.many;
             consumes = k.consumes;
             idle = k.idle;
+            rich = k.rich;
+            poor = k.poor;
           });
     }

@@ -1,5 +1,5 @@
 -- A producer goes on.
-use Rattle.std.proofs.Common.{◌≡◌, ◌≢◌, ℕ, ◌<◌, List, Bool, true, set, slice_index, sym, refl, ap, ◌∙◌, subst, ⊎_elim}
+use Rattle.std.proofs.Common.{◌≡◌, ◌≢◌, ℕ, ◌<◌, List, Bool, true, set, slice_index, sym, refl, ap, ◌∙◌, subst, ⊎_elim, arith}
 use mathlib.Core.Logic.{dite}
 use native.Mathlib.Decide.{ℕ_discrete}
 use mathlib.Core.Option.{Option, some, some-injective}
@@ -8,7 +8,10 @@ use Rattle.std.proofs.lemmas.List.{set-get_or}
 use Rattle.atomic_table.specs.Table.{State, Act, homes_after, carried_after, Valid}
 use Rattle.atomic_table.proofs.Lists.{at_set, set_again, set_here, set_else}
 use Rattle.ring_runs.specs.Cells.{Cells}
-use Rattle.ring_runs.specs.Rule.{IsMemory, Knows, Covers, IsCovered, Kept}
+use Rattle.ring_layout.specs.Lists.{total}
+use Rattle.ring_layout.specs.Refusals.{all_shares}
+use Rattle.ring_layout.proofs.Sums.{total-set}
+use Rattle.ring_runs.specs.Rule.{IsMemory, Knows, Covers, IsCovered, Kept, shares_of}
 use Rattle.ring_runs.specs.Views.{View}
 use Rattle.ring_runs.specs.Steps.{Mine}
 use Rattle.ring_runs.proofs.ListLemmas.{below_length}
@@ -34,6 +37,11 @@ pub covers_same : (v w : View) (q : ℕ) → w.claims ≡ v.claims → Covers v 
 covers_same v w q e c =
     record { nth = c.nth; claim = c.claim; has = ap (λ l. get_elem? l c.nth) e ∙ c.has; from = c.from; to = c.to }
 
+-- the shares of a view that changed
+pub shares_on : (views : List View) (id : ℕ) (v w : View) → get_elem? views id ≡ some v → w.shares ≡ v.shares
+    → total shares_of views ≡ all_shares → total shares_of (set views id w) ≡ all_shares
+shares_on views id v w at same all = let one = total-set shares_of views id v w at in omega arith
+
 -- what a step of the producer id makes of cells and tail: the others' claims stay, and so does the tail of another that
 -- is alone
 pub record Goes (alone : Bool) (writer id : ℕ) (cells cells' : Cells) (tail tail' : ℕ) : Type 0 where
@@ -54,8 +62,9 @@ pub kept_producing : (n : ℕ) (words : List ℕ) (homes : List (Option ℕ)) (v
     → (words' : List ℕ) (homes' : List (Option ℕ)) (cells' : Cells) (tail' : ℕ)
     → IsMemory n r.alone words' homes' cells' tail' r.consumer → Goes r.alone r.writer id r.cells cells' r.tail tail'
     → ((q : ℕ) → q < tail' → IsCovered (set views id w) q)
-    → Knows r.alone cells' tail' r.writer r.reader id r.consumer w → Kept n words' homes' (set views id w)
-kept_producing n words homes views r id v w at words' homes' cells' tail' m goes covered mine = record {
+    → Knows r.alone cells' tail' r.writer r.reader id r.consumer w → w.shares ≡ v.shares
+    → Kept n words' homes' (set views id w)
+kept_producing n words homes views r id v w at words' homes' cells' tail' m goes covered mine same = record {
   alone = r.alone;
   cells = cells';
   tail = tail';
@@ -64,6 +73,7 @@ kept_producing n words homes views r id v w at words' homes' cells' tail' m goes
   consumer = r.consumer;
   memory = m;
   covered = covered;
+  shares = shares_on views id v w at same r.shares;
   each = λ j u e. ⊎_elim
       (λ (t : (j ≡ id) × (w ≡ u)).
       subst (λ (z : ℕ × View). Knows r.alone cells' tail' r.writer r.reader z.0 r.consumer z.1)
@@ -81,6 +91,8 @@ kept_producing n words homes views r id v w at words' homes' cells' tail' m goes
         many = k.many;
         consumes = k.consumes;
         idle = k.idle;
+        rich = k.rich;
+        poor = k.poor;
       })
       (at_set views id j w u e);
 }

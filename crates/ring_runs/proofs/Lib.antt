@@ -1,11 +1,13 @@
 pub mod ListLemmas
 pub mod JoinLemmas
+pub mod CloseLemmas
 pub mod SpotLemmas
 pub mod ByteLemmas
 pub mod RecordLemmas
 pub mod CellLemmas
 pub mod KeptLemmas
 pub mod ClaimLemmas
+pub mod LoadLemmas
 pub mod ChangeLemmas
 pub mod GiveLemmas
 pub mod ReadLemmas

@@ -17,7 +17,7 @@ use Rattle.ring_runs.proofs.SpotLemmas.{AreHome, away_in, carried_takes, length_
 use Rattle.ring_runs.proofs.ListLemmas.{below_length, cut}
 use Rattle.ring_runs.proofs.RecordLemmas.{long_records}
 use Rattle.ring_runs.proofs.CellLemmas.{has_append, has_below, has_cut, run_has, shown_says, shows_same, word_low}
-use Rattle.ring_runs.proofs.KeptLemmas.{Could, covered_on, covers_same, Ok}
+use Rattle.ring_runs.proofs.KeptLemmas.{Could, covered_on, covers_same, Ok, shares_on}
 
 -- the consumer goes on
 pub kept_reading : (n : ℕ) (words : List ℕ) (homes : List (Option ℕ)) (views : List View) (r : Kept n words homes views)
@@ -37,6 +37,7 @@ kept_reading n words homes views r id v at consumes words' homes' u m rises =
       memory = m;
       covered = λ q h. covered_on views id v (with_reader u v) at q (covers_same v (with_reader u v) q refl)
           (r.covered q h);
+      shares = shares_on views id v (with_reader u v) at refl r.shares;
       each = λ j w e. ⊎_elim
           (λ (t : (j ≡ id) × (with_reader u v ≡ w)).
           subst (λ (z : ℕ × View). Knows r.alone r.cells r.tail r.writer r.reader z.0 u z.1)
@@ -48,6 +49,8 @@ kept_reading n words homes views r id v at consumes words' homes' u m rises =
             many = own.many;
             consumes = λ _. (mine.0, refl);
             idle = own.idle;
+            rich = own.rich;
+            poor = own.poor;
           }))
           (λ (t : (j ≢ id) × (get_elem? views j ≡ some w)).
           let k = r.each j w t.1 in
@@ -59,6 +62,8 @@ kept_reading n words homes views r id v at consumes words' homes' u m rises =
             many = k.many;
             consumes = λ p. absurd (t.0 ((k.consumes p).0 ∙ sym mine.0));
             idle = k.idle;
+            rich = k.rich;
+            poor = k.poor;
           })
           (at_set views id j (with_reader u v) w e);
     }

@@ -1,5 +1,5 @@
 -- A fresh table, its seat cut in two, and the tail that is shared.
-use Rattle.std.proofs.Common.{◌≡◌, ◌≢◌, ℕ, zero, suc, ◌^◌, ◌%◌, ◌≤◌, ◌<◌, List, [], ◌∷◌, ◌++◌, true, false, true≢false, set, slice_index, length, map, replicate, sym, refl, subst, ⊎_elim, length-set, get_or-set_same, get_or-set_other, arith, ◌∙◌}
+use Rattle.std.proofs.Common.{◌≡◌, ◌≢◌, ℕ, zero, suc, ◌^◌, ◌+◌, ◌-◌, ◌%◌, ◌≤◌, ◌<◌, Bool, List, [], ◌∷◌, ◌++◌, true, false, true≢false, set, slice_index, length, map, replicate, sym, refl, subst, ⊎_elim, length-set, get_or-set_same, get_or-set_other, arith, ◌∙◌}
 use mathlib.Core.Option.{some, some-injective, some-ne-none}
 use lib.ListN.{get_elem?}
 use Rattle.std.proofs.lemmas.Nat.{mod_below}
@@ -7,12 +7,15 @@ use Rattle.std.proofs.lemmas.List.{length-map, length-replicate, get_or-replicat
 use Rattle.atomic_table.specs.Table.{Splits, Allows, keeps}
 use Rattle.atomic_table.proofs.Lists.{at_set, at_longer, some_there}
 use Rattle.ring_runs.specs.Cells.{free, older, ShowsWord}
-use Rattle.ring_runs.specs.Rule.{head_at, IsCovered, IsMemory, Kept, Knows, table_words, tail_at}
-use Rattle.ring_runs.specs.Views.{View, first_reader, first_view, producer_alone, reader_alone, sharing, without_reader}
+use Rattle.ring_layout.specs.Lists.{total}
+use Rattle.ring_layout.specs.Refusals.{all_shares}
+use Rattle.ring_layout.proofs.Sums.{total-append, total-set}
+use Rattle.ring_runs.specs.Rule.{head_at, IsCovered, IsMemory, Kept, Knows, shares_of, table_words, tail_at}
+use Rattle.ring_runs.specs.Views.{View, first_reader, first_view, producer_alone, reader_alone, sharing, without_reader, without_share}
 use Rattle.ring_runs.specs.Steps.{Mine, SharesTail}
 use Rattle.ring_runs.proofs.ListLemmas.{at_end}
 use Rattle.ring_runs.proofs.CellLemmas.{begins_not_free}
-use Rattle.ring_runs.proofs.KeptLemmas.{covered_on, covers_same, Ok}
+use Rattle.ring_runs.proofs.KeptLemmas.{covered_on, covers_same, Ok, shares_on}
 
 -- one view more
 longer : (views : List View) (w : View) (q : ℕ) → IsCovered views q → IsCovered (views ++ w ∷ []) q
@@ -22,6 +25,14 @@ longer views w q c = record {
   there = at_longer views (w ∷ []) c.seat c.view c.there;
   covers = c.covers;
 }
+
+-- the shares of one view are those of two
+shares_split : (views : List View) (id : ℕ) (v left right : View) → get_elem? views id ≡ some v
+    → left.shares + right.shares ≡ v.shares → total shares_of views ≡ all_shares
+    → total shares_of (set views id left ++ right ∷ []) ≡ all_shares
+shares_split views id v left right at both all =
+    let one = total-append shares_of (set views id left) (right ∷ []) in
+    let two = total-set shares_of views id v left at in omega arith
 
 pub splits_reader : (n id : ℕ) (v : View) → v.consumes ≡ true → Splits (Ok n) id v (without_reader v) (reader_alone v)
 splits_reader n id v consumes s r at =
@@ -37,6 +48,7 @@ splits_reader n id v consumes s r at =
       memory = r.memory;
       covered = λ q h. longer (set s.views id (without_reader v)) (reader_alone v) q
           (covered_on s.views id v (without_reader v) at q (covers_same v (without_reader v) q refl) (r.covered q h));
+      shares = shares_split s.views id v (without_reader v) (reader_alone v) at (omega arith) r.shares;
       each = λ j u e. ⊎_elim
           (λ (t : get_elem? (set s.views id (without_reader v)) j ≡ some u). ⊎_elim
           (λ (h : (j ≡ id) × (without_reader v ≡ u)).
@@ -49,6 +61,8 @@ splits_reader n id v consumes s r at =
             many = own.many;
             consumes = λ un. absurd (true≢false (sym un));
             idle = own.idle;
+            rich = own.rich;
+            poor = own.poor;
           }))
           (λ (h : (j ≢ id) × (get_elem? s.views j ≡ some u)).
           let k = r.each j u h.1 in record {
@@ -59,6 +73,8 @@ splits_reader n id v consumes s r at =
             many = k.many;
             consumes = λ p. absurd (h.0 ((k.consumes p).0 ∙ sym mine.0));
             idle = k.idle;
+            rich = k.rich;
+            poor = k.poor;
           })
           (at_set s.views id j (without_reader v) u t))
           (λ (t : (j ≡ new) × (reader_alone v ≡ u)).
@@ -71,14 +87,24 @@ splits_reader n id v consumes s r at =
             many = λ un _. absurd (true≢false (sym un));
             consumes = λ _. (refl, mine.1);
             idle = λ _. refl;
+            rich = λ un. absurd (true≢false (sym un));
+            poor = λ _. refl;
           }))
           (at_end (set s.views id (without_reader v)) (reader_alone v) u j e);
     }
 
-pub splits_producer : (n id : ℕ) (v : View) → v.alone ≡ false → Splits (Ok n) id v v (producer_alone v)
-splits_producer n id v shared s r at =
+-- a seat with shares is a producer's
+pub has_shares : (b : Bool) (shares : ℕ) → (b ≡ false → shares ≡ 0) → 0 < shares → b ≡ true
+has_shares true shares poor some_shares = refl
+has_shares false shares poor some_shares = let z = poor refl in absurd (omega arith)
+
+pub splits_producer : (n id : ℕ) (v : View) → v.alone ≡ false → 1 < v.shares
+    → Splits (Ok n) id v (without_share v) (producer_alone v)
+splits_producer n id v shared more s r at =
     let own = r.each id v at in
-    let new : ℕ = length (set s.views id v) in record {
+    let left : View = without_share v in
+    let produces : v.produces ≡ true = has_shares v.produces v.shares own.poor (omega arith) in
+    let new : ℕ = length (set s.views id left) in record {
       alone = r.alone;
       cells = r.cells;
       tail = r.tail;
@@ -86,15 +112,26 @@ splits_producer n id v shared s r at =
       reader = r.reader;
       consumer = r.consumer;
       memory = r.memory;
-      covered = λ q h. longer (set s.views id v) (producer_alone v) q (covered_on s.views id v v at q (λ c. c)
-          (r.covered q h));
+      covered = λ q h. longer (set s.views id left) (producer_alone v) q
+          (covered_on s.views id v left at q (covers_same v left q refl) (r.covered q h));
+      shares = shares_split s.views id v left (producer_alone v) at (omega arith) r.shares;
       each = λ j u e. ⊎_elim
-          (λ (t : get_elem? (set s.views id v) j ≡ some u). ⊎_elim
-          (λ (h : (j ≡ id) × (v ≡ u)).
+          (λ (t : get_elem? (set s.views id left) j ≡ some u). ⊎_elim
+          (λ (h : (j ≡ id) × (left ≡ u)).
           subst (λ (z : ℕ × View). Knows r.alone r.cells r.tail r.writer r.reader z.0 r.consumer z.1)
-          (λ i. (sym h.0 i, h.1 i)) own)
+          (λ i. (sym h.0 i, h.1 i)) (record {
+            seen = own.seen;
+            claims = own.claims;
+            apart = own.apart;
+            only = own.only;
+            many = own.many;
+            consumes = own.consumes;
+            idle = own.idle;
+            rich = λ _. omega arith;
+            poor = λ un. absurd (true≢false (sym produces ∙ un));
+          }))
           (λ (h : (j ≢ id) × (get_elem? s.views j ≡ some u)). r.each j u h.1)
-          (at_set s.views id j v u t))
+          (at_set s.views id j left u t))
           (λ (t : (j ≡ new) × (producer_alone v ≡ u)).
           subst (λ (z : ℕ × View). Knows r.alone r.cells r.tail r.writer r.reader z.0 r.consumer z.1)
           (λ i. (sym t.0 i, t.1 i)) (record {
@@ -105,8 +142,10 @@ splits_producer n id v shared s r at =
             many = own.many;
             consumes = λ un. absurd (true≢false (sym un));
             idle = λ _. refl;
+            rich = λ _. omega arith;
+            poor = λ un. absurd (true≢false (sym produces ∙ un));
           }))
-          (at_end (set s.views id v) (producer_alone v) u j e);
+          (at_end (set s.views id left) (producer_alone v) u j e);
     }
 
 pub shares_tail : (n slots id : ℕ) (me : Mine) (tail : ℕ) → me.0.alone ≡ true → tail ≡ me.0.tail
@@ -150,6 +189,7 @@ shares_tail n slots id me tail alone tail_is s r wide at small =
           home = m.home;
         };
         covered = λ q h. covered_on s.views id me.0 w at q (covers_same me.0 w q refl) (r.covered q h);
+        shares = shares_on s.views id me.0 w at refl r.shares;
         each = λ j u e. ⊎_elim
             (λ (h : (j ≡ id) × (w ≡ u)).
             subst (λ (z : ℕ × View). Knows false r.cells r.tail r.writer r.reader z.0 r.consumer z.1)
@@ -161,6 +201,8 @@ shares_tail n slots id me tail alone tail_is s r wide at small =
               many = λ _ _. refl;
               consumes = own.consumes;
               idle = own.idle;
+              rich = own.rich;
+              poor = own.poor;
             }))
             (λ (h : (j ≢ id) × (get_elem? s.views j ≡ some u)).
             let k = r.each j u h.1 in record {
@@ -171,6 +213,8 @@ shares_tail n slots id me tail alone tail_is s r wide at small =
               many = λ _ _. refl;
               consumes = k.consumes;
               idle = k.idle;
+              rich = k.rich;
+              poor = k.poor;
             })
             (at_set s.views id j w u e);
       },
@@ -225,6 +269,7 @@ opens n words items some_words small words_are items_are = record {
   memory = subst (λ (z : List ℕ × List ℕ). IsMemory n true z.0 (map some z.1) (λ _. free) 0 first_reader)
       (λ i. (sym words_are i, sym items_are i)) (fresh_memory n some_words small);
   covered = λ q h. absurd (omega arith);
+  shares = omega arith;
   each = λ id v e.
       let t = one_view (first_view n) v id e in
       subst (λ (z : ℕ × View). Knows true (λ _. free) 0 0 0 z.0 first_reader z.1) (λ i. (sym t.0 i, t.1 i)) (record {
@@ -235,5 +280,7 @@ opens n words items some_words small words_are items_are = record {
         many = λ _ un. absurd (true≢false un);
         consumes = λ _. (refl, refl);
         idle = λ un. absurd (true≢false un);
+        rich = λ _. omega arith;
+        poor = λ un. absurd (true≢false un);
       });
 }

@@ -11,3 +11,4 @@ pub mod Turns
 pub mod Writing
 pub mod Claiming
 pub mod Reading
+pub mod Closing

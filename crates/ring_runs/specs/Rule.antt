@@ -2,6 +2,8 @@
 use Rattle.std.specs.Prelude.{◌≡◌, ◌⊎◌, ℕ, ◌+◌, ◌%◌, ◌^◌, ◌≤◌, ◌<◌, List, [], ◌∷◌, Bool, true, false, length, slice_index}
 use mathlib.Core.Option.{Option, some}
 use lib.ListN.{get_elem?}
+use Rattle.ring_layout.specs.Lists.{total}
+use Rattle.ring_layout.specs.Refusals.{all_shares}
 use Rattle.ring_runs.specs.Records.{total_words}
 use Rattle.ring_runs.specs.Cells.{Cells, Claim, free, Has, IsRun, IsUnsettled, Run, ShowClaim, Shows, ShowsWord}
 use Rattle.ring_runs.specs.Views.{Reader, View}
@@ -62,6 +64,8 @@ pub record Knows (alone : Bool) (cells : Cells) (tail writer reader id : ℕ) (r
   pub many : v.produces ≡ true → v.alone ≡ false → alone ≡ false
   pub consumes : v.consumes ≡ true → (id ≡ reader) × (v.reader ≡ r)
   pub idle : v.produces ≡ false → v.claims ≡ []
+  pub rich : v.produces ≡ true → 0 < v.shares
+  pub poor : v.produces ≡ false → v.shares ≡ 0
 
 -- a claim of the view has the position q
 pub record Covers (v : View) (q : ℕ) : Type 0 where
@@ -77,6 +81,9 @@ pub record IsCovered (views : List View) (q : ℕ) : Type 0 where
   pub there : get_elem? views seat ≡ some view
   pub covers : Covers view q
 
+abbrev pub shares_of : View → ℕ
+shares_of v = v.shares
+
 pub record Kept (n : ℕ) (words : List ℕ) (homes : List (Option ℕ)) (views : List View) : Type 0 where
   pub alone : Bool
   pub cells : Cells
@@ -86,4 +93,5 @@ pub record Kept (n : ℕ) (words : List ℕ) (homes : List (Option ℕ)) (views 
   pub consumer : Reader
   pub memory : IsMemory n alone words homes cells tail consumer
   pub covered : (q : ℕ) → q < tail → IsCovered views q
+  pub shares : total shares_of views ≡ all_shares
   pub each : (id : ℕ) (v : View) → get_elem? views id ≡ some v → Knows alone cells tail writer reader id consumer v

@@ -1,5 +1,6 @@
 -- The first view of each seat, and the changes of views by steps, splits and joins.
-use Rattle.std.specs.Prelude.{ℕ, ◌+◌, List, [], ◌∷◌, ◌++◌, true, false, length, slice_set}
+use Rattle.std.specs.Prelude.{ℕ, ◌+◌, ◌-◌, List, [], ◌∷◌, ◌++◌, true, false, length, slice_set}
+use Rattle.ring_layout.specs.Refusals.{all_shares}
 use Rattle.ring_runs.specs.Records.{Entry}
 use Rattle.ring_runs.specs.Cells.{Claim, Stage}
 pub use Rattle.ring_runs.specs.declared.view.Reader.{Reader}
@@ -13,6 +14,7 @@ abbrev pub first_view : ℕ → View
 first_view n = record {
   capacity = n;
   produces = true;
+  shares = all_shares;
   alone = true;
   tail = 0;
   claims = [];
@@ -29,11 +31,15 @@ abbrev pub without_reader : View → View
 without_reader v = record v { consumes = false }
 
 abbrev pub reader_alone : View → View
-reader_alone v = record v { produces = false; alone = false; claims = []; heads = [] }
+reader_alone v = record v { produces = false; shares = 0; alone = false; claims = []; heads = [] }
 
 -- the view of one more producer of many
 abbrev pub producer_alone : View → View
-producer_alone v = record v { consumes = false; claims = []; heads = [] }
+producer_alone v = record v { shares = 1; consumes = false; claims = []; heads = [] }
+
+-- one share goes to a separate seat
+abbrev pub without_share : View → View
+without_share v = record v { shares = v.shares - 1 }
 
 -- the view of a producer whose tail is in the table from then on
 abbrev pub sharing : View → View
@@ -45,15 +51,16 @@ sharing v = record v { alone = false }
 abbrev pub with_reader_of : View → View → View
 with_reader_of v w = record v { consumes = true; reader = w.reader }
 
--- the claims of another producer come after the own ones
+-- the claims of another producer come after the own ones, and its shares are added
 abbrev pub with_claims_of : View → View → View
-with_claims_of v w = record v { claims = v.claims ++ w.claims }
+with_claims_of v w = record v { shares = v.shares + w.shares; claims = v.claims ++ w.claims }
 
 -- the view of a seat that was joined into another
 abbrev pub spent : View
 spent = record {
   capacity = 0;
   produces = false;
+  shares = 0;
   alone = false;
   tail = 0;
   claims = [];

@@ -6,11 +6,13 @@
 //! - `table`: the table and its seats.
 //! - `producer`: a producer between two calls, and the search for room. `claims`, `settle`: claims that a producer
 //!   holds. `message`, `batch`: messages that are written at once. `reader`, `turn`: reads.
+//! - `closing`: the end of a ring.
 //! - `slots`: records in the slots that a seat has out.
 #![tactic(auto)]
 
 mod batch;
 mod claims;
+mod closing;
 mod fault;
 mod laws;
 mod message;
@@ -27,6 +29,7 @@ mod view;
 
 pub use batch::{Outgoing, write_batch, write_batch_once};
 pub use claims::{OpenClaim, claim, claim_once};
+pub use closing::close;
 pub use fault::{Overtaken, TryFault};
 pub use laws::{what_is_published_is_found, what_is_taken_was_published};
 pub use message::{write, write_once};

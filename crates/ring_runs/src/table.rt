@@ -2,7 +2,7 @@
 ghost use Rattle.std.specs.Prelude.{◌≡◌, ◌<◌, ℕ, IfOk, [], replicate, true, false};
 ghost use Rattle.ring_runs.specs.Seats.{IsCapacity, IsSameSeat, IsSeatOf};
 ghost use Rattle.ring_runs.specs.Claiming.{KeepsOpen};
-ghost use Rattle.ring_runs.specs.Views.{first_view, producer_alone, reader_alone, without_reader};
+ghost use Rattle.ring_runs.specs.Views.{first_view, producer_alone, reader_alone, without_reader, without_share};
 ghost use Rattle.ring_runs.specs.Views.{spent, with_claims_of, with_reader_of};
 
 use crate::rule::RunsRule;
@@ -65,7 +65,7 @@ pub fn split_reader(ring: &SharedRuns, seat: &mut RunsSeat) -> RunsSeat
 pub struct OneProducer;
 
 impl Split<View> for OneProducer {
-    ghost left = { λ v. v };
+    ghost left = { without_share };
 
     ghost right = { producer_alone };
 }
@@ -76,13 +76,14 @@ impl Join<View> for OneProducer {
     ghost spent = { spent };
 }
 
-/// Makes one more of many producers, with no claims.
+/// Makes one more of many producers, with one of this one's shares and no claims.
 pub fn split_producer(ring: &SharedRuns, seat: &mut RunsSeat) -> RunsSeat
     requires table { seat.old.table_id ≡ ring.now.table_id }
     requires words { 0 < ring.now.table_id.words }
     requires many { seat.old.me.0.alone ≡ false }
+    requires shares { 1 < seat.old.me.0.shares }
     ensures seat { IsSameSeat seat.old seat.new }
-    ensures left { seat.new.me ≡ seat.old.me }
+    ensures left { seat.new.me ≡ (without_share seat.old.me.0, seat.old.me.1) }
     ensures right { (result.table_id ≡ seat.old.table_id) × (result.me ≡ (producer_alone seat.old.me.0, [])) }
 {
     ring.split_seat::<OneProducer>(seat)

@@ -58,6 +58,8 @@ pub struct View {
     /// In words.
     pub capacity: u64,
     pub produces: bool,
+    /// Its shares of the ring. All seats together have 65,536.
+    pub shares: u64,
     /// It is the only producer, and keeps the tail to itself.
     pub alone: bool,
     /// The tail, if it is alone.

@@ -2,7 +2,7 @@ use Rattle.std.proofs.Common.{ℕ, refl, arith}
 use Rattle.ring_runs.specs.Rule.{head_at}
 use Rattle.ring_runs.specs.Steps.{LoadsHead}
 use Rattle.ring_runs.proofs.Calls.{same_seat, step_at}
-use Rattle.ring_runs.proofs.ClaimLemmas.{loads_head}
+use Rattle.ring_runs.proofs.LoadLemmas.{loads_head}
 use Rattle.ring_runs.proofs.steps.producer.load_head.Goals as goal
 
 pub load-requires : goal.load-requires

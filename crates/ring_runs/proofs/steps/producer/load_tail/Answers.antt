@@ -2,7 +2,7 @@ use Rattle.std.proofs.Common.{ℕ, refl, ap, arith}
 use Rattle.ring_runs.specs.Rule.{tail_at}
 use Rattle.ring_runs.specs.Steps.{LoadsTail, Mine}
 use Rattle.ring_runs.proofs.Calls.{same_seat, step_at}
-use Rattle.ring_runs.proofs.ClaimLemmas.{loads_tail}
+use Rattle.ring_runs.proofs.LoadLemmas.{loads_tail}
 use Rattle.ring_runs.proofs.steps.producer.load_tail.Goals as goal
 
 pub load-requires : goal.load-requires
