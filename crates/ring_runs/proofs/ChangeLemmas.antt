@@ -6,8 +6,8 @@ use mathlib.Core.Option.{Option, some, some-injective, some-ne-none}
 use lib.ListN.{get_elem?}
 use Rattle.std.proofs.lemmas.Bool.{cases_lt}
 use Rattle.atomic_table.proofs.Lists.{at_set, set_here, set_else}
-use Rattle.ring_runs.specs.Records.{Entry}
-use Rattle.ring_runs.specs.Cells.{Begins, Cells, Claim, IsOf, IsUnsettled, patched, ShowClaim, Shows, ShowStage, ShowsWord, Stage}
+use Rattle.ring_runs.specs.Records.{Entry, total_words}
+use Rattle.ring_runs.specs.Cells.{Begins, Cells, Claim, IsOf, IsUnsettled, patched, Published, ShowClaim, Shows, ShowStage, ShowsWord, Stage}
 use Rattle.ring_runs.specs.Rule.{head_at, IsCovered, IsMemory, Kept, Knows, tail_at}
 use Rattle.ring_runs.specs.Views.{Reader, View, changed, new_claim}
 use Rattle.ring_runs.specs.Steps.{HasClaim, IsAt}
@@ -127,6 +127,10 @@ was_there l k j c d x at same un e ux = ⊎_elim
     (λ (t : (j ≢ k) × (get_elem? l j ≡ some x)). (x, t.1, ux, refl))
     (at_set l k j d x e)
 
+-- the words of a published claim are those of its records
+abbrev IsSized : Claim → Type 0
+IsSized c = c.stage ≡ Published → total_words c.entries ≡ length c.words
+
 -- a claim of a view that is not published
 module _ (n : ℕ) (words : List ℕ) (homes : List (Option ℕ)) (views : List View) (r : Kept n words homes views) (id : ℕ)
     (v : View) (at : get_elem? views id ≡ some v) where
@@ -137,11 +141,11 @@ module _ (n : ℕ) (words : List ℕ) (homes : List (Option ℕ)) (views : List 
   -- what the seat knows then
   pub changer : (k : ℕ) (c : Claim) → HasClaim v k c → IsUnsettled c.stage → (new : Cells)
       (mine : AreOf id c.place (length c.words) r.cells) (t : Stage) (es : List Entry) (ws : List ℕ)
-      → length ws ≡ length c.words
+      → length ws ≡ length c.words → (t ≡ Published → total_words es ≡ length ws)
       → ShowStage (cells_changed n id c.place (length c.words) new r.cells mine) id c.place es ws t
       → Knows r.alone (cells_changed n id c.place (length c.words) new r.cells mine) r.tail r.writer r.reader id
       r.consumer (changed k (new_claim t c.place es ws) v)
-  changer k c has un new mine t es ws size shows =
+  changer k c has un new mine t es ws size sizes shows =
       let own = r.each id v at in
       let d : Claim = new_claim t c.place es ws in
       let most = (own.claims k c has).0 in
@@ -159,6 +163,10 @@ module _ (n : ℕ) (words : List ℕ) (homes : List (Option ℕ)) (views : List 
                   (λ ux. change_spares n id c.place len new r.cells mine id x.place
                   (λ s. h.0 (own.apart j k x c h.1 has ux un s.1))) o.1,
             ))
+            (at_set v.claims k j d x e);
+        sized = λ j x e p. ⊎_elim
+            (λ (h : (j ≡ k) × (d ≡ x)). subst IsSized h.1 sizes p)
+            (λ (h : (j ≢ k) × (get_elem? v.claims j ≡ some x)). own.sized j x h.1 p)
             (at_set v.claims k j d x e);
         apart = λ i j x y e f ux uy is.
             let a = was_there v.claims k i c d x has refl un e ux in

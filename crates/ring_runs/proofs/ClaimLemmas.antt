@@ -8,7 +8,7 @@ use Rattle.std.proofs.lemmas.Nat.{mod_below}
 use Rattle.std.proofs.lemmas.List.{set-get_or}
 use Rattle.atomic_table.specs.Table.{State, Allows, keeps}
 use Rattle.atomic_table.proofs.Lists.{at_snoc, at_longer, at_last, set_here, exchanged}
-use Rattle.ring_runs.specs.Cells.{Cells, claimed_cells, Claim, free, Open, patched, Shows, ShowClaim, ShowsWord}
+use Rattle.ring_runs.specs.Cells.{Cells, claimed_cells, Claim, free, IsUnsettled, Open, patched, Shows, ShowClaim, ShowsWord}
 use Rattle.ring_runs.specs.Rule.{IsMemory, Knows, IsCovered, Kept, head_at, last_position, table_words, tail_at}
 use Rattle.ring_runs.specs.Views.{Reader, View, new_claim, with_claims}
 use Rattle.ring_runs.specs.Steps.{Mine, Claims, ClaimsAlone, ClaimsShared}
@@ -131,6 +131,10 @@ claimant n new ys words homes views r id v at produces most alone_new =
           ))
           (λ (is : c ≡ x). subst (λ (y : Claim). (0 < length y.words) × ShowClaim cells' id y) is
           (most, open_patched r.cells id r.tail ys))
+          (at_snoc v.claims c x j e);
+      sized = λ j x e p. ⊎_elim
+          (λ (old : get_elem? v.claims j ≡ some x). k.sized j x old p)
+          (λ (is : c ≡ x). absurd (subst IsUnsettled (ap (λ (z : Claim). z.stage) is ∙ p) tt))
           (at_snoc v.claims c x j e);
       apart = λ i j x y e f un un' is. ⊎_elim
           (λ (a : get_elem? v.claims i ≡ some x). ⊎_elim

@@ -6,7 +6,7 @@ use Rattle.std.proofs.lemmas.Nat.{mod_below}
 use Rattle.std.proofs.lemmas.List.{length-map, set-get_or}
 use Rattle.atomic_table.specs.Table.{State, Allows, Act, homes_after, carried_after}
 use Rattle.atomic_table.proofs.Lists.{at_map}
-use Rattle.ring_runs.specs.Records.{AreRecords, Entry}
+use Rattle.ring_runs.specs.Records.{AreRecords, Entry, total_words}
 use Rattle.ring_runs.specs.Spots.{spots, values_of, laid, takes_spots, gives_first}
 use Rattle.ring_runs.specs.Cells.{Begins, Cells, Claim, claimed, claimed_cells, ends, held, held_cells, IsRun, IsUnsettled, Open, Out, patched, Published, run_cells, Shows, ShowStage, Stage}
 use Rattle.ring_runs.specs.Rule.{head_at, Kept, table_words, tail_at}
@@ -14,7 +14,7 @@ use Rattle.ring_runs.specs.Views.{Reader, View, changed, new_claim}
 use Rattle.ring_runs.specs.Steps.{GivesBack, IsAt, Mine, Publishes, Takes}
 use Rattle.ring_runs.proofs.SpotLemmas.{one_position, Away, away_in, values_spots, length_laid, laid_else, laid_here, length_homes, carried_takes, takes_else, AreHome, valid_takes, carried_gives, valid_gives, homes_gives}
 use Rattle.ring_runs.proofs.ListLemmas.{word_at, below_length}
-use Rattle.ring_runs.proofs.RecordLemmas.{same_records}
+use Rattle.ring_runs.proofs.RecordLemmas.{long_records, same_records}
 use Rattle.ring_runs.proofs.CellLemmas.{begins_not_of, has_here, open_patched, out_patched, patched_here, run_has, run_inside, run_there, says_shown, word_within}
 use Rattle.ring_runs.proofs.KeptLemmas.{kept_producing, Ok}
 use Rattle.ring_runs.proofs.ChangeLemmas.{area_of, AreOf, cells_changed, change_covers, change_grows, change_spares, changer, Edits, Lies, lies_in, memory_changed, one_claim}
@@ -37,12 +37,12 @@ module _ (n slots id : ℕ) (me : Mine) (i k : ℕ) (c : Claim) (cap : me.0.capa
 
   -- its cells become these
   module _ (new : Cells) (u : Stage) (es : List Entry) (ws words' : List ℕ) (homes' : List (Option ℕ)) where
-    kept_at : length ws ≡ length c.words
+    kept_at : length ws ≡ length c.words → (u ≡ Published → total_words es ≡ length ws)
         → ShowStage (cells_changed n id c.place (length c.words) new r.cells mine_at) id c.place es ws u
         → Edits n c.place (length c.words) s.words words' s.homes homes'
         (cells_changed n id c.place (length c.words) new r.cells mine_at) r.consumer
         → Kept n words' homes' (set s.views id (changed k (new_claim u c.place es ws) me.0))
-    kept_at size shows e =
+    kept_at size sizes shows e =
         let len : ℕ = length c.words in
         let m' = memory_changed n id c.place len new r.cells mine_at r.alone s.words words' s.homes homes' r.tail
         r.consumer
@@ -55,7 +55,7 @@ module _ (n slots id : ℕ) (me : Mine) (i k : ℕ) (c : Claim) (cap : me.0.capa
           tails = λ _ _ _ _. refl;
         })
         (λ q h. change_covers n s.words s.homes s.views r id me.0 at k c is.has u es ws size q (r.covered q h))
-        (changer n s.words s.homes s.views r id me.0 at k c is.has unsettled new mine_at u es ws size shows)
+        (changer n s.words s.homes s.views r id me.0 at k c is.has unsettled new mine_at u es ws size sizes shows)
         refl
 
 -- ---- the slots of an open claim are taken
@@ -90,7 +90,7 @@ takes_claim n slots id me i k c cap none_held is s r wide at small =
     (omega arith))) in
     let w : View = changed k (new_claim Out p [] c.words) me.0 in
     let kept = kept_at n slots id me i k c cap Open tt is s r at new Out [] c.words s.words homes' refl
-    (out_patched r.cells id p c.words) (record {
+    (λ p. absurd (subst IsUnsettled p tt)) (out_patched r.cells id p c.words) (record {
       wide = refl;
       long = length_homes s.homes me.1 act;
       tail = refl;
@@ -185,14 +185,16 @@ module _ (n slots id : ℕ) (me : Mine) (i k : ℕ) (c : Claim) (ws : List ℕ) 
 
   -- the claim is at the stage t, with these cells
   kept_given : (t : Stage) (new : Cells) (es : List Entry) (words' : List ℕ)
+      → (t ≡ Published → total_words es ≡ length ws)
       → ShowStage (cells_changed n id c.place (length c.words) new r.cells mine_out) id c.place es ws t
       → Edits n c.place (length c.words) s.words words' s.homes homes_given
       (cells_changed n id c.place (length c.words) new r.cells mine_out) r.consumer
       → Kept n words' (homes_after s.homes me.1 (gives_first ws))
       (set s.views id (changed k (new_claim t c.place es ws) me.0))
-  kept_given t new es words' shows e =
+  kept_given t new es words' sizes shows e =
       subst (λ hs. Kept n words' hs (set s.views id (changed k (new_claim t c.place es ws) me.0))) (sym homes_are)
-      (kept_at n slots id me i k c has.capacity Out tt has.is s r at new t es ws words' homes_given has.size shows e)
+      (kept_at n slots id me i k c has.capacity Out tt has.is s r at new t es ws words' homes_given has.size sizes
+      shows e)
 
   told_given : (t : Stage) (es : List Entry) (j : ℕ) (d : Claim) → IsAt Out i me.0 j d
       → changed k (new_claim t c.place es ws) me.0 ≡ changed j (new_claim t d.place es (values_of me.1)) me.0
@@ -223,7 +225,8 @@ gives_claim n slots id me i k c ws has s r wide at small =
     let homes' : List (Option ℕ) = laid n p (map some ws) s.homes in
     let shows : ShowStage cells' id p [] ws Open =
     subst (λ z. ShowStage (patched p z new r.cells) id p [] ws Open) size (open_patched r.cells id p ws) in
-    let kept = kept_given n slots id me i k c ws has s r at Open new [] s.words shows (record {
+    let kept = kept_given n slots id me i k c ws has s r at Open new [] s.words
+    (λ p. absurd (subst IsUnsettled p tt)) shows (record {
       wide = refl;
       long = length_laid n p (map some ws) s.homes;
       tail = refl;
@@ -278,7 +281,8 @@ publishes n slots id me i k c ws has narrow es records stop stop_is s r wide at 
     let there = run_has cells' p es ws run in
     let word_there : slice_index words' (p % n) ≡ p + length ws =
     ap (slice_index words') (sym i_is) ∙ get_or-set_same s.words i stop 0 (omega arith) ∙ omega arith in
-    let kept = kept_given n slots id me i k c ws has s r at Published new es words' run (record {
+    let kept = kept_given n slots id me i k c ws has s r at Published new es words'
+    (λ _. sym (long_records (8 * n) es ws records)) run (record {
       wide = length-set s.words i stop;
       long = length_laid n p (map some ws) s.homes;
       tail = get_or-set_other s.words i (tail_at n) stop 0 (λ e. omega arith);

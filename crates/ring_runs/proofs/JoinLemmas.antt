@@ -239,6 +239,7 @@ spent_knows : (alone : Bool) (cells : Cells) (tail writer reader id : ℕ) (r : 
 spent_knows alone cells tail writer reader id r = record {
   seen = omega arith;
   claims = λ k c e. absurd (some-ne-none c (sym e));
+  sized = λ k c e. absurd (some-ne-none c (sym e));
   apart = λ i k x y e f ux uy is. absurd (some-ne-none x (sym e));
   only = λ un. absurd (true≢false (sym un));
   many = λ un _. absurd (true≢false (sym un));
@@ -280,6 +281,7 @@ joins_reader n id v other w consumes idle s r at apart at_set_other =
           (record {
             seen = own.seen;
             claims = own.claims;
+            sized = own.sized;
             apart = own.apart;
             only = own.only;
             many = own.many;
@@ -292,6 +294,7 @@ joins_reader n id v other w consumes idle s r at apart at_set_other =
           let k = r.each j u there in record {
             seen = k.seen;
             claims = k.claims;
+            sized = k.sized;
             apart = k.apart;
             only = k.only;
             many = k.many;
@@ -331,6 +334,11 @@ joins_producer n id v other w produces s r at apart at_set_other =
                 (λ (h : (i : ℕ) × (k ≡ length v.claims + i) × (get_elem? w.claims i ≡ some c)).
                 claim_joined other id r.cells other id (renamed_here other id) c (theirs.claims h.0 c h.2))
                 (at_either v.claims w.claims k c e);
+            sized = λ k c e p. ⊎_elim
+                (λ h. own.sized k c h p)
+                (λ (h : (i : ℕ) × (k ≡ length v.claims + i) × (get_elem? w.claims i ≡ some c)).
+                theirs.sized h.0 c h.2 p)
+                (at_either v.claims w.claims k c e);
             apart = claims_apart r.cells id other v w apart own.claims theirs.claims own.apart theirs.apart;
             only = own.only;
             many = own.many;
@@ -343,6 +351,7 @@ joins_producer n id v other w produces s r at apart at_set_other =
           let k = r.each j u there in record {
             seen = k.seen;
             claims = λ i c e. claim_joined other id r.cells j j (renamed_else other id j ne) c (k.claims i c e);
+            sized = k.sized;
             apart = k.apart;
             only = k.only;
             many = k.many;

@@ -86,6 +86,7 @@ kept_producing n words homes views r id v w at words' homes' cells' tail' m goes
           stage_spared r.cells cells' j c.place c.entries c.words c.stage goes.grows
               (λ un. goes.others j c.place t.0) o.1,
         );
+        sized = k.sized;
         apart = k.apart;
         only = λ p. let o = k.only p in (o.0, o.1, o.2 ∙ sym (goes.tails j t.0 o.0 o.1));
         many = k.many;

@@ -33,7 +33,7 @@ stage_said cells id p y es ws Out most h s =
 stage_said cells id p y es ws Published most h s = run_begins cells p es ws most h
 
 -- the run that has the position q
-run_at : (a : ℕ) (xs : List Run) (scan q : ℕ) → AreRuns a xs scan → a ≤ q → q < scan
+pub run_at : (a : ℕ) (xs : List Run) (scan q : ℕ) → AreRuns a xs scan → a ≤ q → q < scan
     → (k : ℕ) × (x : Run) × (get_elem? xs k ≡ some x) × (x.place ≤ q) × (q < x.place + total_words x.entries)
 run_at a [] scan q h from to = absurd (omega arith)
 run_at a (x ∷ xs) scan q h from to =

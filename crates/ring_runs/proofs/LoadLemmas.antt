@@ -36,6 +36,7 @@ loads_head n slots id me s r wide at small =
     let facts : Knows r.alone r.cells r.tail r.writer r.reader id r.consumer w = record {
       seen = omega arith;
       claims = own.claims;
+      sized = own.sized;
       apart = own.apart;
       only = own.only;
       many = own.many;

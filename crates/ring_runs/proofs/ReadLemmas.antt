@@ -44,6 +44,7 @@ kept_reading n words homes views r id v at consumes words' homes' u m rises =
           (λ i. (sym t.0 i, t.1 i)) (record {
             seen = omega arith;
             claims = own.claims;
+            sized = own.sized;
             apart = own.apart;
             only = own.only;
             many = own.many;
@@ -57,6 +58,7 @@ kept_reading n words homes views r id v at consumes words' homes' u m rises =
           let k_seen = k.seen in record {
             seen = omega arith;
             claims = k.claims;
+            sized = k.sized;
             apart = k.apart;
             only = k.only;
             many = k.many;

@@ -56,6 +56,7 @@ splits_reader n id v consumes s r at =
           (λ i. (sym h.0 i, h.1 i)) (record {
             seen = own.seen;
             claims = own.claims;
+            sized = own.sized;
             apart = own.apart;
             only = own.only;
             many = own.many;
@@ -68,6 +69,7 @@ splits_reader n id v consumes s r at =
           let k = r.each j u h.1 in record {
             seen = k.seen;
             claims = k.claims;
+            sized = k.sized;
             apart = k.apart;
             only = k.only;
             many = k.many;
@@ -82,6 +84,7 @@ splits_reader n id v consumes s r at =
           (λ i. (sym t.0 i, t.1 i)) (record {
             seen = own.seen;
             claims = λ k c e. absurd (some-ne-none c (sym e));
+            sized = λ k c e. absurd (some-ne-none c (sym e));
             apart = λ i k x y e f ux uy is. absurd (some-ne-none x (sym e));
             only = λ un. absurd (true≢false (sym un));
             many = λ un _. absurd (true≢false (sym un));
@@ -122,6 +125,7 @@ splits_producer n id v shared more s r at =
           (λ i. (sym h.0 i, h.1 i)) (record {
             seen = own.seen;
             claims = own.claims;
+            sized = own.sized;
             apart = own.apart;
             only = own.only;
             many = own.many;
@@ -137,6 +141,7 @@ splits_producer n id v shared more s r at =
           (λ i. (sym t.0 i, t.1 i)) (record {
             seen = own.seen;
             claims = λ k c e. absurd (some-ne-none c (sym e));
+            sized = λ k c e. absurd (some-ne-none c (sym e));
             apart = λ i k x y e f ux uy is. absurd (some-ne-none x (sym e));
             only = λ un. absurd (true≢false (sym un ∙ shared));
             many = own.many;
@@ -196,6 +201,7 @@ shares_tail n slots id me tail alone tail_is s r wide at small =
             (λ i. (sym h.0 i, h.1 i)) (record {
               seen = own.seen;
               claims = own.claims;
+              sized = own.sized;
               apart = own.apart;
               only = λ un. absurd (true≢false (sym un));
               many = λ _ _. refl;
@@ -208,6 +214,7 @@ shares_tail n slots id me tail alone tail_is s r wide at small =
             let k = r.each j u h.1 in record {
               seen = k.seen;
               claims = k.claims;
+              sized = k.sized;
               apart = k.apart;
               only = λ p. absurd (h.0 ((k.only p).1 ∙ sym mine.1));
               many = λ _ _. refl;
@@ -275,6 +282,7 @@ opens n words items some_words small words_are items_are = record {
       subst (λ (z : ℕ × View). Knows true (λ _. free) 0 0 0 z.0 first_reader z.1) (λ i. (sym t.0 i, t.1 i)) (record {
         seen = omega arith;
         claims = λ k c e. absurd (some-ne-none c (sym e));
+        sized = λ k c e. absurd (some-ne-none c (sym e));
         apart = λ i k x y e f ux uy is. absurd (some-ne-none x (sym e));
         only = λ _. (refl, refl, refl);
         many = λ _ un. absurd (true≢false un);

@@ -1,9 +1,10 @@
 -- What a ring leaves that is taken apart. Positions count words.
-use Rattle.std.specs.Prelude.{◌≡◌, ℕ, ◌+◌, ◌-◌, ◌%◌, ◌≤◌, ◌<◌, List, true, false, length, slice_index}
+use Rattle.std.specs.Prelude.{◌≡◌, ℕ, zero, suc, ◌+◌, ◌*◌, ◌-◌, ◌%◌, ◌≤◌, ◌<◌, List, [], ◌∷◌, true, false, drop, length, slice_index}
 use mathlib.Core.Option.{some}
 use lib.ListN.{get_elem?}
 use Rattle.ring_layout.specs.Refusals.{all_shares}
 use Rattle.ring_runs.specs.Cells.{Claim, Published}
+use Rattle.ring_runs.specs.Records.{AreRecords, Entry}
 use Rattle.ring_runs.specs.Rule.{Covers, head_at, tail_at}
 use Rattle.ring_runs.specs.Steps.{HasClaim}
 use Rattle.ring_runs.specs.Views.{View}
@@ -20,8 +21,14 @@ pub record IsLeftAt (n : ℕ) (v : View) (slots : List ℕ) (q : ℕ) : Type 0 w
   pub covers : Covers v q
   pub slot : get_elem? slots (q % n) ≡ some (slice_index covers.claim.words (q - covers.claim.place))
 
+-- the words of the slots of this many positions from p on
+abbrev pub slots_from : ℕ → List ℕ → ℕ → ℕ → List ℕ
+slots_from n slots p zero = []
+slots_from n slots p (suc k) = slice_index slots (p % n) ∷ slots_from n slots (p + 1) k
+
 -- The words and slots of a ring whose last seat knew v. Each slot from the head to the tail has the word of a published
--- claim. A producer that is alone keeps the tail in its view.
+-- claim. The slots from the head to the scan have the words that the consumer found and did not take. The slots from
+-- the scan to the tail have whole records, one after another. A producer that is alone keeps the tail in its view.
 pub record Leaves (n : ℕ) (v : View) (words slots : List ℕ) : Type 0 where
   pub tail : ℕ
   pub own_tail : v.alone ≡ true → tail ≡ v.tail
@@ -31,3 +38,5 @@ pub record Leaves (n : ℕ) (v : View) (words slots : List ℕ) : Type 0 where
   pub to_tail : v.reader.scan ≤ tail
   pub room : tail ≤ v.reader.head + n
   pub rest : (q : ℕ) → v.reader.head ≤ q → q < tail → IsLeftAt n v slots q
+  pub found : slots_from n slots v.reader.head (v.reader.scan - v.reader.head) ≡ drop v.reader.head v.reader.log
+  pub records : (es : List Entry) × AreRecords (8 * n) es (slots_from n slots v.reader.scan (tail - v.reader.scan))

@@ -5,7 +5,7 @@ use lib.ListN.{get_elem?}
 use Rattle.ring_layout.specs.Lists.{total}
 use Rattle.ring_layout.specs.Refusals.{all_shares}
 use Rattle.ring_runs.specs.Records.{total_words}
-use Rattle.ring_runs.specs.Cells.{Cells, Claim, free, Has, IsRun, IsUnsettled, Run, ShowClaim, Shows, ShowsWord}
+use Rattle.ring_runs.specs.Cells.{Cells, Claim, free, Has, IsRun, IsUnsettled, Published, Run, ShowClaim, Shows, ShowsWord}
 use Rattle.ring_runs.specs.Views.{Reader, View}
 
 -- the index of the tail's word, which comes with the head's word after the n words of the buffer, as in the formats
@@ -57,6 +57,9 @@ pub record IsMemory (n : ℕ) (alone : Bool) (words : List ℕ) (homes : List (O
 pub record Knows (alone : Bool) (cells : Cells) (tail writer reader id : ℕ) (r : Reader) (v : View) : Type 0 where
   pub seen : v.head_seen ≤ r.head
   pub claims : (k : ℕ) (c : Claim) → get_elem? v.claims k ≡ some c → (0 < length c.words) × ShowClaim cells id c
+  -- the words of a published claim are those of its records
+  pub sized : (k : ℕ) (c : Claim) → get_elem? v.claims k ≡ some c → c.stage ≡ Published
+      → total_words c.entries ≡ length c.words
   -- no two claims that are not published have the same place
   pub apart : (j k : ℕ) (x y : Claim) → get_elem? v.claims j ≡ some x → get_elem? v.claims k ≡ some y
       → IsUnsettled x.stage → IsUnsettled y.stage → x.place ≡ y.place → j ≡ k
