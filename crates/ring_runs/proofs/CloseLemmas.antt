@@ -1,5 +1,5 @@
 -- What a ring leaves that is taken apart.
-use Rattle.std.proofs.Common.{◌≡◌, ◌≢◌, ◌⊎◌, ℕ, zero, suc, ◌+◌, ◌*◌, ◌-◌, ◌%◌, ◌≤◌, ◌<◌, Bool, true, false, true≢false, List, [], ◌∷◌, ◌++◌, set, get_or, slice_index, length, drop, length-drop, sym, refl, ap, subst, ⊎_elim, inl, inr, arith, ◌∙◌}
+use Rattle.std.proofs.Common.{◌≡◌, ◌≢◌, ◌⊎◌, ℕ, zero, suc, ◌+◌, ◌*◌, ◌-◌, ◌%◌, ◌≤◌, ◌<◌, Bool, true, false, List, [], ◌∷◌, ◌++◌, set, get_or, slice_index, length, drop, length-drop, sym, refl, ap, subst, ⊎_elim, inl, inr, arith, ◌∙◌}
 use mathlib.Core.Logic.{dite}
 use native.Mathlib.Decide.{ℕ_discrete}
 use mathlib.Core.Option.{Option, some, some-injective, some-ne-none}
@@ -11,8 +11,8 @@ use Rattle.atomic_table.proofs.Lists.{set_else}
 use Rattle.ring_layout.specs.Lists.{total}
 use Rattle.ring_layout.specs.Refusals.{all_shares}
 use Rattle.ring_layout.proofs.Sums.{total-set, total-zero}
-use Rattle.ring_runs.specs.Cells.{BeginsAs, begun, Cells, Claim, ends, IsRun, older, Published, Run, Says, ShowStage, ShowsWord}
-use Rattle.ring_runs.specs.Closing.{IsLast, IsLeftAt, Leaves, slots_from}
+use Rattle.ring_runs.specs.Cells.{BeginsAs, begun, Cells, Claim, ends, IsRun, older, Run, Says, ShowStage, ShowsWord}
+use Rattle.ring_runs.specs.Closing.{IsLast, Leaves, slots_from}
 use Rattle.ring_runs.specs.Records.{AreRecords, Entry, total_words}
 use Rattle.ring_runs.specs.Rule.{AreRuns, Covers, IsMemory, Kept, Knows, head_at, shares_of, tail_at}
 use Rattle.ring_runs.specs.Steps.{HasClaim}

@@ -1,5 +1,5 @@
 -- Two seats that are joined into one.
-use Rattle.std.proofs.Common.{◌≡◌, ◌≢◌, ℕ, ◌+◌, ◌%◌, ◌<◌, List, [], ◌∷◌, ◌++◌, Bool, true, false, true≢false, cond, eqb, set, length, sym, refl, ap, subst, ⊎_elim, inl, inr, eq-eqb, ne_eqb, arith, ◌∙◌}
+use Rattle.std.proofs.Common.{◌≡◌, ◌≢◌, ℕ, ◌+◌, ◌%◌, ◌<◌, List, [], Bool, true, false, true≢false, cond, eqb, set, length, sym, refl, ap, subst, ⊎_elim, inl, inr, eq-eqb, ne_eqb, arith, ◌∙◌}
 use mathlib.Core.Logic.{dite}
 use native.Mathlib.Decide.{ℕ_discrete}
 use mathlib.Core.Option.{Option, some, some-injective, some-ne-none}
@@ -7,13 +7,12 @@ use lib.ListN.{get_elem?}
 use Rattle.atomic_table.specs.Table.{Joins}
 use Rattle.atomic_table.proofs.Lists.{at_set, at_longer, set_else, set_here}
 use Rattle.ring_runs.specs.Cells.{Begins, Cell, Cells, Claim, claimed, ends, free, held, IsOf, IsUnsettled, older, Open, Out, Published, published, ShowClaim, Shows, ShowStage, ShowsWord, Stage}
-use Rattle.ring_runs.specs.Claiming.{HasBody, IsOpenAt, KeepsOpen}
+use Rattle.ring_runs.specs.Claiming.{KeepsOpen}
 use Rattle.ring_runs.specs.Records.{Entry}
 use Rattle.ring_layout.specs.Lists.{total}
 use Rattle.ring_layout.specs.Refusals.{all_shares}
 use Rattle.ring_layout.proofs.Sums.{total-set}
-use Rattle.ring_runs.specs.Rule.{Covers, IsCovered, IsMemory, Kept, Knows, shares_of}
-use Rattle.ring_runs.specs.Steps.{HasClaim}
+use Rattle.ring_runs.specs.Rule.{Covers, IsCovered, IsMemory, Knows, shares_of}
 use Rattle.ring_runs.specs.Views.{Reader, View, spent, with_claims_of, with_reader_of}
 use Rattle.ring_runs.proofs.CellLemmas.{begins_not_of, Grows, has_grown, of_one, of_unsettled, run_grown, taken_grown}
 use Rattle.ring_runs.proofs.KeptLemmas.{Ok}
