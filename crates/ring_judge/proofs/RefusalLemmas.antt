@@ -88,7 +88,7 @@ not_full_more C s p len count d are some other now = let k : ℕ = count - 1 in
           (λ differs. are.later n differs le full) (eq-or-lt_of_le at_least)) (cases_lt n count);
     }
 
--- the claim that stands for what is past the end of a list
+-- the claim in place of what is past the end of a list
 abbrev pub nowhere : RingClaim
 nowhere = record { producer = 0; place = 0; type_id = pos 0; length = 0; fate = Open }
 

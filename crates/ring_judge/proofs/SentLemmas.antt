@@ -37,6 +37,6 @@ pub count_more : (run : List QueueLine) (k : ℕ) (d : QueueLine) → k < length
 count_more run k d lt = ap length (sent_more run k d lt)
     ∙ length-append (sent_in (take k run)) (sent_in (get_or run k d ∷ []))
 
--- the line that stands for what is past the end of a run
+-- the line in place of what is past the end of a run
 abbrev pub past : QueueLine
 past = Sent record { producer = 0; number = 0; body = 0 }

@@ -60,6 +60,6 @@ first_refused C start run k d s lt before refused = let line = get_or run k d in
           ∙ append_assoc (take k run) (line ∷ []) (drop (k + 1) run))) all);
     }
 
--- the line that stands for what is past the end of a run
+-- the line in place of what is past the end of a run
 abbrev pub past : RingLine
 past = Claimed record { producer = 0; place = 0; type_id = pos 0; length = 0; fate = Open }

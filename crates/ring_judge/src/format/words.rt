@@ -45,7 +45,7 @@ impl<'a> Words<'a> {
         u16::try_from(number).map_err(|_too_large| LineFault::TooLarge)
     }
 
-    /// Takes a number, or `-`, which stands for no number.
+    /// Takes a number, or `-`, which means that there is none.
     pub fn number_or_dash(&mut self) -> Result<Option<u64>, LineFault> {
         match self.next_word() {
             Some(b"-") => Ok(None),
