@@ -57,19 +57,26 @@ def read(text):
     return *shape, lines
 
 
+def next_claim(log):
+    """Returns the index of the first claim of a log, and its place, or None if there is none."""
+    return next(((at, int(words[2])) for at, (_, words) in enumerate(log) if words[0] in CLAIMS), None)
+
+
 def in_order(lines):
     """Returns the lines in the order in which a first wrong one is looked for: claims by their places, each refusal
-    before the next claim of its producer, and then the consumer's lines."""
-    last, next_claim, keys = {}, {}, {}
-    for number, words in lines:
-        if words[0] in CLAIMS:
-            last[words[1]] = keys[number] = max(int(words[2]), last.get(words[1], 0))
-    for number, words in reversed(lines):
-        if words[0] in CLAIMS:
-            next_claim[words[1]] = keys[number]
-        elif words[0] == "full":
-            keys[number] = next_claim.get(words[1], 2**64 - 1)
-    return sorted(lines, key=lambda it: keys.get(it[0], 2**64 - 1))
+    before the next claim of its producer, the refusals after the last claims by their producers, and then the
+    consumer's lines."""
+    logs, order = {}, []
+    for it in lines:
+        producer = -1 if it[1][0] in CONSUMER else int(it[1][1])
+        logs.setdefault(producer, []).append(it)
+    consumer = logs.pop(-1, [])
+    while any(next_claim(log) for log in logs.values()):
+        producer = min((next_claim(log)[1], it) for it, log in logs.items() if next_claim(log))[1]
+        end = next_claim(logs[producer])[0] + 1
+        order += logs[producer][:end]
+        del logs[producer][:end]
+    return [*order, *(it for producer in sorted(logs) for it in logs[producer]), *consumer]
 
 
 class Search:

@@ -16,8 +16,8 @@ use fault::CheckFault;
 use options::{Format, Options};
 use report::Report;
 use ring_judge::{
-    Kind, RingLine, RingShape, Verdict, arranged, judge_broadcast, judge_queue, judge_ring,
-    kind_of, parse_broadcast, parse_queue, parse_ring, ring_before,
+    Kind, RingLine, RingShape, Verdict, judge_broadcast, judge_queue, judge_threads, kind_of,
+    parse_broadcast, parse_queue, parse_ring, ring_before,
 };
 use std::alloc::Global;
 use std::env::Env;
@@ -138,15 +138,14 @@ fn ring_report<'a>(
         Ok(parsed) => parsed,
         Err(bad) => return Err(CheckFault::of_line(file, bad)),
     };
-    let order = arranged(alloc, parsed.as_slice())?;
-    let lines: Vec<RingLine> = order.iter().map(|it| it.line).collect(alloc)?;
     let RingShape { capacity, start } = shape;
-    let verdict = judge_ring(alloc, capacity, start, lines.as_slice())?;
-    let unexplained = match verdict {
+    let judged = judge_threads(alloc, capacity, start, parsed.as_slice())?;
+    let lines: Vec<RingLine> = judged.lines.iter().map(|it| it.line).collect(alloc)?;
+    let unexplained = match judged.verdict {
         Verdict::Yes => None,
         Verdict::No(at) => {
             let ring = ring_before(alloc, capacity, start, lines.as_slice(), at)?;
-            match order.get(at) {
+            match judged.lines.get(at) {
                 Some(it) => Some((it.at, why_ring::reason(alloc, &ring, &it.line)?)),
                 None => None,
             }

@@ -12,3 +12,8 @@ pub mod HeadLemmas
 pub mod RefusalLemmas
 pub mod WordLemmas
 pub mod ThreadLemmas
+pub mod HistoryLemmas
+pub mod FirstLemmas
+pub mod OrderLemmas
+pub mod MergeLemmas
+pub mod TurnLemmas

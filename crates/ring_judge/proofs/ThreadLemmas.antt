@@ -1,15 +1,13 @@
--- The lines of threads, and how they are merged.
+-- The lines of threads.
 use Rattle.std.specs.Prelude.{◌==◌}
-use Rattle.std.proofs.Common.{◌≡◌, ℕ, ◌+◌, ◌<◌, ◌≤◌, List, [], ◌∷◌, ◌++◌, length, take, get_or, set, replicate, eqb, true, zero, suc, sym, refl, ap, ◌∙◌, ⊎_elim, subst, arith, get_or-set_other, get_or-set_same}
+use Rattle.std.proofs.Common.{◌≡◌, ℕ, ◌+◌, ◌<◌, List, [], ◌∷◌, ◌++◌, length, take, get_or, set, eqb, true, sym, refl, ap, ◌∙◌, ⊎_elim, arith, get_or-set_other, get_or-set_same}
 use Rattle.std.specs.List.{All}
-use Rattle.std.proofs.lemmas.Bool.{cases_eq, cases_lt, cond-true, cond-false, eq-eqb, ne_eqb, eqb-true}
-use Rattle.std.proofs.Math.Seq.{take-nil}
-use Rattle.std.proofs.lemmas.List.{take_more, take_all, append-nil, get_or_past, length-set, length-replicate, length-take-le}
-use Rattle.std.proofs.lemmas.List.Elements.{All-get_or, All-weaker, filter-append, filter_passes}
+use Rattle.std.proofs.lemmas.Bool.{cases_eq, cond-true, cond-false, eq-eqb, ne_eqb, eqb-true}
+use Rattle.std.proofs.lemmas.List.{take_more, append-nil, length-take-le}
+use Rattle.std.proofs.lemmas.List.Elements.{All-cons, All-head, All-nil, All-tail, All-weaker, filter-append, filter_passes}
 use Rattle.ring_judge.specs.declared.ring.RingLine.{RingLine}
 use Rattle.ring_judge.specs.declared.ring.order.NumberedLine.{NumberedLine}
 use Rattle.ring_judge.specs.Threads.{lines_of, numbered, thread_of}
-use Rattle.ring_judge.specs.Merged.{AreLists, AreMerged, TakesNext}
 
 numbered-append : (n : ℕ) (xs ys : List RingLine) → numbered n (xs ++ ys) ≡ numbered n xs ++ numbered (n + length xs) ys
 numbered-append n [] ys = ap (λ m. numbered m ys) (omega arith)
@@ -26,27 +24,40 @@ numbered_more run k d lt = ap (numbered 0) (take_more run k d lt)
     ∙ (numbered-append 0 (take k run) (get_or run k d ∷ [])
     ∙ ap (λ n. numbered 0 (take k run) ++ record { at = n; line = get_or run k d } ∷ []) (length_front run k lt))
 
-own_line : (t : ℕ) (l : NumberedLine) → thread_of l.line ≡ t → lines_of t (l ∷ []) ≡ l ∷ []
-own_line t l e = cond-true (eqb (thread_of l.line) t) (l ∷ []) [] (eq-eqb (thread_of l.line) t e)
+pub own : (t : ℕ) (l : NumberedLine) (lines : List NumberedLine) → thread_of l.line ≡ t
+    → lines_of t (l ∷ lines) ≡ l ∷ lines_of t lines
+own t l lines e = cond-true (eqb (thread_of l.line) t) (l ∷ lines_of t lines) (lines_of t lines)
+    (eq-eqb (thread_of l.line) t e)
 
-other_line : (t : ℕ) (l : NumberedLine) → (thread_of l.line ≡ t → ⊥) → lines_of t (l ∷ []) ≡ []
-other_line t l ne = cond-false (eqb (thread_of l.line) t) (l ∷ []) [] (ne_eqb (thread_of l.line) t ne)
+pub other : (t : ℕ) (l : NumberedLine) (lines : List NumberedLine) → (thread_of l.line ≡ t → ⊥)
+    → lines_of t (l ∷ lines) ≡ lines_of t lines
+other t l lines ne = cond-false (eqb (thread_of l.line) t) (l ∷ lines_of t lines) (lines_of t lines)
+    (ne_eqb (thread_of l.line) t ne)
 
-lines_of-append : (t : ℕ) (xs ys : List NumberedLine) → lines_of t (xs ++ ys) ≡ lines_of t xs ++ lines_of t ys
+pub lines_of-append : (t : ℕ) (xs ys : List NumberedLine) → lines_of t (xs ++ ys) ≡ lines_of t xs ++ lines_of t ys
 lines_of-append t xs ys = filter-append (λ l. thread_of l.line == t) xs ys
 
 pub own_more : (t : ℕ) (xs : List NumberedLine) (l : NumberedLine) → thread_of l.line ≡ t
     → lines_of t (xs ++ l ∷ []) ≡ lines_of t xs ++ l ∷ []
-own_more t xs l e = lines_of-append t xs (l ∷ []) ∙ ap (λ ys. lines_of t xs ++ ys) (own_line t l e)
+own_more t xs l e = lines_of-append t xs (l ∷ []) ∙ ap (λ ys. lines_of t xs ++ ys) (own t l [] e)
 
 pub other_more : (t : ℕ) (xs : List NumberedLine) (l : NumberedLine) → (thread_of l.line ≡ t → ⊥)
     → lines_of t (xs ++ l ∷ []) ≡ lines_of t xs
 other_more t xs l ne = lines_of-append t xs (l ∷ [])
-    ∙ (ap (λ ys. lines_of t xs ++ ys) (other_line t l ne) ∙ append-nil (lines_of t xs))
+    ∙ (ap (λ ys. lines_of t xs ++ ys) (other t l [] ne) ∙ append-nil (lines_of t xs))
 
 pub are_of_thread : (t : ℕ) (xs : List NumberedLine) → All (λ l. thread_of l.line ≡ t) (lines_of t xs)
 are_of_thread t xs = All-weaker (λ l. (thread_of l.line == t) ≡ true) (λ l. thread_of l.line ≡ t)
     (λ l is. eqb-true (thread_of l.line) t is) (lines_of t xs) (filter_passes (λ l. thread_of l.line == t) xs)
+
+-- no line is of this thread
+abbrev pub AreOthers : ℕ → List NumberedLine → Type 0
+AreOthers t lines = All (λ l. thread_of l.line ≡ t → ⊥) lines
+
+pub no_others : (t : ℕ) (lines : List NumberedLine) → AreOthers t lines → lines_of t lines ≡ []
+no_others t [] others = refl
+no_others t (l ∷ lines) others = other t l lines (All-head (λ m. thread_of m.line ≡ t → ⊥) l lines others)
+    ∙ no_others t lines (All-tail (λ m. thread_of m.line ≡ t → ⊥) l lines others)
 
 -- a line more in the list of its thread
 pub list_more : (lists : List (List NumberedLine)) (run : List RingLine) (k : ℕ) (d : RingLine) → k < length run
@@ -67,69 +78,48 @@ list_more lists run k d lt within are t = let line = get_or run k d in let s = t
     ∙ (are t ∙ (sym (other_more t (numbered 0 (take k run)) l (λ e. ne (sym e))) ∙ sym more)))
     (cases_eq t s)
 
--- ---- merging
+-- ---- the first line of a thread
 
-abbrev zeros : ℕ → List ℕ
-zeros n = replicate n 0
+pub record Split (t : ℕ) (lines : List NumberedLine) (l : NumberedLine) (more : List NumberedLine) : Type 0 where
+  pub before : List NumberedLine
+  pub later : List NumberedLine
+  pub is : lines ≡ before ++ l ∷ later
+  pub others : AreOthers t before
+  pub left : lines_of t later ≡ more
 
-zero_taken : (n t : ℕ) → get_or (zeros n) t 0 ≡ 0
-zero_taken zero t = refl
-zero_taken (suc n) zero = refl
-zero_taken (suc n) (suc t) = zero_taken n t
+pub split_first : (t : ℕ) (lines : List NumberedLine) (l : NumberedLine) (left : List NumberedLine)
+    → lines_of t lines ≡ l ∷ left → Split t lines l left
+split_first t [] l left e = absurd (cc)
+split_first t (m ∷ lines) l left e = ⊎_elim
+    (λ same. let both : m ∷ lines_of t lines ≡ l ∷ left = sym (own t m lines same) ∙ e in record {
+      before = [];
+      later = lines;
+      is = let first : m ≡ l = cc in ap (λ x. x ∷ lines) first;
+      others = All-nil (λ x. thread_of x.line ≡ t → ⊥);
+      left = cc;
+    })
+    (λ ne. let its = split_first t lines l left (sym (other t m lines ne) ∙ e) in record {
+      before = m ∷ its.before;
+      later = its.later;
+      is = ap (λ ls. m ∷ ls) its.is;
+      others = All-cons (λ x. thread_of x.line ≡ t → ⊥) m its.before ne its.others;
+      left = its.left;
+    })
+    (cases_eq (thread_of m.line) t)
 
-pub none_merged : (lists : List (List NumberedLine)) (taken : List ℕ) → taken ≡ zeros (length lists)
-    → AreMerged lists taken []
-none_merged lists taken e = record {
-  same = ap length e ∙ length-replicate (length lists) 0;
-  parts = λ t. let z : get_or taken t 0 ≡ 0 = ap (λ l. get_or l t 0) e ∙ zero_taken (length lists) t in
-      sym (ap (λ k. take k (get_or lists t [])) z);
-}
+-- ---- all lines
 
-pub one_merged : (lists : List (List NumberedLine)) (taken : List ℕ) (lines : List NumberedLine) (s : ℕ)
-    (l : NumberedLine) → AreLists lists → AreMerged lists taken lines → s < length lists
-    → get_or taken s 0 < length (get_or lists s []) → l ≡ get_or (get_or lists s []) (get_or taken s 0) l
-    → AreMerged lists (set taken s (get_or taken s 0 + 1)) (lines ++ l ∷ [])
-one_merged lists taken lines s l are merged within lt is = let k = get_or taken s 0 in let its = get_or lists s [] in
-    let thread : thread_of l.line ≡ s =
-    subst (λ (x : NumberedLine). thread_of x.line ≡ s) (sym is)
-    (All-get_or (λ x. thread_of x.line ≡ s) its k l lt (are s)) in
-    let within' : s < length taken = omega (arith, within, merged.same) in
-    let next : take (k + 1) its ≡ take k its ++ l ∷ [] =
-    take_more its k l lt ∙ ap (λ x. take k its ++ x ∷ []) (sym is) in
-    record {
-      same = length-set taken s (k + 1) ∙ merged.same;
-      parts = λ t. ⊎_elim
-          (λ e. ap (λ u. lines_of u (lines ++ l ∷ [])) e ∙ (own_more s lines l thread
-          ∙ (ap (λ xs. xs ++ l ∷ []) (merged.parts s) ∙ (sym next
-          ∙ (ap (λ n. take n its) (sym (get_or-set_same taken s (k + 1) 0 within'))
-          ∙ ap (λ u. take (get_or (set taken s (k + 1)) u 0) (get_or lists u [])) (sym e))))))
-          (λ ne. other_more t lines l (λ e. ne (sym e ∙ thread)) ∙ (merged.parts t
-          ∙ ap (λ n. take n (get_or lists t [])) (sym (get_or-set_other taken s t (k + 1) 0 ne))))
-          (cases_eq t s);
-    }
+pub own_lines : (t : ℕ) (lines : List NumberedLine) → All (λ m. thread_of m.line ≡ t) lines → lines_of t lines ≡ lines
+own_lines t [] all = refl
+own_lines t (l ∷ lines) all = own t l lines (All-head (λ m. thread_of m.line ≡ t) l lines all)
+    ∙ ap (λ ls. l ∷ ls) (own_lines t lines (All-tail (λ m. thread_of m.line ≡ t) l lines all))
 
-pub one_taken : (lists : List (List NumberedLine)) (taken : List ℕ) (s : ℕ) → s < length taken
-    → get_or taken s 0 < length (get_or lists s []) → TakesNext lists s taken (set taken s (get_or taken s 0 + 1))
-one_taken lists taken s within lt = record {
-  some = λ _. get_or-set_same taken s (get_or taken s 0 + 1) 0 within;
-  none = λ le. absurd (omega (arith, le, lt));
-  others = λ u ne. get_or-set_other taken s u (get_or taken s 0 + 1) 0 ne;
-}
+pub other_lines : (t u : ℕ) (lines : List NumberedLine) → All (λ m. thread_of m.line ≡ t) lines → (u ≡ t → ⊥)
+    → lines_of u lines ≡ []
+other_lines t u lines all ne = no_others u lines
+    (λ k d lt is. ne (sym is ∙ all k d lt))
 
-pub none_taken : (lists : List (List NumberedLine)) (taken : List ℕ) (s : ℕ)
-    → length (get_or lists s []) ≤ get_or taken s 0 → TakesNext lists s taken taken
-none_taken lists taken s le = record {
-  some = λ lt. absurd (omega (arith, le, lt));
-  none = λ _. refl;
-  others = λ u ne. refl;
-}
-
-pub all_merged : (lists : List (List NumberedLine)) (taken : List ℕ) (lines : List NumberedLine) (n : ℕ)
-    → AreMerged lists taken lines → length lists ≤ n
-    → ((t : ℕ) → t < n → length (get_or lists t []) ≤ get_or taken t 0)
-    → (t : ℕ) → lines_of t lines ≡ get_or lists t []
-all_merged lists taken lines n merged le done t = ⊎_elim
-    (λ lt. merged.parts t ∙ take_all (get_or taken t 0) (get_or lists t []) (done t lt))
-    (λ past. let none : get_or lists t [] ≡ [] = get_or_past lists t [] (omega (arith, le, past)) in
-    merged.parts t ∙ (ap (take (get_or taken t 0)) none ∙ (take-nil (get_or taken t 0) ∙ sym none)))
-    (cases_lt t n)
+pub no_lines_in_threads : (lines : List NumberedLine) → ((t : ℕ) → lines_of t lines ≡ []) → lines ≡ []
+no_lines_in_threads [] none = refl
+no_lines_in_threads (l ∷ lines) none =
+    let its = own (thread_of l.line) l lines refl in let no = none (thread_of l.line) in absurd (cc)

@@ -6,4 +6,5 @@ pub mod Ring
 pub mod Judged
 pub mod Kinds
 pub mod Threads
+pub mod Histories
 pub mod Merged

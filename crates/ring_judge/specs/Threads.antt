@@ -20,6 +20,10 @@ thread_of Blank = 0
 abbrev pub lines_of : ℕ → List NumberedLine → List NumberedLine
 lines_of t lines = filter (λ l. thread_of l.line == t) lines
 
+-- each thread has the same lines in both lists, in the same order
+abbrev pub SameThreads : List NumberedLine → List NumberedLine → Type 0
+SameThreads lines others = (t : ℕ) → lines_of t lines ≡ lines_of t others
+
 -- the lines with their indices, of which the first is n
 abbrev pub numbered : ℕ → List RingLine → List NumberedLine
 numbered n [] = []
@@ -27,4 +31,4 @@ numbered n (line ∷ lines) = record { at = n; line = line } ∷ numbered (n + 1
 
 -- these are the lines of the run, with their indices there, and the lines of each thread are in their order
 abbrev pub KeepsThreads : List RingLine → List NumberedLine → Type 0
-KeepsThreads run lines = (t : ℕ) → lines_of t lines ≡ lines_of t (numbered 0 run)
+KeepsThreads run lines = SameThreads lines (numbered 0 run)

@@ -15,7 +15,7 @@ pub use format::{
 pub use message::Message;
 pub use queue::{QueueLine, judge_queue};
 pub use ring::{
-    Cursor, Fate, Judged, NumberedLine, RingClaim, RingCopy, RingLine, arranged, judge_ring,
-    ring_before,
+    Cursor, Fate, Judged, Judgement, NumberedLine, RingClaim, RingCopy, RingLine, arranged,
+    judge_ring, judge_threads, ring_before,
 };
 pub use verdict::Verdict;

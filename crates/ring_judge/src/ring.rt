@@ -7,14 +7,15 @@ pub mod claims;
 pub mod heads;
 pub mod judge;
 pub mod judged;
+pub mod judgement;
 pub mod merged;
 pub mod order;
 pub mod threads;
-pub mod turns;
 pub mod words;
 
 pub use judge::{judge_ring, ring_before};
 pub use judged::Judged;
+pub use judgement::{Judgement, judge_threads};
 pub use order::{NumberedLine, arranged};
 pub use words::Cursor;
 

@@ -2,11 +2,11 @@
 
 ghost use Rattle.std.specs.Prelude.{IfOk};
 ghost use Rattle.ring_judge.specs.Threads.{KeepsThreads};
+ghost use Rattle.ring_judge.specs.Histories.{EndsLate, IsBest};
 
 use crate::ring::RingLine;
 use crate::ring::merged::merged;
 use crate::ring::threads::{thread_lists, threads_of};
-use crate::ring::turns::turns_of;
 use std::alloc::{AllocError, Global};
 
 /// A line with its index in the run.
@@ -16,18 +16,19 @@ pub struct NumberedLine {
     pub line: RingLine,
 }
 
-/// The lines of a run in an order in which `judge_ring` can judge them. In the run the lines of different threads may be
-/// in any order. In the result claims are in the order of their places. Each refusal comes directly before the next
+/// The lines of a run in the order in which `judge_threads` judges them. In the run the lines of different threads may
+/// be in any order. In the result claims are in the order of their places. Each refusal comes directly before the next
 /// claim of its producer. The lines of the consumer come after all claims and refusals. The lines of each thread keep
 /// their order.
 ///
 /// # Errors
 /// Out of memory.
 pub fn arranged(alloc: Global, run: &[RingLine]) -> Result<Vec<NumberedLine>, AllocError>
-    ensures { IfOk result (λ lines. KeepsThreads run.now lines.items) }
+    ensures threads { IfOk result (λ lines. KeepsThreads run.now lines.items) }
+    ensures ends { IfOk result (λ lines. EndsLate lines.items) }
+    ensures best { IfOk result (λ lines. IsBest lines.items) }
 {
     let count = threads_of(run);
     let lists = thread_lists(alloc, run, count)?;
-    let turns = turns_of(alloc, run, count)?;
-    merged(alloc, lists.as_slice(), turns.as_slice())
+    merged(alloc, lists.as_slice())
 }

@@ -26,11 +26,12 @@ pub fn thread_of(line: &RingLine) -> usize
     }
 }
 
-/// Returns a number that is above that of each thread.
+/// Returns a number that is above that of each thread, and thus at least 1.
 pub fn threads_of(run: &[RingLine]) -> usize
-    ensures { All (λ line. thread_of line < result) run.now }
+    ensures above { All (λ line. thread_of line < result) run.now }
+    ensures some { 1 ≤ result }
 {
-    let mut count: usize = 0;
+    let mut count: usize = 1;
     for line in run {
         count = count.max(thread_of(line) + 1);
     }
@@ -44,7 +45,8 @@ pub fn thread_lists(
     count: usize,
 ) -> Result<Vec<Vec<NumberedLine>>, AllocError>
     requires { All (λ line. thread_of line < count) run.now }
-    ensures { IfOk result (λ lists. (t : ℕ)
+    ensures len { IfOk result (λ lists. vec_len lists ≡ count) }
+    ensures lists { IfOk result (λ lists. (t : ℕ)
         → slice_index_or (lists_of lists.items) t [] ≡ lines_of t (numbered 0 run.now)) }
 {
     let mut lists = empty_lists(alloc, count)?;

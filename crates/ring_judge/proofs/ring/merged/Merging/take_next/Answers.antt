@@ -1,32 +1,67 @@
-use Rattle.std.proofs.Common.{◌≡◌, ◌<◌, ◌+◌, ◌∙◌, ◌∷◌, ◌++◌, ℕ, [], List, Vec, Global, sym, get_or, set, length, arith, subst}
-use Rattle.std.proofs.lemmas.List.{length-map}
-use Rattle.std.proofs.lemmas.Grind.{get_or_default_zero}
-use Rattle.ring_judge.specs.declared.ring.order.NumberedLine.{NumberedLine}
+use Rattle.std.proofs.Common.{◌≡◌, ◌<◌, ◌++◌, set, sym, ap, ◌∙◌, subst, arith}
+use Rattle.std.specs.BinaryHeap.{heap_items, heap_len}
 use Rattle.ring_judge.specs.Lists.{lists_of}
-use Rattle.ring_judge.specs.Merged.{AreMerged}
-use Rattle.ring_judge.proofs.ListLemmas.{lists_of-at}
-use Rattle.ring_judge.proofs.ThreadLemmas.{one_merged}
+use Rattle.ring_judge.specs.Merged.{AddsTurn, AreMerged, HaveTurns, block_of, left_in}
+use Rattle.ring_judge.proofs.MergeLemmas.{fewer_left}
+use Rattle.ring_judge.proofs.TurnLemmas.{IsPopped, turn_dropped, turn_taken, turn_within}
 use Rattle.ring_judge.proofs.ring.merged.Merging.take_next.Goals as goal
 
-pub returns-clause-merged : goal.returns-clause-merged
-returns-clause-merged c = let its = c.args.self.now in let s = c.args.thread in let line = c.in-Some.line.now in
-    let lists = lists_of c.args.lists.now in let taken = its.taken.items in
-    let same : length lists ≡ length c.args.lists.now =
-    length-map c.args.lists.now (λ (v : Vec NumberedLine Global). v.items) in
-    let within : s < length lists = omega (arith, c.requires.within, same) in
-    let within' : s < length taken = omega (arith, within, c.requires.merged.same) in
-    let k : c.index-taken.result.now ≡ get_or taken s 0 =
-    c.index-taken.ensures ∙ get_or_default_zero taken s c.index-taken.result.now within' in
-    let list : c.deref.result.now ≡ get_or lists s [] = c.deref.ensures.value
-    ∙ sym (lists_of-at c.args.lists.now s c.index-lists-thread.result c.requires.within c.index-lists-thread.is) in
-    let found = c.in-Some.ensures.lookup.3 in
-    let lt : get_or taken s 0 < length (get_or lists s []) =
-    subst (λ (n : ℕ). n < length (get_or lists s [])) k
-    (subst (λ (xs : List NumberedLine). c.index-taken.result.now < length xs) list found.0) in
-    let is : line ≡ get_or (get_or lists s []) (get_or taken s 0) line =
-    subst (λ (n : ℕ). line ≡ get_or (get_or lists s []) n line) k
-    (subst (λ (xs : List NumberedLine). line ≡ get_or xs c.index-taken.result.now line) list (found.1 line)) in
-    subst (λ (ls : List NumberedLine). AreMerged lists (set taken s (c.index-taken.result.now + 1)) ls)
-    (sym c.in_ok-push.ensures.items)
-    (subst (λ (n : ℕ). AreMerged lists (set taken s (n + 1)) (its.lines.items ++ line ∷ [])) (sym k)
-    (one_merged lists taken its.lines.items s line c.requires.lists c.requires.merged within lt is))
+pub returns-in_ok-add_turn-clause-merging : goal.returns-in_ok-add_turn-clause-merging
+returns-in_ok-add_turn-clause-merging c = let its = c.requires.merging in let x = c.in-Some.field-0 in
+    let lists = lists_of c.args.lists.now in let old = c.args.self.now in let end = c.in-Some-end_of_turn.end in
+    let popped : IsPopped (heap_items old.turns) x (heap_items c.pop.new.self) = record {
+      same = c.in-Some.ensures.permutation;
+      greatest = c.in-Some.ensures.below_top its.turns.ordered;
+    } in
+    let heap = (c.in-Some.ensures.heap_order its.turns.ordered).0 in
+    let to = c.in_ok-take_to.ensures in let add = c.in_ok-add_turn.ensures in
+    let adds : AddsTurn lists (set old.taken.items x.0.1 end) x.0.1 (heap_items c.pop.new.self)
+    (heap_items c.add_turn.new.self.turns) =
+    subst (λ taken. AddsTurn lists taken x.0.1 (heap_items c.pop.new.self) (heap_items c.add_turn.new.self.turns))
+    to.taken
+    (subst (λ heap. AddsTurn lists c.take_to.new.self.taken.items x.0.1 (heap_items heap)
+    (heap_items c.add_turn.new.self.turns)) to.turns add.turn) in
+    let taken = turn_taken lists old.taken.items old.lines.items (heap_items old.turns) (heap_items c.pop.new.self)
+    (heap_items c.add_turn.new.self.turns) x c.in-Some-end_of_turn.end c.requires.lists
+    its.merged its.turns popped heap c.in-Some-end_of_turn.ensures adds in
+    let same : set old.taken.items x.0.1 end ≡ c.add_turn.new.self.taken.items =
+    sym (ap (λ v. v.items) add.taken ∙ to.taken) in
+    let lines : old.lines.items ++ block_of lists old.taken.items x.0.1 end ≡ c.add_turn.new.self.lines.items =
+    sym (ap (λ v. v.items) add.lines ∙ to.lines) in
+    record {
+      merged = subst (λ ls. AreMerged lists c.add_turn.new.self.taken.items ls) lines
+          (subst (λ ns. AreMerged lists ns (old.lines.items ++ block_of lists old.taken.items x.0.1 end)) same
+          taken.0);
+      turns = subst (λ ns. HaveTurns lists ns (heap_items c.add_turn.new.self.turns)) same taken.1;
+    }
+
+pub returns-in_ok-add_turn-clause-more : goal.returns-in_ok-add_turn-clause-more
+returns-in_ok-add_turn-clause-more c = let its = c.requires.merging in let x = c.in-Some.field-0 in
+    let lists = lists_of c.args.lists.now in let old = c.args.self.now in let next = c.in-Some-end_of_turn.ensures in
+    let popped : IsPopped (heap_items old.turns) x (heap_items c.pop.new.self) = record {
+      same = c.in-Some.ensures.permutation;
+      greatest = c.in-Some.ensures.below_top its.turns.ordered;
+    } in
+    let to = c.in_ok-take_to.ensures in let add = c.in_ok-add_turn.ensures in
+    let within = turn_within lists old.taken.items (heap_items old.turns) (heap_items c.pop.new.self) x its.turns popped
+    in
+    let fewer = fewer_left lists old.taken.items x.0.1 c.in-Some-end_of_turn.end its.merged.same within
+    (omega (arith, next.after)) (omega (arith, next.within)) in
+    let same : set old.taken.items x.0.1 c.in-Some-end_of_turn.end ≡ c.add_turn.new.self.taken.items =
+    sym (ap (λ v. v.items) add.taken ∙ to.taken) in
+    let popped_len = c.in-Some.ensures.len in let len = ap (λ h. heap_len h) to.turns in
+    omega (arith, subst (λ ns. left_in lists ns < left_in lists old.taken.items) same fewer, add.len, len, popped_len)
+
+pub returns-in_default-end_of_turn-clause-merging : goal.returns-in_default-end_of_turn-clause-merging
+returns-in_default-end_of_turn-clause-merging c = let its = c.requires.merging in let x = c.in-Some.field-0 in
+    let lists = lists_of c.args.lists.now in let old = c.args.self.now in
+    let popped : IsPopped (heap_items old.turns) x (heap_items c.pop.new.self) = record {
+      same = c.in-Some.ensures.permutation;
+      greatest = c.in-Some.ensures.below_top its.turns.ordered;
+    } in
+    let heap = (c.in-Some.ensures.heap_order its.turns.ordered).0 in
+    record {
+      merged = its.merged;
+      turns = turn_dropped lists old.taken.items (heap_items old.turns) (heap_items c.pop.new.self) x its.turns popped
+          heap c.in_default-end_of_turn.ensures;
+    }
