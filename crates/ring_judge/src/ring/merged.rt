@@ -71,7 +71,8 @@ impl Merging {
         Ok(merging)
     }
 
-    /// Takes the lines of the list whose turn it is, up to its next claim. Returns false if no list has a claim.
+    /// Takes the lines of the list whose turn it is, up to its next claim. A turn that is not at the next claim of its
+    /// list is dropped. Returns false if no turn is left, so that no list has a claim.
     fn take_next(&mut self, lists: &[Vec<NumberedLine>]) -> Result<bool, AllocError>
         requires lists { AreLists (lists_of lists.now) }
         requires merging { IsMerging (lists_of lists.now) self.old }

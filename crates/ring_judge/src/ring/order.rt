@@ -17,9 +17,9 @@ pub struct NumberedLine {
 }
 
 /// The lines of a run in the order in which `judge_threads` judges them. In the run the lines of different threads may
-/// be in any order. In the result claims are in the order of their places. Each refusal comes directly before the next
-/// claim of its producer. The lines of the consumer come after all claims and refusals. The lines of each thread keep
-/// their order.
+/// be in any order. In the result the claim with the least place among the next claims of all producers comes first,
+/// and the refusals of its producer come directly before this claim. The refusals after the last claims come after all
+/// claims, and the lines of the consumer come last. The lines of each thread keep their order.
 ///
 /// # Errors
 /// Out of memory.
