@@ -45,6 +45,7 @@ fn read_memory<'a>(words: &'a [u64], slots: &'a [u64]) -> Result<Recovered<'a>, 
         → IsRefusedBy (finding_of C words.now slots.now) result }
     ensures reads { (C : ℕ) → IsCapacity C → length words.now ≡ ring_words C
         → IfOk result (λ r. Reads C words.now slots.now r) }
+    ensures ring { IfOk result (λ r. length words.now ≡ ring_words r.capacity) }
 {
     let ring = RingSnapshot::new(words)?;
     let (capacity, head, tail) = (ring.capacity(), ring.head(), ring.tail());
@@ -86,6 +87,7 @@ pub fn recover<'a>(words: &'a [u64], slots: &'a [u64]) -> Result<Recovered<'a>, 
         → IsRefusedBy (finding_of C words.now slots.now) result }
     ensures reads { (C : ℕ) → IsCapacity C → length words.now ≡ ring_words C
         → IfOk result (λ r. Reads C words.now slots.now r) }
+    ensures ring { IfOk result (λ r. length words.now ≡ ring_words r.capacity) }
 {
     read_memory(words, slots)
 }

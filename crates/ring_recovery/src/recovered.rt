@@ -28,6 +28,7 @@ impl<'a> Recovered<'a> {
     ghost use Rattle.std.specs.Prelude.{◌≡◌, ◌<◌, if◌then◌else◌, length, Some, None};
     ghost use Rattle.ring_layout.specs.Layout.{ring_words};
     ghost use Rattle.ring_recovery.specs.Headers.{is_committed, message_at};
+    ghost use Rattle.ring_recovery.specs.Recovered.{messages_left};
 
     /// Returns the number of bytes of the ring's buffer.
     pub fn capacity(&self) -> u32
@@ -48,6 +49,23 @@ impl<'a> Recovered<'a> {
         ensures { result ≡ self.now.open_claims }
     {
         self.open_claims
+    }
+
+    /// Returns another iterator over the messages that are still to come. This iterator stays as it is.
+    pub fn again(&self) -> Recovered<'a>
+        ensures messages { messages_left result ≡ messages_left self.now }
+        ensures capacity { result.capacity ≡ self.now.capacity }
+        ensures tail { result.tail ≡ self.now.tail }
+        ensures open_claims { result.open_claims ≡ self.now.open_claims }
+    {
+        Recovered {
+            words: self.words,
+            slots: self.slots,
+            capacity: self.capacity,
+            at: self.at,
+            tail: self.tail,
+            open_claims: self.open_claims,
+        }
     }
 
     /// Returns the message at a position, or `None` if this is not the header of a committed message.
