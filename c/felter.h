@@ -135,7 +135,14 @@ enum felter_code {
     FELTER_OTHER_REPLY = 109,         /* the message is the reply to another command, or no reply */
     FELTER_IN_USE = 110,              /* another handle holds what was to be closed */
     FELTER_NULL_POINTER = 111,        /* a pointer is NULL */
-    FELTER_BAD_MEMORY = 112           /* the memory is too short, does not begin at a multiple of 64, or is in use */
+    FELTER_BAD_MEMORY = 112,          /* the memory is too short, does not begin at a multiple of 64 (to recover: of 8),
+                                         or is in use */
+    FELTER_NO_IMAGE = 113,            /* the memory is not the image of a ring */
+    FELTER_UNALIGNED_POSITION = 114,  /* the head or the tail is not a multiple of 8 */
+    FELTER_TAIL_BEFORE_HEAD = 115,    /* the tail is before the head */
+    FELTER_TAIL_TOO_FAR = 116,        /* the tail is more than the capacity after the head */
+    FELTER_BAD_HEADER_LENGTH = 117,   /* a header has a length that no record has there */
+    FELTER_BAD_HEADER_TYPE = 118      /* a header has a type id that no record has */
 };
 
 /* Returns what a code means, in words. */
@@ -621,6 +628,35 @@ enum felter_reply {
  *     the commands that had no reply yet. */
 int32_t felter_poll(felter_client *client, uint64_t correlation, int32_t *kind, int64_t *number, uint64_t *lapped);
 
+/* What a ring left ----------------------------------------------------------------------------------------------- */
+
+/* Recovers the messages of a ring whose process died, and lays them into a buffer as felter_read_batch does. `words`
+ * are the `word_count` words of the ring, and `slots` are the `slot_count` words of its bodies. If the ring was in
+ * memory of the caller, felter_recover below finds both by itself.
+ *
+ * The messages are those that were committed, from the point on up to which the consumer had cleared. Each message
+ * comes whole, once, and in the order of the claims. What the consumer was shown and had not cleared comes again,
+ * before the other messages. A claim that was open has no message. All this is proved for the memory of any ring,
+ * whatever step each of its threads had come to.
+ *
+ * Writes how many claims were open, how many messages were recovered, and how many bytes of the buffer they take. A
+ * buffer of twice the capacity of the ring is always long enough. Codes, in this order:
+ *   - FELTER_NO_IMAGE if no ring has this many words, or if a ring of this many words has another number of slots. A
+ *     ring has capacity / 8 + 96 words, and capacity / 8 slots;
+ *   - FELTER_UNALIGNED_POSITION, FELTER_TAIL_BEFORE_HEAD or FELTER_TAIL_TOO_FAR. *place is then the head, and *found
+ *     is the tail;
+ *   - FELTER_BAD_HEADER_LENGTH or FELTER_BAD_HEADER_TYPE for the first header that no record has there, or that is
+ *     inside another record. *place is then the byte of the ring's buffer at which the header is, and *found is the
+ *     length or the type id in the header;
+ *   - FELTER_SHORT_BUFFER if the buffer is too short for all messages. The three numbers are then written as above,
+ *     so *used says how long the buffer must be. The buffer has the bytes that it had before.
+ *
+ * The call requests no memory, and does not write to the words and the slots. No thread and no process may write to
+ * them during the call. Otherwise nothing is promised, and the call may write outside the buffer. */
+int32_t felter_recover_words(const uint64_t *words, size_t word_count, const uint64_t *slots, size_t slot_count,
+                             uint64_t *place, int64_t *found, uint64_t *open_claims, uint32_t *count, size_t *used,
+                             void *buffer, size_t room);
+
 /* Memory of the caller ------------------------------------------------------------------------------------------- */
 
 /* The calls of this part make a ring, a board or counters in memory that the caller passes, for example in a file that
@@ -684,6 +720,38 @@ static inline int32_t felter_counters_new_in(void *memory, size_t length, uint32
  * library then calls munmap(memory, length). A structure must be at the beginning of the memory. Codes:
  * FELTER_BAD_MEMORY if no structure uses the memory there, or the length is 0. */
 int32_t felter_unmap_at_end(void *memory, size_t length);
+
+/* Recovers the messages of a ring in memory of the caller after its process died, and lays them into a buffer as
+ * felter_read_batch does. `image` is this memory from the header on, for example a file that is mapped or was read.
+ * The memory may be longer than the ring. The call finds the words and the slots of the ring by the header, and calls
+ * felter_recover_words, whose comment says which messages are recovered.
+ *
+ * To go on, make a new ring in other memory, and write the messages to it by felter_write_batch. A ring of the same
+ * capacity has room for all of them.
+ *
+ * Writes how many claims were open, how many messages were recovered, and how many bytes of the buffer they take. A
+ * buffer of twice the capacity of the ring is always long enough, and so is a buffer of `length` bytes. Codes, in
+ * this order:
+ *   - FELTER_NULL_POINTER;
+ *   - FELTER_BAD_MEMORY if `image` does not begin at a multiple of 8 bytes;
+ *   - FELTER_NO_IMAGE if the header is not that of a ring, for example since the ring was not completely made, or if
+ *     the memory is shorter than the ring;
+ *   - FELTER_UNALIGNED_POSITION, FELTER_TAIL_BEFORE_HEAD, FELTER_TAIL_TOO_FAR, FELTER_BAD_HEADER_LENGTH or
+ *     FELTER_BAD_HEADER_TYPE if the ring is damaged. felter_finding then says what was found, and at which place;
+ *   - FELTER_SHORT_BUFFER if the buffer is too short for all messages. The three numbers are then written as above,
+ *     so *used says how long the buffer must be. The buffer has the bytes that it had before.
+ *
+ * The process must have died, or have freed each handle of the ring. As long as a thread works on the ring, the
+ * result is not promised, and the call may write outside the buffer. To look at such a ring, recover from a copy of
+ * the memory. Then only the messages are not promised. */
+int32_t felter_recover(const void *image, size_t length, uint64_t *open_claims, uint32_t *count, size_t *used,
+                       void *buffer, size_t room);
+/* Writes in words what felter_recover finds wrong with an image. The text ends with a 0. If the ring is damaged, the
+ * text also names the place, for example "the tail is before the head: head 64, tail 8". The call also writes the
+ * length of the text without the 0, which is 0 if nothing is wrong. A buffer of 128 bytes is always long enough.
+ * Codes: FELTER_SHORT_BUFFER if the buffer has no room for the text and the 0. The length is then written all the
+ * same, and the buffer has the bytes that it had before. */
+int32_t felter_finding(const void *image, size_t length, size_t *len, char *text, size_t room);
 
 #include "felter_inline.h"
 

@@ -67,7 +67,13 @@ static inline const char *felter_text(int32_t code) {
     case 109: return "the message is the reply to another command, or no reply";
     case 110: return "another handle holds what was to be closed";
     case 111: return "a pointer is NULL";
-    case 112: return "the memory is too short, does not begin at a multiple of 64, or is in use";
+    case 112: return "the memory is too short, does not begin at a multiple of 64 (to recover: of 8), or is in use";
+    case 113: return "the memory is not the image of a ring";
+    case 114: return "the head or the tail is not a multiple of 8";
+    case 115: return "the tail is before the head";
+    case 116: return "the tail is more than the capacity after the head";
+    case 117: return "a header has a length that no record has there";
+    case 118: return "a header has a type id that no record has";
     default: return "unknown code";
     }
 }
@@ -1038,6 +1044,23 @@ FELTER_GUARD int32_t felter_guarded_poll(felter_client *client, uint64_t correla
     return code;
 }
 
+FELTER_GUARD int32_t felter_guarded_recover_words(const uint64_t *words, size_t word_count, const uint64_t *slots,
+                                                  size_t slot_count, uint64_t *place, int64_t *found,
+                                                  uint64_t *open_claims, uint32_t *count, size_t *used, void *buffer,
+                                                  size_t room) {
+    if (!words && word_count) return felter_refuse("felter_recover_words", FELTER_NULL_POINTER);
+    if (!slots && slot_count) return felter_refuse("felter_recover_words", FELTER_NULL_POINTER);
+    if (!place) return felter_refuse("felter_recover_words", FELTER_NULL_POINTER);
+    if (!found) return felter_refuse("felter_recover_words", FELTER_NULL_POINTER);
+    if (!open_claims) return felter_refuse("felter_recover_words", FELTER_NULL_POINTER);
+    if (!count) return felter_refuse("felter_recover_words", FELTER_NULL_POINTER);
+    if (!used) return felter_refuse("felter_recover_words", FELTER_NULL_POINTER);
+    if (!buffer && room) return felter_refuse("felter_recover_words", FELTER_NULL_POINTER);
+    int32_t code = felter_recover_words(words, word_count, slots, slot_count, place, found, open_claims, count, used,
+                                        buffer, room);
+    return code;
+}
+
 FELTER_GUARD int32_t felter_guarded_ring_memory(uint32_t capacity, size_t *length) {
     if (!length) return felter_refuse("felter_ring_memory", FELTER_NULL_POINTER);
     int32_t code = felter_ring_memory(capacity, length);
@@ -1104,6 +1127,25 @@ FELTER_GUARD int32_t felter_guarded_counters_new_in_numbered(uint64_t number, vo
 FELTER_GUARD int32_t felter_guarded_unmap_at_end(void *memory, size_t length) {
     if (!memory) return felter_refuse("felter_unmap_at_end", FELTER_NULL_POINTER);
     int32_t code = felter_unmap_at_end(memory, length);
+    return code;
+}
+
+FELTER_GUARD int32_t felter_guarded_recover(const void *image, size_t length, uint64_t *open_claims, uint32_t *count,
+                                            size_t *used, void *buffer, size_t room) {
+    if (!image && length) return felter_refuse("felter_recover", FELTER_NULL_POINTER);
+    if (!open_claims) return felter_refuse("felter_recover", FELTER_NULL_POINTER);
+    if (!count) return felter_refuse("felter_recover", FELTER_NULL_POINTER);
+    if (!used) return felter_refuse("felter_recover", FELTER_NULL_POINTER);
+    if (!buffer && room) return felter_refuse("felter_recover", FELTER_NULL_POINTER);
+    int32_t code = felter_recover(image, length, open_claims, count, used, buffer, room);
+    return code;
+}
+
+FELTER_GUARD int32_t felter_guarded_finding(const void *image, size_t length, size_t *len, char *text, size_t room) {
+    if (!image && length) return felter_refuse("felter_finding", FELTER_NULL_POINTER);
+    if (!len) return felter_refuse("felter_finding", FELTER_NULL_POINTER);
+    if (!text && room) return felter_refuse("felter_finding", FELTER_NULL_POINTER);
+    int32_t code = felter_finding(image, length, len, text, room);
     return code;
 }
 
@@ -1319,6 +1361,7 @@ FELTER_GUARD int32_t felter_standing(felter_producer *producer, felter_consumer 
 #define felter_send_set felter_guarded_send_set
 #define felter_send_close_owner felter_guarded_send_close_owner
 #define felter_poll felter_guarded_poll
+#define felter_recover_words felter_guarded_recover_words
 #define felter_ring_memory felter_guarded_ring_memory
 #define felter_board_memory felter_guarded_board_memory
 #define felter_counters_memory felter_guarded_counters_memory
@@ -1327,5 +1370,7 @@ FELTER_GUARD int32_t felter_standing(felter_producer *producer, felter_consumer 
 #define felter_board_new_in_numbered felter_guarded_board_new_in_numbered
 #define felter_counters_new_in_numbered felter_guarded_counters_new_in_numbered
 #define felter_unmap_at_end felter_guarded_unmap_at_end
+#define felter_recover felter_guarded_recover
+#define felter_finding felter_guarded_finding
 
 #endif

@@ -1,4 +1,4 @@
-/* Rings, boards and counters in memory of the caller.
+/* Rings, boards and counters in memory of the caller, and the messages of such a ring after its process died.
  *
  * The proved archive requests all its memory by three functions of the kit, in liblibc_c.a, which call malloc, realloc
  * and free. c/build renames these three calls to the functions rattle_placed_* below. So each request of the archive
@@ -27,6 +27,9 @@
 #undef felter_board_new_in_numbered
 #undef felter_counters_new_in_numbered
 #undef felter_unmap_at_end
+#undef felter_recover
+#undef felter_finding
+#undef felter_recover_words
 
 #define HIDDEN __attribute__((visibility("hidden")))
 
@@ -392,4 +395,90 @@ int32_t felter_unmap_at_end(void *memory, size_t length) {
     }
     pthread_mutex_unlock(&lock);
     return code;
+}
+
+/* After the process died ------------------------------------------------------------------------------------------- */
+
+/* The words and the slots of a ring. */
+struct remains {
+    const uint64_t *words, *slots;
+    size_t word_count, slot_count;
+};
+
+/* Finds the words and the slots of a ring in an image. */
+static int32_t find_remains(const void *image, size_t length, struct remains *ring) {
+    uint64_t header[HEADER_WORDS], wanted[HEADER_WORDS];
+    if ((uintptr_t)image % 8) return FELTER_BAD_MEMORY;
+    if (length < HEADER_LENGTH) return FELTER_NO_IMAGE;
+    memcpy(header, image, HEADER_LENGTH);
+    uint64_t kind = header[KIND], capacity = header[CAPACITY];
+    if ((kind != ONE_TO_ONE && kind != MANY_TO_ONE) || capacity != (uint32_t)capacity ||
+        test_size((enum kind)kind, (uint32_t)capacity) != FELTER_OK)
+        return FELTER_NO_IMAGE;
+    size_t needed = lay_out((enum kind)kind, (uint32_t)capacity, wanted);
+    memcpy(wanted, "FELTERIM", 8);
+    /* (the rest of the header has nothing) */
+    if (memcmp(header, wanted, 8 * (BODIES + 1)) || length < needed) return FELTER_NO_IMAGE;
+    const unsigned char *at = image;
+    ring->words = (const uint64_t *)(const void *)(at + header[WORDS_AT]);
+    ring->slots = (const uint64_t *)(const void *)(at + header[BODIES_AT]);
+    ring->word_count = header[WORDS];
+    ring->slot_count = header[BODIES];
+    return FELTER_OK;
+}
+
+int32_t felter_recover(const void *image, size_t length, uint64_t *open_claims, uint32_t *count, size_t *used,
+                       void *buffer, size_t room) {
+    struct remains ring;
+    uint64_t place = 0;
+    int64_t found = 0;
+    if ((!image && length) || !open_claims || !count || !used || (!buffer && room)) return FELTER_NULL_POINTER;
+    int32_t code = find_remains(image, length, &ring);
+    if (code != FELTER_OK) return code;
+    return felter_recover_words(ring.words, ring.word_count, ring.slots, ring.slot_count, &place, &found, open_claims,
+                                count, used, buffer, room);
+}
+
+/* The longest text of a finding has fewer bytes than this. */
+#define TEXT 128
+
+/* Writes a finding in words. Returns how many bytes the text has. */
+static size_t write_finding(char text[TEXT], int32_t code, uint64_t place, int64_t found) {
+    unsigned long long first = place, second = (uint64_t)found;
+    long long value = found;
+    const char *what = code == FELTER_BAD_HEADER_LENGTH ? "length" : "type id";
+    int written = 0;
+    switch (code) {
+    case FELTER_OK: break;
+    case FELTER_UNALIGNED_POSITION:
+    case FELTER_TAIL_BEFORE_HEAD:
+    case FELTER_TAIL_TOO_FAR:
+        written = snprintf(text, TEXT, "%s: head %llu, tail %llu", felter_text(code), first, second);
+        break;
+    case FELTER_BAD_HEADER_LENGTH:
+    case FELTER_BAD_HEADER_TYPE:
+        written = snprintf(text, TEXT, "%s: byte %llu of the buffer, %s %lld", felter_text(code), first, what, value);
+        break;
+    default: written = snprintf(text, TEXT, "%s", felter_text(code));
+    }
+    return written > 0 ? (size_t)written : 0;
+}
+
+int32_t felter_finding(const void *image, size_t length, size_t *len, char *text, size_t room) {
+    struct remains ring;
+    char finding[TEXT] = "";
+    uint64_t place = 0, open_claims = 0;
+    int64_t found = 0;
+    uint32_t count = 0;
+    size_t used = 0;
+    if ((!image && length) || !len || (!text && room)) return FELTER_NULL_POINTER;
+    int32_t code = find_remains(image, length, &ring);
+    if (code == FELTER_OK)
+        code = felter_recover_words(ring.words, ring.word_count, ring.slots, ring.slot_count, &place, &found,
+                                    &open_claims, &count, &used, NULL, 0);
+    if (code == FELTER_SHORT_BUFFER) code = FELTER_OK;
+    *len = write_finding(finding, code, place, found);
+    if (room < *len + 1) return FELTER_SHORT_BUFFER;
+    memcpy(text, finding, *len + 1);
+    return FELTER_OK;
 }

@@ -10,6 +10,7 @@ int main(void) {
     uint64_t number = 77;
     size_t len = 7;
     uint32_t written = 7;
+    int64_t found = 7;
     felter_free(NULL);
     EXPECT(FELTER_NO_HANDLE, felter_many_to_one_new(128, NULL, &consumer));
     EXPECT(FELTER_NO_HANDLE, felter_many_to_one_new(128, &producer, NULL));
@@ -46,6 +47,21 @@ int main(void) {
     EXPECT(FELTER_NO_HANDLE, read(NULL, &type_id, &len, buffer, 4));
     EXPECT(FELTER_SHORT_BUFFER, read(&consumer, &type_id, &len, buffer, 4));
     CHECK(type_id == 2 && len == 5 && buffer[0] == 5);
+    EXPECT(FELTER_NULL_POINTER, felter_recover(NULL, 1, &number, &written, &len, buffer, sizeof buffer));
+    EXPECT(FELTER_NULL_POINTER, felter_recover(buffer, 0, NULL, &written, &len, buffer, sizeof buffer));
+    EXPECT(FELTER_NULL_POINTER, felter_recover(buffer, 0, &number, NULL, &len, buffer, sizeof buffer));
+    EXPECT(FELTER_NULL_POINTER, felter_recover(buffer, 0, &number, &written, NULL, buffer, sizeof buffer));
+    EXPECT(FELTER_NULL_POINTER, felter_recover(buffer, 0, &number, &written, &len, NULL, 1));
+    EXPECT(FELTER_NULL_POINTER, felter_finding(NULL, 1, &len, NULL, 0));
+    EXPECT(FELTER_NULL_POINTER, felter_finding(buffer, 0, NULL, NULL, 0));
+    EXPECT(FELTER_NULL_POINTER, felter_finding(buffer, 0, &len, NULL, 1));
+    EXPECT(FELTER_NULL_POINTER, felter_recover_words(NULL, 1, &number, 0, &number, &found, &number, &written, &len,
+                                                     NULL, 0));
+    EXPECT(FELTER_NULL_POINTER, felter_recover_words(&number, 0, NULL, 1, &number, &found, &number, &written, &len,
+                                                     NULL, 0));
+    EXPECT(FELTER_NULL_POINTER, felter_recover_words(NULL, 0, NULL, 0, NULL, &found, &number, &written, &len, NULL, 0));
+    EXPECT(FELTER_NULL_POINTER, felter_recover_words(NULL, 0, NULL, 0, &number, NULL, &number, &written, &len, NULL, 0));
+    EXPECT(FELTER_NO_IMAGE, felter_recover_words(NULL, 0, NULL, 0, &number, &found, &number, &written, &len, NULL, 0));
     CHECK(strcmp(felter_text(FELTER_OK), "no error") == 0);
     CHECK(strcmp(felter_text(FELTER_INSUFFICIENT_CAPACITY), "the ring is full") == 0);
     CHECK(strcmp(felter_text(FELTER_NULL_POINTER), "a pointer is NULL") == 0);

@@ -301,6 +301,7 @@ static void in_memory(void) {
     felter_transmitter transmitter = FELTER_EMPTY;
     felter_counters all = FELTER_EMPTY;
     size_t page = 4096;
+    char text[128];
     unsigned char *memory = mmap(NULL, 4 * page, PROT_READ | PROT_WRITE, MAP_PRIVATE | MAP_ANONYMOUS, -1, 0);
     CHECK(memory != MAP_FAILED);
     NONE(FELTER_OK, felter_ring_memory(128, &len));
@@ -314,6 +315,11 @@ static void in_memory(void) {
     SOME(felter_counters_new_in(memory + 3 * page, page, 4, 0, &all));
     for (int k = 0; k < 4; k++) NONE(FELTER_OK, felter_unmap_at_end(memory + k * page, page));
     NONE(FELTER_BAD_MEMORY, felter_unmap_at_end(memory + 64, page));
+    NONE(FELTER_OK, felter_recover(memory, page, &id, &count, &len, buffer, sizeof buffer));
+    NONE(FELTER_NO_IMAGE, felter_recover(memory + 2 * page, page, &id, &count, &len, buffer, sizeof buffer));
+    NONE(FELTER_OK, felter_finding(memory + 2 * page, page, &len, text, sizeof text));
+    NONE(FELTER_NO_IMAGE, felter_recover_words(&id, 1, &id, 1, &number, &value, &left, &count, &len, buffer,
+                                               sizeof buffer));
     write_and_read(&producer, &consumer);
     write_and_read(&single, &of_single);
     NONE(FELTER_OK, felter_transmit(&transmitter, 4, BYTES("seen")));

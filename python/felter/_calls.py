@@ -104,6 +104,7 @@ felter_send_free *client u32 *u64
 felter_send_set *client u32 i64 *u64
 felter_send_close_owner *client u64 *u64
 felter_poll *client u64 *i32 *i64 *u64
+felter_recover_words words usize words usize *u64 *i64 *u64 *u32 *usize *u8 usize
 felter_ring_memory u32 *usize
 felter_board_memory u32 *usize
 felter_counters_memory u32 *usize
@@ -112,4 +113,6 @@ felter_one_to_one_new_in_numbered u64 memory usize u32 *producer *consumer
 felter_board_new_in_numbered u64 memory usize u32 *transmitter
 felter_counters_new_in_numbered u64 memory usize u32 u32 *counters
 felter_unmap_at_end memory usize
+felter_recover bytes usize *u64 *u32 *usize *u8 usize
+felter_finding bytes usize *usize *u8 usize
 """

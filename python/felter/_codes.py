@@ -41,6 +41,12 @@ class Number(enum.IntEnum):
     IN_USE = 110
     NULL_POINTER = 111
     BAD_MEMORY = 112
+    NO_IMAGE = 113
+    UNALIGNED_POSITION = 114
+    TAIL_BEFORE_HEAD = 115
+    TAIL_TOO_FAR = 116
+    BAD_HEADER_LENGTH = 117
+    BAD_HEADER_TYPE = 118
 
 
 TEXTS = {
@@ -77,5 +83,11 @@ TEXTS = {
     109: "the message is the reply to another command, or no reply",
     110: "another handle holds what was to be closed",
     111: "a pointer is NULL",
-    112: "the memory is too short, does not begin at a multiple of 64, or is in use",
+    112: "the memory is too short, does not begin at a multiple of 64 (to recover: of 8), or is in use",
+    113: "the memory is not the image of a ring",
+    114: "the head or the tail is not a multiple of 8",
+    115: "the tail is before the head",
+    116: "the tail is more than the capacity after the head",
+    117: "a header has a length that no record has there",
+    118: "a header has a type id that no record has",
 }

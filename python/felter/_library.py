@@ -19,10 +19,10 @@ from felter._calls import CALLS
 from felter.errors import Lapped, refusal
 from felter.message import Message
 
-# Each call, with the words for its parameters. Here all kinds of handles are one kind, and the memory of the caller is
-# the number of its first byte.
+# Each call, with the words for its parameters. Here all kinds of handles are one kind. Memory of the caller and words
+# are the number of their first byte.
 KINDS = "producer consumer transmitter receiver raw_receiver counters reader adder conductor client".split()
-WORDS = {"memory": "usize", **{"*" + it: "*handle" for it in KINDS}}
+WORDS = {"memory": "usize", "words": "usize", **{"*" + it: "*handle" for it in KINDS}}
 TABLE = {
     name: [WORDS.get(it, it) for it in words]
     for name, *words in map(str.split, CALLS.strip().splitlines())

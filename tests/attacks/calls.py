@@ -5,8 +5,8 @@ import tempfile
 from .shared import Finding, compiled, ended, run_program
 from .uncalled import uncalled
 
-SOURCES = ("calls.c", "calls_rings.c", "calls_reads.c", "calls_boards.c", "calls_counters.c", "calls_adders.c",
-           "calls_conductor.c", "calls_conducted.c", "calls_memory.c", "model.c")
+SOURCES = ("calls.c", "calls_rings.c", "calls_reads.c", "calls_recovered.c", "calls_boards.c", "calls_counters.c",
+           "calls_adders.c", "calls_conductor.c", "calls_conducted.c", "calls_memory.c", "model.c")
 WRAPPED = ("malloc", "calloc", "realloc", "aligned_alloc", "posix_memalign", "free")
 OPTIONS = ("-O1", "-Wno-misleading-indentation", *(f"-Wl,--wrap={it}" for it in WRAPPED))
 

@@ -70,6 +70,7 @@ static int32_t make_in(struct ring *ring, int32_t wanted, bool is_one, uint32_t 
         : is_numbered ? CALL(wanted, felter_many_to_one_new_in_numbered(number, in.at, in.length, capacity, to, by))
                       : CALL(wanted, felter_many_to_one_new_in(in.at, in.length, capacity, to, by));
     check_memory(&in, code);
+    ring->image = in.at;
     return code;
 }
 
@@ -79,6 +80,7 @@ static void make(struct ring *ring) {
     uint64_t start = is_at ? some_start(capacity) : 0;
     int32_t wanted = model_capacity(capacity, 128, start);
     felter_producer *producer = &ring->producers[0];
+    ring->image = NULL;
     int32_t code = is_in ? make_in(ring, wanted, is_one, capacity)
                          : make_by(ring, wanted, is_one, is_at, capacity, start);
     CHECK((code == FELTER_OK) == (producer->handle.at != NULL));
@@ -300,7 +302,7 @@ static void misuse(struct ring *ring) {
     CALL(FELTER_NO_HANDLE, felter_peek(&nobody, &type_id, &len, NULL, 0));
     CALL(FELTER_NO_HANDLE, felter_take(&nobody));
     CALL(FELTER_NO_HANDLE, felter_write_batch(&none, NULL, 0, &(uint32_t){0}));
-    CHECK(felter_version() == FELTER_VERSION_NUMBER && strlen(felter_text((int32_t)pick(113))) > 0);
+    CHECK(felter_version() == FELTER_VERSION_NUMBER && strlen(felter_text((int32_t)pick(119))) > 0);
     felter_free(&none.handle);
     if (ring->has_consumer) {
         CALL(FELTER_WRONG_HANDLE, felter_write((felter_producer *)&ring->consumer, 1, NULL, 0));
@@ -319,6 +321,7 @@ void ring_step(void) {
         return;
     }
     int at = ring_some_producer(ring);
+    if (ring->image && once_in(8)) ring_recover(ring);
     if (at >= 0 && once_in(20)) look_at_sizes(&ring->producers[at].handle, ring->model.records.capacity);
     if (at >= 0 && ring->has_consumer && once_in(20)) ring_look_ahead(ring, at);
     if (at >= 0) switch (pick(24)) {

@@ -13,6 +13,7 @@ struct ring {
     felter_producer producers[PRODUCERS];
     felter_consumer consumer;
     struct model_ring model;
+    uint8_t *image; /* the memory of the caller in which the ring is, or NULL */
 };
 
 /* One of the producers that are there, or -1. */
@@ -24,5 +25,8 @@ void ring_look_ahead(struct ring *ring, int at);
 void ring_read_one(struct ring *ring, bool stays);
 void ring_read_batch(struct ring *ring);
 void ring_take_one(struct ring *ring);
+
+/* Recovers the messages of the ring from its memory, and compares them with the model. Recovers from damaged copies. */
+void ring_recover(struct ring *ring);
 
 #endif

@@ -329,3 +329,24 @@ int32_t __wrap_felter_read(felter_consumer *consumer, int32_t *type_id, size_t *
     return ONCE_IN(50) ? FELTER_NO_MESSAGE : __real_felter_read(consumer, type_id, len, buffer, room);
 }
 #endif
+
+#if defined SABOTAGE_UNRECOVERED || defined SABOTAGE_TORN_BACK
+int32_t __real_felter_recover(const void *image, size_t length, uint64_t *open_claims, uint32_t *count, size_t *used,
+                              void *buffer, size_t room);
+
+int32_t __wrap_felter_recover(const void *image, size_t length, uint64_t *open_claims, uint32_t *count, size_t *used,
+                              void *buffer, size_t room) {
+    int32_t code = __real_felter_recover(image, length, open_claims, count, used, buffer, room);
+    felter_record first;
+    if (code != FELTER_OK || !*count || !ONCE_IN(50)) return code;
+    memcpy(&first, buffer, sizeof first);
+#if defined SABOTAGE_UNRECOVERED
+    *count -= 1;
+    *used -= FELTER_SPAN(first.len);
+    memmove(buffer, (uint8_t *)buffer + FELTER_SPAN(first.len), *used);
+#else
+    if (first.len) ((uint8_t *)buffer)[sizeof first] ^= 1;
+#endif
+    return code;
+}
+#endif

@@ -22,6 +22,8 @@ IN_CALLS = {
     "OTHER_REPLY": "felter_poll",     # a client takes the reply to another command for its own
     "TAKING_PEEK": "felter_peek",     # a message that is looked at does not stay
     "UNTAKEN": "felter_take",         # one that is taken stays
+    "UNRECOVERED": "felter_recover",  # the first message is not recovered
+    "TORN_BACK": "felter_recover",    # it comes with another first byte
     "UNRAISED": "felter_counter_propose_max",         # a value that was raised is said to be as it was
     "SET_ANYWAY": "felter_counter_compare_and_set",   # a value that was not expected is replaced all the same
     "ADDED_TWICE": "felter_adder_add",                # an amount is added twice

@@ -18,6 +18,7 @@ ALONE = {
     "what it writes never changes": """
         felter_text felter_version felter_capacity felter_ring_memory felter_board_memory felter_counters_memory""",
     "only calls of the same handle change what it writes": "felter_shares felter_adder_shares",
+    "no thread may work on the memory that it reads": "felter_recover felter_recover_words felter_finding",
     # (the forms without a number meet others, since all draw from one count)
     "what it makes is in no other handle yet, and the caller gives the number": """
         felter_many_to_one_new_numbered felter_many_to_one_new_at_numbered felter_one_to_one_new_numbered

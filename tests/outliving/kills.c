@@ -68,18 +68,18 @@ static void run_and_kill(uint64_t seed, uint32_t capacity, bool is_one) {
     }
 }
 
-#ifdef felter_recover
 /* Compares what the library recovers with the listing. */
 static void recover(const unsigned char *image) {
-    static unsigned char buffer[2 * MAX_CAPACITY + 16 * MAX_MESSAGES];
+    static unsigned char buffer[2 * MAX_CAPACITY];
+    uint64_t open = 0;
     uint32_t count = 0;
     size_t used = 0, at = 0;
-    int32_t code = felter_recover(image, length, &count, &used, buffer, sizeof buffer);
+    int32_t code = felter_recover(image, length, &open, &count, &used, buffer, sizeof buffer);
     if (!listing.is_image || listing.is_wrong) {
         totals.damaged += code == FELTER_OK;
         return;
     }
-    bool is_same = code == FELTER_OK && count == listing.count;
+    bool is_same = code == FELTER_OK && count == listing.count && open == listing.open;
     for (uint64_t k = 0; is_same && k < count; k++) {
         felter_record record;
         const struct found *it = &listing.of[k];
@@ -88,9 +88,8 @@ static void recover(const unsigned char *image) {
                   memcmp(buffer + at + sizeof record, image + it->body, record.len) == 0;
         at += FELTER_SPAN(record.len);
     }
-    totals.damaged += !is_same;
+    totals.damaged += !is_same || at != used;
 }
-#endif
 
 /* Writes an image into a folder, with the number of open claims and a line for each message. */
 static void keep(const char *folder, uint64_t number, const unsigned char *image) {
@@ -113,13 +112,11 @@ static void keep(const char *folder, uint64_t number, const unsigned char *image
 
 /* Reads the file, as a program does that comes after the process. */
 static void judge_file(enum fault fault, const char *folder) {
-    static unsigned char image[1024 + 2 * MAX_CAPACITY];
+    static _Alignas(64) unsigned char image[1024 + 2 * MAX_CAPACITY];
     struct totals before;
     if (pread(file, image, length, 0) != (ssize_t)length) fail("read");
     list_image(image, length, &listing);
-#ifdef felter_recover
     recover(image);
-#endif
     judge(book, &listing, &totals);
     if (folder && listing.is_image) keep(folder, totals.kills, image);
     if (fault == NO_FAULT || !plant(fault, image, &listing, book, &state)) return;
@@ -128,6 +125,8 @@ static void judge_file(enum fault fault, const char *folder) {
     planted++;
     noticed += !judge(book, &listing, &totals);
     totals = before;
+    /* (the library recovers what is there, also if it is not what was written) */
+    recover(image);
 }
 
 static void print_totals(enum fault fault) {

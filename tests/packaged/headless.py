@@ -60,6 +60,16 @@ must(library.felter_many_to_one_new_in(memory, needed, 1024, by(in_one), by(in_t
 must(library.felter_write(by(in_one), 1, b"there", ctypes.c_size_t(5)))
 at = memory.value - ctypes.addressof(room)
 assert room.raw[at : at + 8] == b"FELTERIM" and room.raw[at + 1928 : at + 1933] == b"there"
+# The messages of that ring, from its memory.
+opened, count, used = ctypes.c_uint64(), ctypes.c_uint32(), ctypes.c_size_t()
+laid, long = ctypes.create_string_buffer(4096), ctypes.c_size_t(4096)
+must(library.felter_recover(memory, needed, by(opened), by(count), by(used), laid, long))
+assert (opened.value, count.value, used.value) == (0, 1, 24)
+assert laid.raw[:24] == struct.pack("=Qq8s", 5, 1, b"there")
+assert library.felter_recover(memory, needed, None, by(count), by(used), laid, long) == NULL_POINTER
+assert library.felter_recover(None, needed, by(opened), by(count), by(used), laid, long) == NULL_POINTER
+assert library.felter_finding(memory, ctypes.c_size_t(127), by(used), laid, long) == 0
+assert laid.value == b"the memory is not the image of a ring"
 
 
 def write_all():

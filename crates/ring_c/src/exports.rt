@@ -18,4 +18,5 @@ pub(crate) mod producing;
 pub(crate) mod raw;
 pub(crate) mod reading;
 pub(crate) mod records;
+pub(crate) mod recovering;
 pub(crate) mod sharing;

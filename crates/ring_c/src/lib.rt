@@ -76,4 +76,5 @@ pub use exports::reading::{felter_counters_reader, felter_reader_value};
 pub use exports::records::{
     felter_counter_deadline, felter_counter_propose_max, felter_counter_state,
 };
+pub use exports::recovering::felter_recover_words;
 pub use exports::sharing::{felter_free, felter_split};

@@ -8,4 +8,5 @@ mod ReadLemmas
 mod ShownLemmas
 mod SlotLemmas
 mod TakeLemmas
+mod RecoveringLemmas
 pub mod Values

@@ -17,11 +17,14 @@ use Rattle.ring_handles.specs.declared.batch.Laying.{Laying}
 abbrev pub span_in : ℕ → ℕ
 span_in n = 16 + (n + 7) / 8 * 8
 
+-- the bytes with a length and a type id as words in place of their own from `at` on
+abbrev pub headed : ℕ → ℤ → ℕ → List ℕ → List ℕ
+headed at type_id len bytes = overwritten (at + 8) (to_le_bytes w64 (cast_unsigned w64 type_id))
+    (overwritten at (to_le_bytes w64 len) bytes)
+
 -- the bytes with a message in place of their own from `at` on: its length and its type id as words, and its body
 abbrev pub placed : ℕ → Message → List ℕ → List ℕ
-placed at m bytes = overwritten (at + 16) m.body
-    (overwritten (at + 8) (to_le_bytes w64 (cast_unsigned w64 m.type_id))
-    (overwritten at (to_le_bytes w64 (length m.body)) bytes))
+placed at m bytes = overwritten (at + 16) m.body (headed at m.type_id (length m.body) bytes)
 
 -- the bytes with these messages one after another from `at` on
 abbrev pub laid : ℕ → List Message → List ℕ → List ℕ

@@ -15,6 +15,7 @@ pub mod Opening
 pub mod Owned
 pub mod Producing
 pub mod Raw
+pub mod Recovering
 pub mod Returning
 pub mod Seating
 pub mod Serving

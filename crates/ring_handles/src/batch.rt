@@ -2,7 +2,7 @@
 ghost use Rattle.std.specs.Prelude.{◌≡◌, ◌≢◌, ◌+◌, ◌^◌, ◌<◌, ◌≤◌, true, false, length};
 ghost use Rattle.ring_layout.specs.declared.message.Message.{Message};
 ghost use Rattle.ring_rings.specs.Seats.{consumer_view, IsConsumerOf};
-ghost use Rattle.ring_handles.specs.Batch.{batch, placed, span_in, LaidNone, Lays, ReadBatch, ReadsBatch, TookBatch, TookSome};
+ghost use Rattle.ring_handles.specs.Batch.{batch, headed, placed, span_in, LaidNone, Lays, ReadBatch, ReadsBatch, TookBatch, TookSome};
 ghost use Rattle.ring_handles.specs.Consuming.{RanOut, ReadsOn};
 
 use crate::code::{DONE, NO_MESSAGE, SHORT_BUFFER};
@@ -20,11 +20,20 @@ pub(crate) struct Laying<'a> {
 }
 
 /// The bytes that a message takes.
-fn span_in(len: usize) -> usize
+pub(crate) fn span_in(len: usize) -> usize
     requires { len < 2 ^ 63 }
     ensures { result ≡ span_in len }
 {
     16 + len.div_ceil(8) * 8
+}
+
+/// Places the length and the type id of a message into a buffer.
+pub(crate) fn place_head(buffer: &mut [u8], at: usize, type_id: i32, len: usize)
+    requires { at + 16 ≤ length buffer.old }
+    ensures { buffer.new ≡ headed at type_id len buffer.old }
+{
+    copy_at(buffer, at, &(len as u64).to_le_bytes());
+    copy_at(buffer, at + 8, &i64::from(type_id).to_le_bytes());
 }
 
 /// Places a message into a buffer: its length, its type id and its body.
@@ -32,8 +41,7 @@ fn place(buffer: &mut [u8], at: usize, type_id: i32, body: &[u8])
     requires { at + span_in (length body.now) ≤ length buffer.old }
     ensures { buffer.new ≡ placed at (record { type_id = type_id; body = body.now }) buffer.old }
 {
-    copy_at(buffer, at, &(body.len() as u64).to_le_bytes());
-    copy_at(buffer, at + 8, &i64::from(type_id).to_le_bytes());
+    place_head(buffer, at, type_id, body.len());
     copy_at(buffer, at + 16, body);
 }
 

@@ -27,3 +27,15 @@ pub const OTHER_RING: i32 = 108;
 pub const OTHER_REPLY: i32 = 109;
 /// Another handle holds what was to be closed.
 pub const IN_USE: i32 = 110;
+/// The memory is not that of a ring.
+pub const NO_IMAGE: i32 = 113;
+/// The head or the tail of the ring is not a multiple of 8.
+pub const UNALIGNED_POSITION: i32 = 114;
+/// The tail of the ring is before the head.
+pub const TAIL_BEFORE_HEAD: i32 = 115;
+/// The tail of the ring is more than the capacity after the head.
+pub const TAIL_TOO_FAR: i32 = 116;
+/// A header has a length that no record has there.
+pub const BAD_HEADER_LENGTH: i32 = 117;
+/// A header has a type id that no record has.
+pub const BAD_HEADER_TYPE: i32 = 118;

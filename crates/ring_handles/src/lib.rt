@@ -8,6 +8,7 @@
 //! - `boards`, `raw`, `board_ending`: handles of a broadcast buffer. `counters`, `counting`, `reading`: of counters and
 //!   their readers. `adders`, `adding`: of shared counters.
 //! - `conductor`, `client`, `lending`, `finishing`: a conductor, its clients, and what it lends.
+//! - `recovering`: the messages of a ring whose process died. They need no handle.
 //!
 //! One thread at a time calls with a handle, which may move between threads.
 #![tactic(auto)]
@@ -37,6 +38,7 @@ mod opening;
 mod producer;
 mod raw;
 mod reading;
+mod recovering;
 mod ring;
 mod taking;
 
@@ -58,3 +60,4 @@ pub use opening::{
 };
 pub use producer::ProducerSide;
 pub use raw::RawReceiverSide;
+pub use recovering::recover_into;

@@ -113,6 +113,18 @@ errors! {
     NullPointer = 111,
     /// The memory is too short, does not begin at a multiple of 64 bytes, or is in use.
     BadMemory = 112,
+    /// The memory is not the image of a ring. Only [`recover`](crate::recover()) returns this error and the next five.
+    NoImage = 113,
+    /// The head or the tail is not a multiple of 8.
+    UnalignedPosition = 114,
+    /// The tail is before the head.
+    TailBeforeHead = 115,
+    /// The tail is more than the capacity after the head.
+    TailTooFar = 116,
+    /// A header has a length that no record has there.
+    BadHeaderLength = 117,
+    /// A header has a type id that no record has.
+    BadHeaderType = 118,
 }
 
 impl Error {

@@ -52,7 +52,13 @@ pub(crate) fn text(code: i32) -> &'static str {
         109 => "the message is the reply to another command, or no reply",
         110 => "another handle holds what was to be closed",
         111 => "a pointer is NULL",
-        112 => "the memory is too short, does not begin at a multiple of 64, or is in use",
+        112 => "the memory is too short, does not begin at a multiple of 64 (to recover: of 8), or is in use",
+        113 => "the memory is not the image of a ring",
+        114 => "the head or the tail is not a multiple of 8",
+        115 => "the tail is before the head",
+        116 => "the tail is more than the capacity after the head",
+        117 => "a header has a length that no record has there",
+        118 => "a header has a type id that no record has",
         _ => "unknown code",
     }
 }
@@ -283,6 +289,19 @@ extern "C" {
         number: *mut i64,
         lapped: *mut u64,
     ) -> i32;
+    pub(crate) fn felter_recover_words(
+        words: *const u64,
+        word_count: usize,
+        slots: *const u64,
+        slot_count: usize,
+        place: *mut u64,
+        found: *mut i64,
+        open_claims: *mut u64,
+        count: *mut u32,
+        used: *mut usize,
+        buffer: *mut u8,
+        room: usize,
+    ) -> i32;
     pub(crate) fn felter_ring_memory(capacity: u32, length: *mut usize) -> i32;
     pub(crate) fn felter_board_memory(capacity: u32, length: *mut usize) -> i32;
     pub(crate) fn felter_counters_memory(count: u32, length: *mut usize) -> i32;
@@ -318,4 +337,14 @@ extern "C" {
         counters: *mut Raw,
     ) -> i32;
     pub(crate) fn felter_unmap_at_end(memory: *mut u8, length: usize) -> i32;
+    pub(crate) fn felter_recover(
+        image: *const u8,
+        length: usize,
+        open_claims: *mut u64,
+        count: *mut u32,
+        used: *mut usize,
+        buffer: *mut u8,
+        room: usize,
+    ) -> i32;
+    pub(crate) fn felter_finding(image: *const u8, length: usize, len: *mut usize, text: *mut u8, room: usize) -> i32;
 }
