@@ -216,6 +216,35 @@ inline result<ring> one_to_one_in(void *memory, std::size_t length, std::uint32_
     return detail::ring_by([=](auto... its) { return felter_one_to_one_new_in(memory, length, its...); }, capacity);
 }
 
+// What was recovered from a ring whose process died. The messages are valid as long as the buffer is. write_batch takes
+// the records.
+struct recovered {
+    std::uint64_t open_claims;
+    batch messages;
+    bytes records;
+};
+
+// Lays the messages of a ring into a buffer. The image is the memory of the ring, for example its mapped file. A buffer
+// that is as long as the image is always long enough.
+inline result<recovered> recover(bytes image, buffer into) {
+    recovered found{};
+    std::uint32_t count = 0;
+    std::size_t used = 0;
+    const std::int32_t why = felter_recover(image.data(), image.size(), &found.open_claims, &count, &used, into.data(),
+                                            into.size());
+    found.messages = batch(into.data(), count);
+    found.records = {into.data(), why == FELTER_OK ? used : 0};
+    return detail::answer(why, found);
+}
+
+// Returns what recover finds wrong with an image, in words. The text is empty if nothing is wrong.
+inline std::string finding(bytes image) {
+    char text[128];
+    std::size_t len = 0;
+    const std::int32_t why = felter_finding(image.data(), image.size(), &len, text, sizeof text);
+    return why == FELTER_OK ? std::string(text, len) : std::string(felter_text(why));
+}
+
 // The place at which a receiver was lapped, and the intent that showed the lap.
 struct lap {
     std::uint64_t place, intent;

@@ -3,6 +3,7 @@
 import errno
 import gc
 import os
+import pickle
 import signal
 import struct
 import subprocess
@@ -89,6 +90,68 @@ class InFile(unittest.TestCase):
         self.assertEqual([it.body for it in consumer], left)
         producer.write(7, b"four")
         self.assertEqual(messages(self.path), [b"four"])
+
+    def test_messages_are_recovered(self) -> None:
+        subprocess.run([sys.executable, "-B", "-c", DYING, self.path], cwd=HERE, check=False)
+        with open(self.path, "rb") as file:
+            image = file.read()
+        recovered = felter.recover(image)
+        self.assertEqual(recovered.messages, [(7, b"two"), (7, b"three"), (8, b"after the claim")])
+        self.assertEqual(recovered.open_claims, 1)
+        for other in bytearray(image), memoryview(b"x" + image)[1:], image + b"more":
+            self.assertEqual(felter.recover(other), recovered)
+        # a new ring goes on with them
+        producer, consumer = felter.many_to_one_in_file(self.path + ".new", 1024)
+        self.assertEqual(producer.write_all(recovered.messages), 3)
+        os.rename(self.path + ".new", self.path)
+        with open(self.path, "rb") as file:
+            self.assertEqual(felter.recover(file.read()), felter.Recovered(recovered.messages, 0))
+        self.assertEqual(list(consumer), recovered.messages)
+
+    def test_longest_messages_and_empty_ones_are_recovered(self) -> None:
+        for bodies in [b""] * 128, [b"x" * 128] * 7, [bytes(k) for k in range(40)]:
+            producer, consumer = felter.one_to_one_in_file(self.path, 1024)
+            producer.write_all((1, it) for it in bodies)
+            producer.free()
+            consumer.free()
+            with open(self.path, "rb") as file:
+                recovered = felter.recover(file.read())
+            self.assertEqual([it.body for it in recovered.messages], messages(self.path))
+            self.assertGreater(len(recovered.messages), 5)
+            os.unlink(self.path)
+
+    def test_damage(self) -> None:
+        producer, consumer = felter.many_to_one_in_file(self.path, 256)
+        producer.write(7, b"first")
+        producer.free()
+        consumer.free()
+        with open(self.path, "rb") as file:
+            image = file.read()
+        cases = [
+            (0, 0, felter.Number.NO_IMAGE, "the memory is not the image of a ring"),
+            (128, header(7, 7), felter.Number.BAD_HEADER_LENGTH,
+             "a header has a length that no record has there: byte 0 of the buffer, length 7"),
+            (128, header(13, -5), felter.Number.BAD_HEADER_TYPE,
+             "a header has a type id that no record has: byte 0 of the buffer, type id -5"),
+            (128 + 256 + 384, 24, felter.Number.TAIL_BEFORE_HEAD, "the tail is before the head: head 24, tail 16"),
+            (128 + 256 + 128, 264, felter.Number.TAIL_TOO_FAR,
+             "the tail is more than the capacity after the head: head 0, tail 264"),
+            (128 + 256 + 128, 15, felter.Number.UNALIGNED_POSITION,
+             "the head or the tail is not a multiple of 8: head 0, tail 15"),
+        ]
+        for at, value, number, text in cases:
+            changed = image[:at] + struct.pack("<Q", value) + image[at + 8 :]
+            with self.assertRaises(felter.Damaged) as raised:
+                felter.recover(changed)
+            self.assertEqual((raised.exception.number, raised.exception.finding), (number, text))
+            self.assertEqual(str(raised.exception), "%d %s: %s" % (number, number.name, text))
+            again = pickle.loads(pickle.dumps(raised.exception))
+            self.assertEqual((again.number, again.finding), (number, text))
+        for cut in b"", image[:127], image[:-1]:
+            with self.assertRaises(felter.Damaged):
+                felter.recover(cut)
+        with self.assertRaises(TypeError):
+            felter.recover("text")  # type: ignore[arg-type]
 
     def test_ring(self) -> None:
         for make, kind in (felter.many_to_one_in_file, 2), (felter.one_to_one_in_file, 1):

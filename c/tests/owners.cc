@@ -333,6 +333,38 @@ void memory_of_the_caller() {
     CHECK(memory[128] == 5);
 }
 
+void recovering() {
+    alignas(64) static std::array<std::uint8_t, 896 + 2 * 256> memory{};
+    static std::array<std::uint8_t, 896 + 2 * 256> room{};
+    {
+        auto ring = felter::many_to_one_in(memory.data(), memory.size(), 256).value();
+        ring.producer.write(6, "read").value();
+        ring.producer.write(7, "hello").value();
+        ring.producer.write(8, "").value();
+        auto claim = ring.producer.claim(9, 3).value();
+        CHECK(ring.consumer.read(room).value().body.text() == "read");
+        CHECK(felter::recover(memory, room).value().open_claims == 1);
+    }
+    const auto recovered = felter::recover(memory, room).value();
+    CHECK(recovered.open_claims == 0 && recovered.messages.size() == 2 && recovered.records.size() == 16 + 8 + 16);
+    std::vector<std::pair<std::int32_t, std::string>> found;
+    for (auto it : recovered.messages) found.emplace_back(it.type_id, it.body.text());
+    CHECK(found == (std::vector<std::pair<std::int32_t, std::string>>{{7, "hello"}, {8, ""}}));
+    CHECK(felter::finding(memory).empty());
+    auto ring = felter::one_to_one(256).value();
+    const auto written = ring.producer.write_batch(recovered.records);
+    CHECK(written.count == 2 && written.why == FELTER_OK);
+    CHECK(ring.consumer.read(room).value().body.text() == "hello");
+    CHECK(felter::recover(memory, {room.data(), 39}).code() == FELTER_SHORT_BUFFER);
+    CHECK(felter::recover({memory.data(), memory.size() - 1}, room).code() == FELTER_NO_IMAGE);
+    CHECK(felter::recover({nullptr, 1}, room).code() == FELTER_NULL_POINTER);
+    CHECK(felter::finding({nullptr, 1}) == "a pointer is NULL");
+    memory[128 + 16] = 5;
+    CHECK(felter::recover(memory, room).code() == FELTER_BAD_HEADER_LENGTH);
+    CHECK(felter::finding(memory) ==
+          "a header has a length that no record has there: byte 16 of the buffer, length 5");
+}
+
 } // namespace
 
 int main() {
@@ -348,5 +380,6 @@ int main() {
     adders();
     boards_and_conductors();
     memory_of_the_caller();
+    recovering();
     return failed != 0;
 }

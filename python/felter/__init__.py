@@ -13,7 +13,7 @@ Capacities, lengths and positions are in bytes. Moments are in milliseconds of a
 
 Files. `many_to_one_in_file`, `one_to_one_in_file`, `Transmitter.in_file` and `Counters.in_file` make a structure in a
 new file. Its words and bodies survive the death of the process. Another process may look at the file, and must not
-write to it.
+write to it. After the process of a ring died, `recover` returns the messages that are left in the file.
 
 Layouts. The bodies of messages are stored separately from the words of headers and positions. So rings do not have the
 memory layout of Agrona's rings.
@@ -52,8 +52,9 @@ from felter.claims import Claim
 from felter.conductor import Client, Conductor, Finished, Outcome, Reply, ReplyKind, Unanswered, Work, WorkStop
 from felter.controlled import Action
 from felter.counters import Counters, Reader
-from felter.errors import Closed, Contended, Disconnected, Error, Full, Lapped, Number
+from felter.errors import Closed, Contended, Damaged, Disconnected, Error, Full, Lapped, Number
 from felter.message import Buffer, Message
+from felter.recovering import Recovered, recover
 from felter.rings import (
     Consumer,
     Found,
@@ -80,6 +81,7 @@ __all__ = [
     "Consumer",
     "Contended",
     "Counters",
+    "Damaged",
     "Disconnected",
     "Doorbell",
     "Error",
@@ -97,6 +99,7 @@ __all__ = [
     "RawRecord",
     "Reader",
     "Receiver",
+    "Recovered",
     "Reply",
     "ReplyKind",
     "Sizes",
@@ -111,4 +114,5 @@ __all__ = [
     "many_to_one_in_file",
     "one_to_one",
     "one_to_one_in_file",
+    "recover",
 ]

@@ -148,13 +148,13 @@ class Function:
         words = [it for before, it in zip(["", *words], words) if before not in ("bytes", "*u8")]
         self.takes = [TAKES[it] for it in words if it in TAKES]
         self.handles = [i for i, it in enumerate(words) if it == "*handle"]
-        self.outs = [OUTS[it] for it in words if it in OUTS]
+        outs = [it for it in words if it in OUTS]
+        self.outs = [OUTS[it] for it in outs]
         self.has_room = "*u8" in words
         self.given = len(self.takes) + self.has_room
         # The position of the number of bytes that were put into the buffer, and of the number of times that the
         # receiver was lapped.
-        has_length = self.has_room and ctypes.c_size_t in self.outs
-        self.length = self.outs.index(ctypes.c_size_t) if has_length else None
+        self.length = outs.index("*usize") if self.has_room and "*usize" in outs else None
         lapped = len(self.outs) - 1 if name in LAPPING else None
         self.found = [i for i in range(len(self.outs)) if i not in (self.length, lapped)]
 
@@ -165,7 +165,7 @@ class Function:
         for it in handles:
             it._check()
         if not handles:
-            return self.answered(self.call(*parameters), None, parameters, outs, is_trying)
+            return self.answered(*self.made(given, parameters, outs), parameters, outs, is_trying)
         if len(handles) == 1:
             one = handles[0]
             with one._lock:
@@ -179,12 +179,16 @@ class Function:
     ) -> typing.Any:
         """Does what `ask` does, after the handles were locked."""
         try:
-            code, room = self.fill(given, parameters, outs) if self.has_room else (self.call(*parameters), None)
+            code, room = self.made(given, parameters, outs)
         finally:
             # (no interrupt comes between these two)
             one._was_emptied = one._raw.at is None
             two._was_emptied = two._raw.at is None
         return self.answered(code, room, parameters, outs, is_trying)
+
+    def made(self, given: typing.Any, parameters: typing.Any, outs: typing.Any) -> typing.Tuple[int, typing.Any]:
+        """Makes the call. Returns the code, and the buffer if the call fills one."""
+        return self.fill(given, parameters, outs) if self.has_room else (self.call(*parameters), None)
 
     def answered(
         self, code: int, room: typing.Any, parameters: typing.Any, outs: typing.Any, is_trying: bool

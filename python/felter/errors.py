@@ -4,7 +4,7 @@ import typing
 
 from felter._codes import TEXTS, Number
 
-__all__ = ["Closed", "Contended", "Disconnected", "Error", "Full", "Lapped", "Number"]
+__all__ = ["Closed", "Contended", "Damaged", "Disconnected", "Error", "Full", "Lapped", "Number"]
 
 
 class Error(Exception):
@@ -64,6 +64,23 @@ class Lapped(Error):
 
     def _made_of(self) -> typing.Tuple[int, ...]:
         return self.count, self.missed_bytes
+
+
+class Damaged(Error):
+    """Nothing was recovered, since the image is not that of a ring, or is damaged. `finding` says what was found, and at
+    which place."""
+
+    finding: str
+
+    def __init__(self, number: int, finding: str) -> None:
+        super().__init__(number)
+        self.finding = finding
+
+    def __str__(self) -> str:
+        return "%d %s: %s" % (self.number, self.number.name, self.finding)
+
+    def __reduce__(self) -> typing.Tuple[typing.Any, ...]:
+        return type(self), (int(self.number), self.finding)
 
 
 class Disconnected(Exception):

@@ -3,7 +3,6 @@
 import contextlib
 import enum
 import operator
-import struct
 import typing
 
 from felter._library import call, direct
@@ -13,6 +12,7 @@ from felter.controlled import Controlled
 from felter.errors import Contended, Disconnected, Error, Full, Number
 from felter.files import Path, make
 from felter.message import Buffer, Message
+from felter.recovering import messages_in
 from felter.waiting import wait_as_task, wait_for
 
 
@@ -105,12 +105,7 @@ class Consumer(Controlled):
         message takes 16 bytes of the buffer, plus the bytes of its body, rounded up to a multiple of 8. A message for
         which the buffer has no room stays in the ring."""
         count, records = self._try("felter_read_batch", limit, operator.index(room)) or (0, b"")
-        messages, at = [], 0
-        for _ in range(count):
-            length, type_id = struct.unpack_from("=Qq", records, at)
-            messages.append(Message(type_id, records[at + 16 : at + 16 + length]))
-            at += 16 + (length + 7) // 8 * 8
-        return messages
+        return messages_in(records, count)
 
     def standing(self, producer: "Producer") -> Standing:
         """Returns what is next in the ring. The call needs a producer of the same ring. The call loads the positions,

@@ -20,8 +20,8 @@
 //! - `is_abandoned` returns whether the other side is gone.
 //! - A [`Doorbell`] wakes event loops.
 //!
-//! [`many_to_one_in_file`], [`Transmitter::in_file`] and [`Counters::in_file`] make a structure in a new file. Its words
-//! and bodies survive the death of the process.
+//! [`many_to_one_in_file`], [`Transmitter::in_file`] and [`Counters::in_file`] make a structure in a new file. Its
+//! words and bodies survive the death of the process. [`recover`](recover()) then returns the messages of a ring.
 //!
 //! Capacities, lengths and positions are in bytes. Moments are in milliseconds of a clock that the caller chooses.
 //!
@@ -66,6 +66,7 @@ mod message;
 mod owned;
 mod raw;
 mod records;
+mod recovering;
 mod request;
 mod ring;
 mod standing;
@@ -87,6 +88,7 @@ pub use in_file::{
 };
 pub use message::{Batch, Message};
 pub use owned::{OwnedMessage, ReceiverIter, ReceiverTryIter};
+pub use recovering::{recover, NotRecovered, Recovered};
 pub use request::{Command, RequestError};
 pub use ring::{many_to_one, many_to_one_at, one_to_one, one_to_one_at, Consumer, Positions, Producer};
 pub use standing::{Found, Standing};
