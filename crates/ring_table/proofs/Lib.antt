@@ -48,3 +48,4 @@ pub mod SlotCalls
 pub mod SlotBodies
 pub mod HeaderCalls
 pub mod LawLemmas
+pub mod MarkWords

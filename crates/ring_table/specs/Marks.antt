@@ -1,0 +1,59 @@
+-- Marks: the words of a ring whose bodies lie in slots. The word at the index of a position p is a mark if it is above
+-- p, and otherwise says nothing. A mark is the end of the record or of the padding that begins at p, and its kind.
+use Rattle.std.specs.Prelude.{◌≡◌, ◌≢◌, ℕ, ◌+◌, ◌-◌, ◌/◌, ◌%◌, ◌^◌, ◌≤◌, ◌<◌, List, length, slice_index, if◌then◌else◌, nat_lt, ◌==◌}
+use mathlib.Core.Option.{Option}
+use Rattle.ring_layout.specs.Places.{index}
+use Rattle.ring_table.specs.Staged.{elsewhere}
+use Rattle.ring_table.specs.Views.{Key, View}
+use Rattle.ring_table.specs.Shelf.{IsShelf}
+use Rattle.ring_table.specs.Rule.{Kept}
+use Rattle.ring_table.specs.ConsumerSteps.{rounded}
+
+-- ---- kinds, which are below 8: ends are multiples of 8
+
+abbrev pub committed_kind : ℕ
+committed_kind = 0
+
+abbrev pub padding_kind : ℕ
+padding_kind = 1
+
+abbrev pub open_kind : ℕ
+open_kind = 2
+
+abbrev pub aborted_kind : ℕ
+aborted_kind = 3
+
+-- the kind of what has this header
+unfoldable pub kind_of : ℕ → ℕ
+kind_of h =
+    if nat_lt (2 ^ 31) (h % 2 ^ 32) then open_kind
+    else (if h / 2 ^ 32 == 2 ^ 32 - 2 then padding_kind
+    else (if h / 2 ^ 32 == 2 ^ 32 - 1 then aborted_kind else committed_kind))
+
+-- the bytes of what has this header
+unfoldable pub bytes_of : ℕ → ℕ
+bytes_of h = if nat_lt (2 ^ 31) (h % 2 ^ 32) then rounded (2 ^ 32 - h % 2 ^ 32) else rounded (h % 2 ^ 32)
+
+-- the mark at the position p of what has this header
+abbrev pub mark_of : ℕ → ℕ → ℕ
+mark_of p h = p + bytes_of h + kind_of h
+
+-- ---- the rule
+
+-- The words have the marks of what the headers show, from `cleared` on. Where the headers show nothing, they are no
+-- marks, nor are they a lap later below `cleared`
+pub record Encodes (C head cleared : ℕ) (headers words : List ℕ) : Type 0 where
+  pub wide : length words ≡ length headers
+  pub trailer : (i : ℕ) → C / 8 ≤ i → slice_index words i ≡ slice_index headers i
+  pub marks : (p : ℕ) → p % 8 ≡ 0 → cleared ≤ p → p < head + C → slice_index headers (index C p) ≢ 0
+      → slice_index words (index C p) ≡ mark_of p (slice_index headers (index C p))
+  pub none : (p : ℕ) → p % 8 ≡ 0 → cleared ≤ p → p < head + C → slice_index headers (index C p) ≡ 0
+      → slice_index words (index C p) ≤ p
+  pub passed : (p : ℕ) → p % 8 ≡ 0 → head ≤ p → p < cleared → slice_index words (index C p) ≤ p + C
+
+-- The rule of a ring whose bodies lie in slots: there are headers that keep the rule, and that the words encode
+pub record KeepsMarks (C start : ℕ) (words : List ℕ) (homes : List (Option ℕ)) (views : List View) : Type 0 where
+  pub headers : List ℕ
+  pub kept : Kept elsewhere C start headers views
+  pub shelf : IsShelf C homes views
+  pub encodes : Encodes C kept.consumer.head kept.consumer.cleared headers words
