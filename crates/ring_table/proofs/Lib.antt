@@ -49,3 +49,4 @@ pub mod SlotBodies
 pub mod HeaderCalls
 pub mod LawLemmas
 pub mod MarkWords
+pub mod EncodeLemmas
