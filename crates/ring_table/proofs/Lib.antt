@@ -50,3 +50,4 @@ pub mod HeaderCalls
 pub mod LawLemmas
 pub mod MarkWords
 pub mod EncodeLemmas
+pub mod MarkSteps
