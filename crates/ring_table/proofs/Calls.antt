@@ -161,7 +161,7 @@ module _ (B : Bodies) {id : TableId} {key : Key} {capacity : ℕ} {seat : Seat �
         (h.at_place ∙ sym at) in record {
           stored = subst (λ (z : StagedClaim). IsStored z.stage) one (subst IsStored (sym h.holds.stage) tt);
           place = refl;
-          body = refl;
+          message = refl;
         })
 
     -- the header that settles a claim is stored

@@ -26,7 +26,7 @@ has_same v k c has stored = record {
   nth = k;
   claim = c;
   has = has;
-  was = record { stored = stored; place = refl; body = refl };
+  was = record { stored = stored; place = refl; message = refl };
 }
 
 -- claims, the seat's kind and the head are as they were

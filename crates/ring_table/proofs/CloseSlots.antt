@@ -22,6 +22,7 @@ use Rattle.ring_table.proofs.MemoryLemmas.{index_inside}
 use Rattle.ring_table.proofs.PictureWords.{read_at}
 use Rattle.ring_table.proofs.ReachLemmas.{stored_of}
 use Rattle.ring_table.proofs.ShelfLemmas.{nothing_out}
+use Rattle.ring_table.proofs.SlotBytes.{slot_later}
 use Rattle.ring_table.proofs.StagedPlaces.{capacity_aligned, nothing_behind}
 use Rattle.ring_table.proofs.StepLemmas.{one_view}
 
@@ -77,6 +78,7 @@ module _ (C start : ℕ) (words : List ℕ) (homes : List (Option ℕ)) (views :
     none_cleared = last.none_cleared;
     bodies = λ k x there above off a8 less.
         let i : ℕ = index C (x.1.place + 8 + off) in
+        let whole : x.1.place + (8 + off) ≡ x.1.place + 8 + off = omega arith in
         let y = s.home i (index_inside elsewhere C start r.lawful (x.1.place + 8 + off)) (nobody_out i) in
         let has : HasClaim v k x.1 =
         subst (λ (l : List StagedClaim). get_elem? l k ≡ some x.1) (sym known.claims_are) (claim_there known.hist k x there) in
@@ -90,7 +92,9 @@ module _ (C start : ℕ) (words : List ℕ) (homes : List (Option ℕ)) (views :
           has = has;
           stored = stored_of x.1.stage (settled_there known.hist k x settled there);
         })
-        (record { seat = id; view = v; there = at; consumes = last.consumes; head = above }) off y.0 a8 less y.1;
+        (record { seat = id; view = v; there = at; consumes = last.consumes; head = above }) (8 + off) y.0 (omega arith)
+        (omega arith) (ap (λ z. get_elem? homes (index C z)) whole ∙ y.1)
+        ∙ slot_later x.1.message off;
   }
 
   pub closed_slots : (xs : List ℕ) (values : (i y : ℕ) → get_elem? homes i ≡ some (some y) → get_elem? xs i ≡ some y)

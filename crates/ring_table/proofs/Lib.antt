@@ -32,6 +32,7 @@ pub mod RefillLemmas
 pub mod SlotsRescue
 pub mod PictureWords
 pub mod CloseSlots
+pub mod SlotBytes
 pub mod ShelfLemmas
 pub mod CarryLemmas
 pub mod HeaderWords

@@ -12,7 +12,7 @@ use Rattle.ring_layout.specs.declared.message.ClaimState.TheVariants.{Open}
 use Rattle.ring_layout.specs.Headers.{open_header}
 use Rattle.ring_layout.specs.Places.{index}
 use Rattle.ring_layout.proofs.ListLemmas.{at_below}
-use Rattle.ring_table.specs.Staged.{Bodies, elsewhere, StagedClaim, PlacedMessage, Padded, Stored, IsStored, AreRising, staged_end, body_word}
+use Rattle.ring_table.specs.Staged.{Bodies, elsewhere, StagedClaim, PlacedMessage, Padded, Stored, IsStored, AreRising, staged_end, body_word, slot_bytes}
 use Rattle.ring_table.specs.Changes.{blank, changed, with_header}
 use Rattle.ring_table.specs.Owners.{OwnedHistory, all_of, owned_by}
 use Rattle.ring_table.specs.Passing.{IsSettled, placed_message}
@@ -35,6 +35,7 @@ use Rattle.ring_table.proofs.ClearLemmas.{one_end}
 use Rattle.ring_table.proofs.CarryLemmas.{Holds, was_changed, one_claim}
 use Rattle.ring_table.proofs.BodyPlaces.{body_index, gathered}
 use Rattle.ring_table.proofs.OutPlaces.{own_lies, got_lies, none_at_own, none_at_got, all_home, reads_from}
+use Rattle.ring_table.proofs.SlotBytes.{length_slot}
 use Rattle.ring_table.proofs.SlotLemmas.{takes_shelf}
 
 -- ---- views and lists
@@ -151,8 +152,8 @@ module _ (C start : ℕ) where
       let n : ℕ = length c.message.body in
       let i : ℕ = index C c.place in
       let home = all_home C start s.words s.homes s.views r.0 r.1 c.place n l alone in
-      let right : (j y : ℕ) → j < words_of n → get_elem? s.homes (i + 1 + j) ≡ some (some y)
-      → body_word c.message.body (8 * j) ≡ y = λ j y less e.
+      let right : (j y : ℕ) → j < words_of (8 + n) → get_elem? s.homes (i + j) ≡ some (some y)
+      → body_word (slot_bytes c.message) (8 * j) ≡ y = λ j y less e.
       sym (r.1.exact c (record {
         seat = id;
         view = v;
@@ -162,15 +163,16 @@ module _ (C start : ℕ) where
         stored = subst IsStored (sym is) tt;
       }) (reads_from C start s.words s.homes s.views r.0 r.1 c.place l.body.from) (8 * j) y (omega arith) (omega arith)
       (ap (get_elem? s.homes) (body_index C r.0.consumer.head c.place n j l.body less) ∙ e)) in
-      let ys = gathered s.homes (i + 1) (words_of n) home in
+      let ys = gathered s.homes i (words_of (8 + n)) home in
+      let long = length_slot c.message in
       let m : PlacedMessage = placed_message c in
       let w : View = with_out (m ∷ []) v in
-      let body : HasBody (i + 1) c.message.body (carried_after me.1 (takes_from (i + 1) ys.0)) =
-      has_body C (i + 1) c.message.body ys.0 s.homes me.1 empty ys.1
-      (λ j y less e. right j y less (ys.2 j y e)) in (
+      let body : HasBody i (slot_bytes c.message) (carried_after me.1 (takes_from i ys.0)) =
+      has_body C i (slot_bytes c.message) ys.0 s.homes me.1 empty (ys.1 ∙ ap words_of (sym long))
+      (λ j y less e. right j y (subst (λ z. j < words_of z) long less) (ys.2 j y e)) in (
         w,
-        takes_from (i + 1) ys.0,
-        valid_takes s.homes me.1 (i + 1) ys.0 ys.2,
+        takes_from i ys.0,
+        valid_takes s.homes me.1 i ys.0 ys.2,
         (
           loaded s i (set s.views id w) (outed elsewhere C start s.words s.views r.0 id v at (m ∷ []) v.log),
           takes_shelf C start s.words s.homes s.views r.0 r.1 id v w at refl refl m me.1 ys.0 (record {
@@ -184,8 +186,8 @@ module _ (C start : ℕ) where
           λ k' c' has' is' same.
               let one : c ≡ c' = own_claim s r.0 id v at cap k c has un k' c' has' (λ z. subst IsSettled is' z) same in (
                 (λ x. with_out (placed_message (one x) ∷ []) v),
-                subst (λ (z : StagedClaim). HasBody (i + 1) z.message.body (carried_after me.1
-                    (takes_from (i + 1) ys.0))) one body,
+                subst (λ (z : StagedClaim). HasBody i (slot_bytes z.message) (carried_after me.1
+                    (takes_from i ys.0))) one body,
                 subst (λ (z : StagedClaim). All (λ b. b < 256) z.message.body) one
                     (stands elsewhere C start s.words s.views r.0 id v k c
                     (record { seat = at; claim = has; unsettled = un })).lies.message.bytes,
@@ -208,13 +210,13 @@ module _ (C start : ℕ) where
       let alone = none_at_own C start s.words s.homes s.views r.0 r.1 id v k c at none has un in
       let n : ℕ = length c.message.body in
       let i : ℕ = index C c.place in
-      let ys = gathered s.homes (i + 1) (words_of n)
+      let ys = gathered s.homes i (words_of (8 + n))
       (all_home C start s.words s.homes s.views r.0 r.1 c.place n l alone) in
       let m : PlacedMessage = placed_message c in
       let w : View = with_out (m ∷ []) v in (
         w,
-        takes_from (i + 1) ys.0,
-        valid_takes s.homes me.1 (i + 1) ys.0 ys.2,
+        takes_from i ys.0,
+        valid_takes s.homes me.1 i ys.0 ys.2,
         (
           loaded s word (set s.views id w) (outed elsewhere C start s.words s.views r.0 id v at (m ∷ []) v.log),
           takes_shelf C start s.words s.homes s.views r.0 r.1 id v w at refl refl m me.1 ys.0 (record {
@@ -229,10 +231,10 @@ module _ (C start : ℕ) where
               let one : c ≡ c' = one_newest others others' c c' (sym newest ∙ newest') in
               let here : i ≡ index v.capacity c'.place = λ x. index (sym cap x) (one x).place in (
                 (λ x. with_out (placed_message (one x) ∷ []) v),
-                subst (λ z. HasSlots (z + 1) (words_of (length c'.message.body)) (carried_after me.1
-                    (takes_from (i + 1) ys.0))) here
-                    (has_slots (i + 1) (words_of (length c'.message.body)) ys.0 me.1 empty
-                    (ys.1 ∙ ap (λ (z : StagedClaim). words_of (length z.message.body)) one)),
+                subst (λ z. HasSlots z (words_of (8 + length c'.message.body)) (carried_after me.1
+                    (takes_from i ys.0))) here
+                    (has_slots i (words_of (8 + length c'.message.body)) ys.0 me.1 empty
+                    (ys.1 ∙ ap (λ (z : StagedClaim). words_of (8 + length z.message.body)) one)),
               ),
           rising elsewhere C start s.words s.views r.0 id v at,
         ),
@@ -265,23 +267,24 @@ module _ (C start : ℕ) where
       (λ (past : length s.views ≤ p.owned.0). absurd (some-ne-none p.owned.1
       (sym owner.1 ∙ ap (λ h. get_elem? h owner.0) (r.0.seated.nobody p.owned.0 past))))
       (there_or_past s.views p.owned.0) in
-      let right : (j y : ℕ) → j < words_of n → get_elem? s.homes (i + 1 + j) ≡ some (some y)
-      → body_word m.message.body (8 * j) ≡ y = λ j y less e.
+      let right : (j y : ℕ) → j < words_of (8 + n) → get_elem? s.homes (i + j) ≡ some (some y)
+      → body_word (slot_bytes m.message) (8 * j) ≡ y = λ j y less e.
       let long : length p.owned.1.message.body ≡ n = ap (λ (z : PlacedMessage). length z.message.body) p.is in
       let place : p.owned.1.place ≡ m.place = ap (λ (z : PlacedMessage). z.place) p.is in
-      ap (λ (z : PlacedMessage). body_word z.message.body (8 * j)) (sym p.is)
+      ap (λ (z : PlacedMessage). body_word (slot_bytes z.message) (8 * j)) (sym p.is)
       ∙ sym (r.1.exact p.owned.1 of (reads_from C start s.words s.homes s.views r.0 r.1 p.owned.1.place
       (let from = l.body.from in omega arith)) (8 * j) y (omega arith) (omega arith)
-      (ap (get_elem? s.homes) (ap (λ q. index C (q + 8 + 8 * j)) place
+      (ap (get_elem? s.homes) (ap (λ q. index C (q + 8 * j)) place
       ∙ body_index C r.0.consumer.head m.place n j l.body less) ∙ e)) in
-      let ys = gathered s.homes (i + 1) (words_of n) home in
+      let ys = gathered s.homes i (words_of (8 + n)) home in
+      let long_it = length_slot m.message in
       let w : View = with_out (m ∷ []) v in
-      let body : HasBody (i + 1) m.message.body (carried_after me.1 (takes_from (i + 1) ys.0)) =
-      has_body C (i + 1) m.message.body ys.0 s.homes me.1 empty ys.1
-      (λ j y less e. right j y less (ys.2 j y e)) in (
+      let body : HasBody i (slot_bytes m.message) (carried_after me.1 (takes_from i ys.0)) =
+      has_body C i (slot_bytes m.message) ys.0 s.homes me.1 empty (ys.1 ∙ ap words_of (sym long_it))
+      (λ j y less e. right j y (subst (λ z. j < words_of z) long_it less) (ys.2 j y e)) in (
         w,
-        takes_from (i + 1) ys.0,
-        valid_takes s.homes me.1 (i + 1) ys.0 ys.2,
+        takes_from i ys.0,
+        valid_takes s.homes me.1 i ys.0 ys.2,
         (
           loaded s i (set s.views id w) (outed elsewhere C start s.words s.views r.0 id v at (m ∷ []) v.log),
           takes_shelf C start s.words s.homes s.views r.0 r.1 id v w at refl refl m me.1 ys.0 (record {
@@ -294,8 +297,8 @@ module _ (C start : ℕ) where
         λ front' m' got'.
             let same = one_end front front' m m' (sym got ∙ got') in (
               (λ x. with_out (same.1 x ∷ []) v),
-              subst (λ (z : PlacedMessage). HasBody (i + 1) z.message.body (carried_after me.1
-                  (takes_from (i + 1) ys.0))) same.1 body,
+              subst (λ (z : PlacedMessage). HasBody i (slot_bytes z.message) (carried_after me.1
+                  (takes_from i ys.0))) same.1 body,
             ),
       )
 
@@ -317,8 +320,8 @@ module _ (C start : ℕ) where
       let lawful = fills.lawful in
       let zeros : length (blank type_id n).body ≡ n = length-replicate n 0 in
       let short : n ≤ C / 8 = omega (arith, lawful.short) in
-      let count : words_of (length c.message.body) ≡ words_of n = omega arith in
-      let ys = gathered s.homes (i + 1) (words_of (length c.message.body))
+      let count : words_of (8 + length c.message.body) ≡ words_of (8 + n) = omega arith in
+      let ys = gathered s.homes i (words_of (8 + length c.message.body))
       (all_home C start s.words s.homes s.views r.0 r.1 c.place (length c.message.body) l alone) in
       let m : PlacedMessage = record { place = c.place; message = blank type_id n } in
       let f : StagedClaim → StagedClaim = with_header type_id n in
@@ -334,8 +337,8 @@ module _ (C start : ℕ) where
       (outed elsewhere C start (set s.words i value) (set s.views id mid) kept id mid
       (set_here s.views id mid (at_below s.views id v at)) (m ∷ []) mid.log) in (
         w,
-        takes_from (i + 1) ys.0,
-        valid_takes s.homes me.1 (i + 1) ys.0 ys.2,
+        takes_from i ys.0,
+        valid_takes s.homes me.1 i ys.0 ys.2,
         (
           kept_out,
           takes_shelf C start s.words s.homes s.views r.0 r.1 id v w at refl refl m me.1 ys.0 (record {
@@ -374,7 +377,7 @@ module _ (C start : ℕ) where
               let types : type_id ≡ type_id' =
               one_type type_id n type_id' n' lawful.type_fits (omega arith) fits' small' same' in
               let lengths : n ≡ n' = one_length type_id n type_id' n' (omega arith) small' same' in (
-                has_slots (i + 1) (words_of n') ys.0 me.1 empty (ys.1 ∙ count ∙ ap words_of lengths),
+                has_slots i (words_of (8 + n')) ys.0 me.1 empty (ys.1 ∙ count ∙ ap (λ z. words_of (8 + z)) lengths),
                 λ k' c' has' is' here.
                     let one : c ≡ c' = own_claim s r.0 id v at cap k c has un k' c' has'
                     (λ z. subst IsSettled is' z) here in

@@ -13,7 +13,7 @@ use Rattle.ring_table.specs.Staged.{in_words, StagedClaim, PlacedMessage, Stage,
 use Rattle.ring_table.specs.Passing.{IsSettled, placed_message, shown_at, placed_committed_of}
 use Rattle.ring_table.specs.Refilling.{FillsOver, FillsTo, Filled, FitAll, FitsBody, all_filled, filled, filled_message}
 use Rattle.ring_table.specs.Walk.{IsCopied}
-use Rattle.ring_table.proofs.BodyPlaces.{BodyIn, body_index}
+use Rattle.ring_table.proofs.BodyPlaces.{BodyIn, behind_header}
 use Rattle.ring_table.proofs.HeaderReads.{halves, type_below}
 use Rattle.ring_table.proofs.ReachLemmas.{stored_of}
 use Rattle.ring_table.proofs.RestLemmas.{stored_record}
@@ -233,7 +233,7 @@ module _ (C head : ℕ) (cap : IsCapacity C) (slots : List ℕ) (F : ℕ → Lis
                 let i : ℕ = (p - s - 8) / 8 in
                 let p_is : p ≡ s + 8 + 8 * i = omega arith in
                 let slot : index C p ≡ index C s + 1 + i =
-                ap (index C) p_is ∙ body_index C head s len i b (omega arith) in
+                ap (index C) p_is ∙ behind_header C head s len i b (omega arith) in
                 let claim_p : p ≡ c.place + 8 + 8 * i = omega arith in
                 copy.inside (index C p) (omega arith) (omega arith)
                 ∙ ap (λ q. slice_index slots (index C q)) claim_p

@@ -31,6 +31,7 @@ use Rattle.ring_table.proofs.ReachLemmas.{stored_of}
 use Rattle.ring_table.proofs.RescueLemmas.{head_there, left, left_parts, same_head, shows_left}
 use Rattle.ring_table.proofs.RestLemmas.{staged_word_at-claims_of}
 use Rattle.ring_table.proofs.SettleLemmas.{are_stored}
+use Rattle.ring_table.proofs.SlotBytes.{slot_later}
 
 -- ---- which bodies are at home
 
@@ -110,20 +111,22 @@ module _ (C start : ℕ) (words : List ℕ) (homes : List (Option ℕ)) (views :
   slot_right k x there done above off off8 less =
       let n : ℕ = length x.1.message.body in
       let place : ℕ = x.1.place in
-      let i : ℕ = off / 8 in
+      let i : ℕ = off / 8 + 1 in
       let lies = claim_lies elsewhere C start words views r k x there above in
       let none = none_at_got C start words homes views r s id v (placed_message x.1) at_id bare consumes
       (record { nth = k; owned = x; there = there; settled = done; is = refl }) in
-      let inside : i < words_of n = omega arith in
+      let inside : i < words_of (8 + n) = omega arith in
       let home = all_home C start words homes views r s place n lies none i inside in
-      let off_is : place + 8 + off ≡ place + 8 + 8 * i = omega arith in
-      let slot : index C (place + 8 + off) ≡ index C place + 1 + i =
+      let off_is : place + 8 + off ≡ place + 8 * i = omega arith in
+      let whole : place + (8 + off) ≡ place + 8 + off = omega arith in
+      let slot : index C (place + 8 + off) ≡ index C place + i =
       ap (index C) off_is ∙ body_index C r.consumer.head place n i lies.body inside in
       let at_home : get_elem? homes (index C (place + 8 + off)) ≡ some (some home.0) =
       ap (get_elem? homes) slot ∙ home.1 in
       read_at xs (index C (place + 8 + off)) home.0 (values (index C (place + 8 + off)) home.0 at_home)
-      ∙ s.exact x.1 (claim_of_view k x there done) (reads_from C start words homes views r s place above) off home.0
-      off8 less at_home
+      ∙ s.exact x.1 (claim_of_view k x there done) (reads_from C start words homes views r s place above) (8 + off) home.0
+      (omega arith) (omega arith) (ap (λ z. get_elem? homes (index C z)) whole ∙ at_home)
+      ∙ slot_later x.1.message off
 
   pub have_left : (taken rest : List StagedClaim) → all_of r.hist ≡ taken ++ rest → (head : ℕ)
       → head ≡ r.consumer.head → AllHave C head xs (restarted head rest)

@@ -36,7 +36,7 @@ pub fn open_body(
     requires message { IsMessage capacity (blank wanted.type_id wanted.len) }
     requires claim { HasClaimAt producer.old.me.0 place (NeedsHeader wanted.len) }
     ensures seat { IsSameHolder producer.old producer.new }
-    ensures slots { HasSlots (index capacity place + 1) (words_of wanted.len) producer.new.me.1 }
+    ensures slots { HasSlots (index capacity place) (words_of (8 + wanted.len)) producer.new.me.1 }
     ensures view { producer.new.me.0
         ≡ with_out ((record { place = place; message = blank wanted.type_id wanted.len }) ∷ [])
         (with_changed place (with_header wanted.type_id wanted.len) producer.old.me.0) }
@@ -70,7 +70,7 @@ pub fn commit_body(
 )
     requires seat { IsHolderOf ring.now.table_id ring.now.key capacity producer.old }
     requires message { IsMessage capacity (blank wanted.type_id wanted.len) }
-    requires body { (body : List ℕ) × (length body ≡ wanted.len) × IsReserved capacity place body producer.old.me }
+    requires body { (body : List ℕ) × (length body ≡ wanted.len) × IsReserved capacity place wanted.type_id body producer.old.me }
     ensures seat { IsSameHolder producer.old producer.new }
     ensures commits { CommitsBody (committed_header wanted.type_id wanted.len) producer.old.me producer.new.me }
     ensures rising { AreRising producer.old.me.0.producer.claims }

@@ -3,7 +3,7 @@ use Rattle.std.proofs.lemmas.List.{length-replicate}
 use Rattle.ring_layout.specs.Headers.{committed_header}
 use Rattle.ring_layout.specs.History.{IsMessage}
 use Rattle.ring_layout.specs.Places.{index}
-use Rattle.ring_table.specs.Staged.{AreRising}
+use Rattle.ring_table.specs.Staged.{AreRising, slot_bytes}
 use Rattle.ring_table.specs.Changes.{blank}
 use Rattle.ring_table.specs.SlotSteps.{CommitsBody, HasBody}
 use Rattle.ring_table.specs.Views.{View}
@@ -32,7 +32,8 @@ store-requires c =
       lawful = subst (λ n. IsMessage c.args.capacity (blank c.args.wanted.type_id n)) (sym long) c.requires.message;
     })
     t.bytes
-    (subst (λ p. HasBody (index c.args.capacity p + 1) body c.args.producer.now.me.1) (sym t.at_place) t.slots))
+    (subst (λ p. HasBody (index c.args.capacity p) (slot_bytes (record { type_id = c.args.wanted.type_id; body = body }))
+    c.args.producer.now.me.1) (sym t.at_place) t.slots))
 
 pub returns-clause-commits : goal.returns-clause-commits
 returns-clause-commits c =

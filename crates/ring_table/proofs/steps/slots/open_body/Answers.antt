@@ -29,7 +29,7 @@ returns-clause-slots c =
     let s = c.requires.seat in
     let zeros = length-replicate {A = ℕ} c.args.wanted.len 0 in
     let small : 8 + c.args.wanted.len < 2 ^ 31 = omega arith in
-    subst (λ i. HasSlots (i + 1) (words_of c.args.wanted.len) c.store.new.seat.me.1) c.word_index.ensures
+    subst (λ i. HasSlots i (words_of (8 + c.args.wanted.len)) c.store.new.seat.me.1) c.word_index.ensures
     (c.store.ensures.2.0 c.args.wanted.type_id c.args.wanted.len c.requires.message.type_fits small
     (packs_open c.open_header-header.result c.args.wanted.len c.args.wanted.type_id c.requires.message.type_fits
     c.open_header-header.ensures)).0

@@ -1,6 +1,7 @@
 use Rattle.std.proofs.Common.{◌≡◌, ◌+◌, ap, ◌∙◌, sym, subst}
 use Rattle.ring_layout.specs.Places.{index}
 use Rattle.ring_table.specs.SlotSteps.{HasBody, ReturnsBody}
+use Rattle.ring_table.specs.Staged.{slot_bytes}
 use Rattle.ring_table.specs.Views.{View}
 use Rattle.ring_table.proofs.SlotCalls.{slot_step, holder}
 use Rattle.ring_table.proofs.HomeLemmas.{returns_body}
@@ -15,7 +16,7 @@ load-requires c =
     (λ _ me n me'. ReturnsBody me me')
     (returns_body c.args.capacity c.args.ring.now.key.start _ _ c.args.consumer.now.me s.view_is c.requires.consumes
     l.front l.message l.got l.ahead t.out_is
-    (subst (λ p. HasBody (index c.args.capacity p + 1) l.message.message.body c.args.consumer.now.me.1)
+    (subst (λ p. HasBody (index c.args.capacity p) (slot_bytes l.message.message) c.args.consumer.now.me.1)
     (sym l.place_is) t.slots))
 
 pub returns-clause-seat : goal.returns-clause-seat
