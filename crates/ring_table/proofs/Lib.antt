@@ -52,3 +52,4 @@ pub mod LawLemmas
 pub mod MarkWords
 pub mod EncodeLemmas
 pub mod MarkSteps
+pub mod ReadMarks

@@ -1,5 +1,5 @@
 -- Marks beside the headers that they stand for.
-use Rattle.std.proofs.Common.{◌≡◌, ◌≢◌, ℕ, zero, suc, ◌+◌, ◌-◌, ◌*◌, ◌/◌, ◌%◌, ◌^◌, ◌≤◌, ◌<◌, ℤ, pos, neg_ℤ, FitsSigned, List, [], ◌∷◌, cond, sym, refl, ap, ◌∙◌, subst, ⊎_elim, length, lt-ltb, le-ltb, eq-eqb, ne_eqb, arith}
+use Rattle.std.proofs.Common.{◌≡◌, ◌≢◌, ℕ, zero, suc, ◌+◌, ◌-◌, ◌*◌, ◌/◌, ◌%◌, ◌^◌, ◌≤◌, ◌<◌, ℤ, pos, neg_ℤ, FitsSigned, List, [], ◌∷◌, cond, sym, refl, ap, ◌∙◌, subst, ◌⊎◌, inl, inr, ⊎_elim, length, lt-ltb, le-ltb, eq-eqb, ne_eqb, arith}
 use Rattle.std.specs.Int.{cast_unsigned, w32}
 use mathlib.Core.Logic.{dite}
 use native.Mathlib.Decide.{ℕ_discrete}
@@ -69,6 +69,7 @@ pub record Shows (h bytes kind : ℕ) : Type 0 where
   pub kind_is : kind_of h ≡ kind
   pub some : h ≢ 0
   pub small : h < 18446744073709551616
+  pub length_is : (h ≡ 0) ⊎ (((0 < h % 2 ^ 32) × (h % 2 ^ 32 < 2 ^ 31)) ⊎ (2 ^ 31 < h % 2 ^ 32))
 
 pub shows_mark : (p h bytes kind : ℕ) → Shows h bytes kind → mark_of p h ≡ p + bytes + kind
 shows_mark p h bytes kind s = λ i. p + s.bytes_is i + s.kind_is i
@@ -85,6 +86,7 @@ shows_padding n some small n8 =
       kind_is = kind_padding h (omega arith) high;
       some = λ e. omega arith;
       small = omega arith;
+      length_is = inr (inl (omega arith, omega arith));
     }
 
 abbrev pub state_kind : ClaimState → ℕ
@@ -104,7 +106,13 @@ shows_claim C m Open most is =
     let high : h / 2 ^ 32 ≡ cast_unsigned w32 m.type_id = high_half (neg_ℤ (pos (8 + n))) m.type_id fits in
     let type_bits = type_below m.type_id is.type_id is.type_fits in
     let t = negative h (8 + n) (low ∙ bits) (omega arith) (omega arith) in
-    record { bytes_is = t.0; kind_is = t.1; some = λ e. omega arith; small = omega arith }
+    record {
+      bytes_is = t.0;
+      kind_is = t.1;
+      some = λ e. omega arith;
+      small = omega arith;
+      length_is = inr (inr (omega arith));
+    }
 shows_claim C m Committed most is =
     let n : ℕ = length m.body in
     let h : ℕ = committed_header m.type_id n in
@@ -118,6 +126,7 @@ shows_claim C m Committed most is =
       kind_is = kind_committed h (omega arith) (λ e. omega arith) (λ e. omega arith);
       some = λ e. omega arith;
       small = omega arith;
+      length_is = inr (inl (omega arith, omega arith));
     }
 shows_claim C m Aborted most is =
     let n : ℕ = length m.body in
@@ -131,6 +140,7 @@ shows_claim C m Aborted most is =
       kind_is = kind_aborted h (omega arith) high;
       some = λ e. omega arith;
       small = omega arith;
+      length_is = inr (inl (omega arith, omega arith));
     }
 
 -- ---- what holds of all words of a picture whose bodies lie elsewhere
@@ -138,14 +148,14 @@ shows_claim C m Aborted most is =
 -- P holds of 0, of headers of padding and of headers of claims
 pub record OfHeaders (C : ℕ) (P : ℕ → Type 0) : Type 0 where
   pub zero_word : P 0
-  pub padding : (n : ℕ) → n ≤ C / 4 → P (padding_word elsewhere n)
+  pub padding : (n : ℕ) → 0 < n → n ≤ C / 4 → P (padding_word elsewhere n)
   pub claim : (m : Message) (s : ClaimState) → IsMessage C m → P (header_of (record { message = m; state = s }))
 
 module _ (C : ℕ) (P : ℕ → Type 0) (of : OfHeaders C P) where
-  of_padding : (t : Stage) (n : ℕ) → n ≤ C / 4 → P (masked_padding t (padding_word elsewhere n))
-  of_padding Moved n le = of.zero_word
-  of_padding Padded n le = of.padding n le
-  of_padding (Stored s) n le = of.padding n le
+  of_padding : (t : Stage) (n : ℕ) → 0 < n → n ≤ C / 4 → P (masked_padding t (padding_word elsewhere n))
+  of_padding Moved n full le = of.zero_word
+  of_padding Padded n full le = of.padding n full le
+  of_padding (Stored s) n full le = of.padding n full le
 
   of_record : (c : StagedClaim) (t : Stage) → IsMessage C c.message
       → P (masked_record t (header_of (claim_of (record { from = c.from; place = c.place; message = c.message; stage = t }))))
@@ -171,7 +181,7 @@ module _ (C : ℕ) (P : ℕ → Type 0) (of : OfHeaders C P) where
   of_word c p least place m = ⊎_elim
       (λ (pad : p < c.place). dite (ℕ_discrete p c.from)
       (λ e. subst P (sym (staged_word-padding elsewhere c p e pad))
-      (of_padding c.stage (c.place - c.from) (short_padding c least place m)))
+      (of_padding c.stage (c.place - c.from) (omega arith) (short_padding c least place m)))
       (λ ne. subst P (sym (staged_word-padding_behind elsewhere c p ne pad)) of.zero_word))
       (λ (rec : c.place ≤ p). dite (ℕ_discrete p c.place)
       (λ e. subst P (sym (staged_word-header elsewhere c p e)) (of_record c c.stage m))
@@ -194,6 +204,7 @@ module _ (C : ℕ) (P : ℕ → Type 0) (of : OfHeaders C P) where
 pub record IsNear (C h : ℕ) : Type 0 where
   pub small : h < 18446744073709551616
   pub below : bytes_of h + kind_of h ≤ C
+  pub length_is : (h ≡ 0) ⊎ (((0 < h % 2 ^ 32) × (h % 2 ^ 32 < 2 ^ 31)) ⊎ (2 ^ 31 < h % 2 ^ 32))
 
 pub near_all : (C e : ℕ) (cs : List StagedClaim) (p : ℕ) → 128 ≤ C → C ≤ 2 ^ 24 → ArePlaced C e cs
     → IsNear C (staged_word_at elsewhere cs p)
@@ -201,22 +212,22 @@ near_all C e cs p least most placed = of_all C (IsNear C) (record {
   zero_word =
       (let bytes = bytes_plain 0 (omega arith) in
       let kind = kind_committed 0 (omega arith) (λ e. omega arith) (λ e. omega arith) in
-      record { small = omega arith; below = omega arith });
-  padding = λ n le.
+      record { small = omega arith; below = omega arith; length_is = inl refl });
+  padding = λ n full le.
       let h : ℕ = padding_word elsewhere n in
       let t = halves n padding_mark (omega arith) refl in
       let low : h % 2 ^ 32 ≡ n = t.0 in
       let high : h / 2 ^ 32 ≡ 2 ^ 32 - 2 = t.1 in
       let bytes : bytes_of h ≡ rounded n = bytes_plain h (omega arith) ∙ ap rounded low in
       let kind = kind_padding h (omega arith) high in
-      record { small = omega arith; below = omega arith };
+      record { small = omega arith; below = omega arith; length_is = inr (inl (omega arith, omega arith)) };
   claim = λ m s is.
       let t = shows_claim C m s most is in
       let short = is.short in
       let bytes = t.bytes_is in
       let kind = t.kind_is in
       let kinds = few_kinds s in
-      record { small = t.small; below = omega arith };
+      record { small = t.small; below = omega arith; length_is = t.length_is };
 }) e cs p least placed
   where
     few_kinds : (s : ClaimState) → state_kind s ≤ 3

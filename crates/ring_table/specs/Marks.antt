@@ -1,13 +1,18 @@
 -- Marks: the words of a ring whose bodies lie in slots. The word at the index of a position p is a mark if it is above
 -- p, and otherwise says nothing. A mark is the end of the record or of the padding that begins at p, and its kind.
-use Rattle.std.specs.Prelude.{◌≡◌, ◌≢◌, ℕ, ◌+◌, ◌-◌, ◌/◌, ◌%◌, ◌^◌, ◌≤◌, ◌<◌, List, length, slice_index, if◌then◌else◌, nat_lt, ◌==◌}
+use Rattle.std.specs.Prelude.{◌≡◌, ◌≢◌, ◌⊎◌, ℕ, ◌+◌, ◌-◌, ◌/◌, ◌%◌, ◌^◌, ◌≤◌, ◌<◌, List, length, slice_index, if◌then◌else◌, nat_lt, ◌==◌}
 use mathlib.Core.Option.{Option}
 use Rattle.ring_layout.specs.Places.{index}
 use Rattle.ring_table.specs.Staged.{elsewhere}
 use Rattle.ring_table.specs.Views.{Key, View}
 use Rattle.ring_table.specs.Shelf.{IsShelf}
 use Rattle.ring_table.specs.Rule.{Kept}
-use Rattle.ring_table.specs.ConsumerSteps.{rounded}
+use Rattle.ring_layout.specs.Headers.{committed_header, padding_header}
+use Rattle.ring_table.specs.Staged.{PlacedMessage}
+use Rattle.ring_table.specs.Views.{Logs}
+use Rattle.ring_table.specs.ProducerSteps.{Mine}
+use Rattle.ring_table.specs.SlotSteps.{with_out, IsLent}
+use Rattle.ring_table.specs.ConsumerSteps.{rounded, LoadsHeader}
 
 -- ---- kinds, which are below 8: ends are multiples of 8
 
@@ -57,3 +62,21 @@ pub record KeepsMarks (C start : ℕ) (words : List ℕ) (homes : List (Option �
   pub kept : Kept elsewhere C start headers views
   pub shelf : IsShelf C homes views
   pub encodes : Encodes C kept.consumer.head kept.consumer.cleared headers words
+
+-- ---- what a mark n shows a read that has come to `scan` and got these messages
+
+-- no record is settled there
+abbrev pub IsQuiet : ℕ → ℕ → Type 0
+IsQuiet scan n = (n ≤ scan) ⊎ (n % 8 ≡ open_kind)
+
+-- The header is what the formats have there, which the log gets. That of a message is in the slots, which are taken
+pub record LoadsMark (C scan : ℕ) (got : List PlacedMessage) (me : Mine) (n : ℕ) (me' : Mine) : Type 0 where
+  pub header : ℕ
+  pub loads : LoadsHeader C scan got me.0 header (with_out me.0.out me'.0)
+  pub logs : Logs (index C scan) header me.0 me'.0
+  pub quiet : IsQuiet scan n → (header ≡ 0) × (me'.1 ≡ me.1) × (me'.0.out ≡ me.0.out)
+  pub passes : scan < n → n % 8 ≢ open_kind → n % 8 ≢ committed_kind
+      → (header ≡ padding_header (n - n % 8 - scan)) × (me'.1 ≡ me.1) × (me'.0.out ≡ me.0.out)
+  pub message : scan < n → n % 8 ≡ committed_kind → (lent : IsLent C scan me')
+      × (header ≡ committed_header lent.last.message.message.type_id (length lent.last.message.message.body))
+      × (header < 18446744073709551616)
