@@ -39,6 +39,17 @@ pub bytes_plain : (h : ℕ) → h % 2 ^ 32 ≤ 2 ^ 31 → bytes_of h ≡ rounded
 unfolding bytes_of
 bytes_plain h le = cond-false _ _ _ (le-ltb (2 ^ 31) (h % 2 ^ 32) le)
 
+pub whole_bytes : (h : ℕ) → bytes_of h % 8 ≡ 0
+unfolding bytes_of
+whole_bytes h = ⊎_elim
+    (λ (above : 2 ^ 31 < h % 2 ^ 32).
+    ap (λ k. k % 8) (cond-true _ (rounded (2 ^ 32 - h % 2 ^ 32)) (rounded (h % 2 ^ 32)) (lt-ltb (2 ^ 31) (h % 2 ^ 32) above))
+    ∙ omega arith)
+    (λ (low : h % 2 ^ 32 ≤ 2 ^ 31).
+    ap (λ k. k % 8) (cond-false _ (rounded (2 ^ 32 - h % 2 ^ 32)) (rounded (h % 2 ^ 32)) (le-ltb (2 ^ 31) (h % 2 ^ 32) low))
+    ∙ omega arith)
+    (cases_lt (2 ^ 31) (h % 2 ^ 32))
+
 pub kind_padding : (h : ℕ) → h % 2 ^ 32 ≤ 2 ^ 31 → h / 2 ^ 32 ≡ 2 ^ 32 - 2 → kind_of h ≡ padding_kind
 unfolding kind_of
 kind_padding h le high =
