@@ -53,3 +53,5 @@ pub mod MarkWords
 pub mod EncodeLemmas
 pub mod MarkSteps
 pub mod ReadMarks
+pub mod ClearMarks
+pub mod SeatMarks

@@ -9,7 +9,7 @@ use Rattle.ring_table.specs.Shelf.{IsShelf}
 use Rattle.ring_table.specs.Rule.{Kept}
 use Rattle.ring_layout.specs.Headers.{committed_header, padding_header}
 use Rattle.ring_table.specs.Staged.{PlacedMessage}
-use Rattle.ring_table.specs.Views.{Logs}
+use Rattle.ring_table.specs.Views.{Logs, cleared_to, with_consumer}
 use Rattle.ring_table.specs.ProducerSteps.{Mine}
 use Rattle.ring_table.specs.SlotSteps.{with_out, IsLent}
 use Rattle.ring_table.specs.ConsumerSteps.{rounded, LoadsHeader}
@@ -80,3 +80,8 @@ pub record LoadsMark (C scan : ℕ) (got : List PlacedMessage) (me : Mine) (n : 
   pub message : scan < n → n % 8 ≡ committed_kind → (lent : IsLent C scan me')
       × (header ≡ committed_header lent.last.message.message.type_id (length lent.last.message.message.body))
       × (header < 18446744073709551616)
+
+-- what was passed up to the position whose index this is counts as cleared, without a store
+abbrev pub ClearsUp : ℕ → View → View → Type 0
+ClearsUp word v w = (to : ℕ) → to % 8 ≡ 0 → v.consumer.head < to → to ≤ v.consumer.head + v.capacity
+    → index v.capacity to ≡ word → w ≡ with_consumer (cleared_to to v.consumer) v
