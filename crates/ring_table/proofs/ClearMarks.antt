@@ -124,28 +124,29 @@ module _ (C start : ℕ) (s : State ℕ View) (m : KeepsMarks C start s.words s.
 module _ (C start : ℕ) where
   -- the load of the word at `to`
   pub clears_up : (slots id to : ℕ) (me : Mine) → me.0.capacity ≡ C → me.0.consumes ≡ true → me.0.out ≡ []
-      → me.0.consumer.cleared ≤ to → to ≤ me.0.consumer.scan → to % 8 ≡ 0 → me.0.consumer.head < to
+      → me.0.consumer.cleared < to → to ≤ me.0.consumer.scan → to % 8 ≡ 0
       → Allows (Marked C start) slots id me (index C to) (λ n. n)
       (λ _ me'. (me'.1 ≡ me.1) × ClearsUp (index C to) me.0 me'.0)
-  clears_up slots id to me cap consumes bare on le to8 some_way s m wide at small =
+  clears_up slots id to me cap consumes bare on le to8 s m wide at small =
       let v : View = me.0 in
       let r = m.kept in
       let mem = r.memory in
       let room = mem.room in
       let mine' = ((r.seated.each id v at).consumes consumes).1 in
-      let heads : v.consumer.head ≡ r.consumer.head = ap (λ (z : ConsumerView). z.head) mine' in
+      let from = mem.clears_from in
+      let cleared : v.consumer.cleared ≡ r.consumer.cleared = ap (λ (z : ConsumerView). z.cleared) mine' in
       let scan : v.consumer.scan ≡ r.consumer.scan = ap (λ (z : ConsumerView). z.scan) mine' in
       let bounds = reach_bounds C r.consumer.scan start (all_of r.hist) r.consumer.got mem.placed mem.passed in
       let top = bounds.1 in (
         with_consumer (cleared_to to v.consumer) v,
         keeps,
         tt,
-        clears_to C start s m id v at consumes to (index C to) bare on le to8,
+        clears_to C start s m id v at consumes to (index C to) bare (omega arith) le to8,
         (
           refl,
           λ to' to8' above below same.
               let same' : index C to' ≡ index C to = ap (λ c. index c to') (sym cap) ∙ same in
-              let one : to ≡ to' = one_position elsewhere C start r.lawful (v.consumer.head + 1) to to'
+              let one : to ≡ to' = one_position elsewhere C start r.lawful (v.consumer.cleared + 1) to to'
               (record { whole = to8; from = omega arith; below = omega arith })
               (record { whole = to8'; from = omega arith; below = omega arith }) (sym same') in
               ap (λ z. with_consumer (cleared_to z v.consumer) v) one,

@@ -91,7 +91,7 @@ all_small xs k j = ⊎_elim (λ (h : j < length xs). All-get_or (λ b. b < 256) 
     get_or-past (x ∷ xs) zero h = absurd (omega arith)
     get_or-past (x ∷ xs) (suc j) h = get_or-past xs j (omega arith)
 
-word_there : (l : List ℕ) (i : ℕ) → i < length l → (y : ℕ) × (get_elem? l i ≡ some y)
+pub word_there : (l : List ℕ) (i : ℕ) → i < length l → (y : ℕ) × (get_elem? l i ≡ some y)
 word_there [] i h = absurd (omega arith)
 word_there (x ∷ xs) zero h = (x, refl)
 word_there (x ∷ xs) (suc i) h = word_there xs i (omega arith)

@@ -15,7 +15,6 @@ pub mod StoreLemmas
 pub mod StoreBodies
 pub mod ConsumeLemmas
 pub mod ClearLemmas
-pub mod RecordLemmas
 pub mod ServiceLemmas
 pub mod ServeLemmas
 pub mod RestLemmas

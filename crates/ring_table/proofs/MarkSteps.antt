@@ -13,18 +13,21 @@ use Rattle.ring_layout.specs.Places.{index}
 use Rattle.ring_layout.specs.Layout.{ring_words}
 use Rattle.ring_layout.proofs.Laps.{mod_step, mod_room, mod_aligned}
 use Rattle.ring_layout.proofs.ListLemmas.{at_below}
-use Rattle.ring_table.specs.Staged.{elsewhere, staged_word_at}
+use Rattle.ring_table.specs.Staged.{Bodies, in_words, elsewhere, staged_word_at}
 use Rattle.ring_table.specs.Owners.{all_of}
 use Rattle.ring_table.specs.Views.{ConsumerView, View}
 use Rattle.ring_table.specs.Rule.{IsLawful, Kept}
 use Rattle.ring_table.specs.Shelf.{IsShelf}
 use Rattle.ring_table.specs.ProducerSteps.{Mine}
-use Rattle.ring_table.specs.Marks.{mark_of, Encodes, KeepsMarks}
+use Rattle.std.specs.Prelude.{⊤}
+use Rattle.ring_table.specs.Marks.{mark_of, Encodes, KeepsIn, KeepsMarks}
 use Rattle.ring_table.proofs.StagedPlaces.{capacity_aligned}
 use Rattle.ring_table.proofs.ReachLemmas.{reach_bounds}
 use Rattle.ring_table.proofs.StepLemmas.{one_view}
 use Rattle.ring_table.proofs.MemoryLemmas.{index_inside, head_bounds}
-use Rattle.ring_table.proofs.CarryLemmas.{Holds}
+use Rattle.ring_table.proofs.LoadLemmas.{Ok}
+use Rattle.ring_table.proofs.ShelfLemmas.{CarriesIn}
+use Rattle.ring_table.proofs.CarryLemmas.{Holds, lift}
 use Rattle.ring_table.proofs.MarkWords.{IsNear, near_all}
 use Rattle.ring_table.proofs.EncodeLemmas.{encodes_trailer, encodes_mark, encodes_risen}
 
@@ -76,6 +79,11 @@ rests_same kind same = record {
   cleared = λ _. ap (λ (z : ConsumerView). z.cleared) same;
   head = λ _. inl (ap (λ (z : ConsumerView). z.head) same);
 }
+
+-- what a seat's view is after a step, whose consumer's part stays
+pub rests_as : {v w x : View} → w ≡ x → x.consumes ≡ v.consumes → x.consumer ≡ v.consumer → Rests v w
+rests_as {v} {w} {x} is kind same = rests_same {v} {w} (ap (λ (z : View). z.consumes) is ∙ kind)
+    (ap (λ (z : View). z.consumer) is ∙ same)
 
 module _ (C start : ℕ) where
   abbrev pub Marked : State ℕ View → Type 0
@@ -180,7 +188,9 @@ module _ (C start : ℕ) where
 
   -- at a word of the trailer, which is the same in both
   pub lift_trailer : (slots id : ℕ) (me : Mine) (i : ℕ) (f : ℕ → ℕ) (told : ℕ → Mine → Type 0) → C / 8 ≤ i
-      → i < ring_words C → ((n : ℕ) (me' : Mine) → told n me' → Rests me.0 me'.0)
+      → i < ring_words C
+      → ((n : ℕ) (me' : Mine) → told n me' → (s : State ℕ View) → Kept elsewhere C start s.words s.views
+      → get_elem? s.views id ≡ some me.0 → Rests me.0 me'.0)
       → Allows (Holds elsewhere C start) slots id me i f told → Allows Marked slots id me i f told
   lift_trailer slots id me i f told far inside rests allows s m wide at small =
       let r = m.kept in
@@ -190,7 +200,7 @@ module _ (C start : ℕ) where
       let long = r.memory.wide in
       let r' = t.3.0 in
       let after = rests_after m.headers (set m.headers i (f n)) s.homes s.views r m.shelf id me.0 t.0 at
-      (rests n (t.0, carried_after me.1 t.1) t.4) r' in (
+      (rests n (t.0, carried_after me.1 t.1) t.4 (with_headers s m.headers) r at) r' in (
         t.0,
         t.1,
         t.2,
@@ -238,12 +248,12 @@ module _ (C start : ℕ) where
   -- a header of a record in the lap, which is not cleared, is stored, and its mark in the words
   pub lift_mark : (slots id : ℕ) (me : Mine) (q h mark : ℕ) (told : Mine → Type 0)
       → ((s : State ℕ View) (r : Kept elsewhere C start s.words s.views) → get_elem? s.views id ≡ some me.0
-      → (q % 8 ≡ 0) × (r.consumer.cleared ≤ q) × (q < r.consumer.head + C))
-      → h ≢ 0 → mark ≡ mark_of q h
+      → (q % 8 ≡ 0) × (r.consumer.cleared ≤ q) × (q < r.consumer.head + C) × (mark ≡ mark_of q h))
+      → h ≢ 0
       → ((me' : Mine) → told me' → Rests me.0 me'.0)
       → Allows (Holds elsewhere C start) slots id me (index C q) (λ _. h) (λ _. told)
       → Allows Marked slots id me (index C q) (λ _. mark) (λ _. told)
-  lift_mark slots id me q h mark told lies full is rests allows s m wide at small =
+  lift_mark slots id me q h mark told lies full rests allows s m wide at small =
       let r = m.kept in
       let i : ℕ = index C q in
       let inside = index_inside elsewhere C start r.lawful q in
@@ -271,7 +281,30 @@ module _ (C start : ℕ) where
           shelf = t.3.1;
           encodes = encodes_mark C start r.lawful r'.consumer.head r'.consumer.cleared m.headers s.words
               (encodes_after m.headers s.words s.views r r'.consumer.head r'.consumer.cleared m.encodes after.0 after.1)
-              q h mark there.0 head'.0 (omega arith) head'.1 (omega arith) full is;
+              q h mark there.0 head'.0 (omega arith) head'.1 (omega arith) full there.3;
         },
         t.4,
       )
+
+-- ---- both rules
+
+abbrev pub Obeys : Bodies → ℕ → ℕ → State ℕ View → Type 0
+Obeys B C start s = KeepsIn B C start s.words s.homes s.views
+
+abbrev pub RestsIn : Bodies → View → View → Type 0
+RestsIn in_words v w = ⊤
+RestsIn elsewhere v w = Rests v w
+
+-- a step that takes and gives no slots, at a word of the trailer
+pub lift_any : (B : Bodies) (C start slots id : ℕ) (me : Mine) (i : ℕ) (f : ℕ → ℕ) (told : ℕ → Mine → Type 0) → C / 8 ≤ i
+    → i < ring_words C → me.0.out ≡ []
+    → ((n : ℕ) (me' : Mine) → told n me' → (s : State ℕ View) → Ok B C start s → get_elem? s.views id ≡ some me.0
+    → (me'.1 ≡ me.1) × (me'.0.out ≡ me.0.out) × CarriesIn B me.0 me'.0 × RestsIn B me.0 me'.0)
+    → Allows (Ok B C start) slots id me i f told → Allows (Obeys B C start) slots id me i f told
+lift_any in_words C start slots id me i f told far inside none carries allows =
+    lift in_words C start slots id me i f told none
+    (λ n me' t s r at. let c = carries n me' t s r at in (c.0, c.1, tt)) allows
+lift_any elsewhere C start slots id me i f told far inside none carries allows =
+    lift_trailer C start slots id me i f told far inside (λ n me' t s r at. (carries n me' t s r at).3)
+    (lift elsewhere C start slots id me i f told none
+    (λ n me' t s r at. let c = carries n me' t s r at in (c.0, c.1, c.2)) allows)

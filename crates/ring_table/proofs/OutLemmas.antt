@@ -21,7 +21,7 @@ use Rattle.ring_table.specs.ProducerSteps.{Mine, HasClaim, with_changed}
 use Rattle.ring_table.specs.Rule.{Kept}
 use Rattle.ring_table.specs.Ranges.{numbered, takes_from}
 use Rattle.ring_table.specs.Shelf.{IsClaimOf}
-use Rattle.ring_table.specs.SlotSteps.{words_of, HasBody, HasSlots, with_out, OpensBody, ReservesBody, TakesBody, LendsBody}
+use Rattle.ring_table.specs.SlotSteps.{words_of, HasBody, HasSlots, with_out, ReservesAt, ReservesBody, TakesBody, LendsBody}
 use Rattle.ring_table.proofs.RangeLemmas.{carried_takes, valid_takes}
 use Rattle.ring_table.proofs.ListLemmas.{there_or_past}
 use Rattle.ring_table.proofs.HistoryLemmas.{changed_at_place, changed_at_other, changed_there}
@@ -302,87 +302,40 @@ module _ (C start : ℕ) where
             ),
       )
 
-  pub opens_body : (slots id : ℕ) (me : Mine) → me.0.capacity ≡ C → me.0.out ≡ [] → me.1 ≡ [] → (k : ℕ)
-      (c : StagedClaim) (type_id : ℤ) (n value : ℕ) → value ≡ open_header type_id n → HasClaim me.0 k c
-      → c.stage ≡ Padded → FillsClaim C c type_id n
-      → Allows (Holds elsewhere C start) slots id me (index C c.place) (λ _. value)
-      (λ _ me'. OpensBody (index C c.place) value me me' × AreRising me.0.producer.claims)
-  opens_body slots id me cap none empty k c type_id n value value_is has is fills s r wide at small =
+  -- the load is of the word at the claim's place
+  pub reserves_at : (slots id : ℕ) (me : Mine) → me.0.capacity ≡ C → me.0.out ≡ [] → me.1 ≡ [] → (k : ℕ)
+      (c : StagedClaim) → HasClaim me.0 k c → c.stage ≡ Padded
+      → Allows (Holds elsewhere C start) slots id me (index C c.place) (λ n. n)
+      (λ n me'. ReservesAt (index C c.place) me me' × AreRising me.0.producer.claims)
+  reserves_at slots id me cap none empty k c has is s r wide at small =
       let v : View = me.0 in
       let un : IsSettled c.stage → ⊥ = λ z. subst IsSettled is z in
       let l = own_lies C start s.words s.homes s.views r.0 r.1 id v k c at has un in
       let alone = none_at_own C start s.words s.homes s.views r.0 r.1 id v k c at none has un in
+      let n : ℕ = length c.message.body in
       let i : ℕ = index C c.place in
-      let b = l.body in
-      let from = b.from in
-      let to = b.to in
-      let within = b.within in
-      let lawful = fills.lawful in
-      let zeros : length (blank type_id n).body ≡ n = length-replicate n 0 in
-      let short : n ≤ C / 8 = omega (arith, lawful.short) in
-      let count : words_of (8 + length c.message.body) ≡ words_of (8 + n) = omega arith in
-      let ys = gathered s.homes i (words_of (8 + length c.message.body))
-      (all_home C start s.words s.homes s.views r.0 r.1 c.place (length c.message.body) l alone) in
-      let m : PlacedMessage = record { place = c.place; message = blank type_id n } in
-      let f : StagedClaim → StagedClaim = with_header type_id n in
-      let mid : View = with_claims (changed c.place f v.producer.claims) v in
-      let w : View = with_out (m ∷ []) mid in
-      let t = opens elsewhere C start slots id me cap k c type_id n value value_is has is fills s r.0 wide at small in
-      let mid_is : t.0 ≡ mid = t.4.1 type_id n lawful.type_fits (omega arith) value_is k c has is
-      (ap (λ z. index z c.place) cap) in
-      let kept : Kept elsewhere C start (set s.words i value) (set s.views id mid) =
-      subst (λ (z : View). Kept elsewhere C start (set s.words i value) (set s.views id z)) mid_is t.3 in
-      let kept_out : Kept elsewhere C start (set s.words i value) (set s.views id w) =
-      subst (λ l. Kept elsewhere C start (set s.words i value) l) (set_twice s.views id mid w)
-      (outed elsewhere C start (set s.words i value) (set s.views id mid) kept id mid
-      (set_here s.views id mid (at_below s.views id v at)) (m ∷ []) mid.log) in (
+      let ys = gathered s.homes i (words_of (8 + n))
+      (all_home C start s.words s.homes s.views r.0 r.1 c.place n l alone) in
+      let m : PlacedMessage = placed_message c in
+      let w : View = with_out (m ∷ []) v in (
         w,
         takes_from i ys.0,
         valid_takes s.homes me.1 i ys.0 ys.2,
         (
-          kept_out,
+          loaded s i (set s.views id w) (outed elsewhere C start s.words s.views r.0 id v at (m ∷ []) v.log),
           takes_shelf C start s.words s.homes s.views r.0 r.1 id v w at refl refl m me.1 ys.0 (record {
             was = none;
             now = refl;
-            kind = inl (record {
-              nth = k;
-              claim = f c;
-              there = changed_there c.place f v.producer.claims k c has refl;
-              unsettled = λ z. z;
-              place = refl;
-              long = refl;
-            });
-            claims = λ k' c' has' stored.
-                let d = was_changed c.place f v.producer.claims k' c' has' in
-                dite (ℕ_discrete d.0.place c.place)
-                (λ here.
-                let new : f d.0 ≡ c' = sym (changed_at_place c.place f d.0 here) ∙ d.2 in
-                inl (
-                  ap (λ (z : StagedClaim). z.place) (sym new) ∙ here,
-                  ap (λ (z : StagedClaim). length z.message.body) (sym new),
-                ))
-                (λ there. inr (d.1 ∙ ap some (sym (changed_at_other c.place f d.0 there) ∙ d.2)));
-          }) (record {
-            some = b.some;
-            whole = b.whole;
-            place8 = b.place8;
-            from = b.from;
-            to = omega arith;
-            within = omega arith;
-          }) (ys.1 ∙ omega arith),
+            kind = inl (record { nth = k; claim = c; there = has; unsettled = un; place = refl; long = refl });
+            claims = λ k' c' has' stored. inr has';
+          }) l.body ys.1,
         ),
         (
-          λ type_id' n' fits' small' same.
-              let same' = sym value_is ∙ same in
-              let types : type_id ≡ type_id' =
-              one_type type_id n type_id' n' lawful.type_fits (omega arith) fits' small' same' in
-              let lengths : n ≡ n' = one_length type_id n type_id' n' (omega arith) small' same' in (
-                has_slots i (words_of (8 + n')) ys.0 me.1 empty (ys.1 ∙ count ∙ ap (λ z. words_of (8 + z)) lengths),
-                λ k' c' has' is' here.
-                    let one : c ≡ c' = own_claim s r.0 id v at cap k c has un k' c' has'
-                    (λ z. subst IsSettled is' z) here in
-                    λ x. with_out ((record { place = (one x).place; message = blank (types x) (lengths x) }) ∷ [])
-                    (with_changed (one x).place (with_header (types x) (lengths x)) v),
+          λ k' c' has' is' same.
+              let one : c ≡ c' = own_claim s r.0 id v at cap k c has un k' c' has' (λ z. subst IsSettled is' z) same in (
+                (λ x. with_out (placed_message (one x) ∷ []) v),
+                has_slots i (words_of (8 + length c'.message.body)) ys.0 me.1 empty
+                    (ys.1 ∙ ap (λ (z : StagedClaim). words_of (8 + length z.message.body)) one),
               ),
           rising elsewhere C start s.words s.views r.0 id v at,
         ),

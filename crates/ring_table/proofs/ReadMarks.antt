@@ -209,7 +209,7 @@ module _ (C start slots : ℕ) (q : ℕ) (got : List PlacedMessage) (id : ℕ) (
         logs = refl;
         quiet = λ quiet. ⊎_elim (λ (le : n ≤ q). absurd (omega arith))
             (λ (other : n % 8 ≡ open_kind). absurd (kinds.1 (sym kind_is ∙ other))) quiet;
-        passes = λ _ _ _. (ap padding_header back, refl, refl);
+        passes = λ _ _ _. (ap padding_header back, refl, refl, omega arith);
         message = λ above other. absurd (kinds.2 (sym kind_is ∙ other));
       } in (
         w,

@@ -1,13 +1,13 @@
 -- Seats that are cut in two or put together leave the marks, and a fresh ring has none.
-use Rattle.std.proofs.Common.{◌≡◌, ◌≢◌, ℕ, ◌+◌, ◌/◌, ◌≤◌, ◌<◌, List, [], ◌∷◌, ◌++◌, true, false, ◌⊎◌, set, slice_index, sym, refl, ap, ◌∙◌, subst, ⊎_elim, length, arith}
+use Rattle.std.proofs.Common.{◌≡◌, ◌≢◌, ℕ, ◌+◌, ◌/◌, ◌≤◌, ◌<◌, List, [], ◌∷◌, ◌++◌, true, false, ◌⊎◌, set, slice_index, sym, refl, ap, ◌∙◌, subst, inl, inr, ⊎_elim, length, arith}
 use mathlib.Core.Option.{Option, some}
 use lib.ListN.{get_elem?}
 use Rattle.std.proofs.lemmas.Bool.{false≢true}
 use Rattle.atomic_table.specs.Table.{State, Splits, Joins}
 use Rattle.atomic_table.proofs.Lists.{at_set}
 use Rattle.ring_layout.specs.Places.{index, max_position}
-use Rattle.ring_table.specs.Staged.{elsewhere}
-use Rattle.ring_table.specs.Views.{ConsumerView, View, first_view, spent}
+use Rattle.ring_table.specs.Staged.{Bodies, in_words, elsewhere}
+use Rattle.ring_table.specs.Views.{ConsumerView, View, first_view, spent, without_consumer, consumer_alone, with_consumer_of, without_share, producer_alone, with_producer_of}
 use Rattle.ring_table.specs.Rule.{IsLawful, Kept}
 use Rattle.ring_table.specs.Shelf.{HasReader, IsShelf}
 use Rattle.ring_table.specs.Closed.{IsFresh}
@@ -15,8 +15,8 @@ use Rattle.ring_table.specs.Marks.{Encodes, KeepsMarks}
 use Rattle.ring_table.proofs.ListLemmas.{at_more}
 use Rattle.ring_table.proofs.MemoryLemmas.{index_inside}
 use Rattle.ring_table.proofs.OpenLemmas.{fresh_keeps}
-use Rattle.ring_table.proofs.CarryLemmas.{Holds}
-use Rattle.ring_table.proofs.MarkSteps.{Marked, with_headers}
+use Rattle.ring_table.proofs.CarryLemmas.{Holds, lift_consumer_split, lift_producer_split, lift_consumer_join, lift_producer_join}
+use Rattle.ring_table.proofs.MarkSteps.{Marked, Obeys, with_headers}
 
 -- what u has of the consumer's part is what v has
 abbrev pub IsReaderOf : View → View → Type 0
@@ -101,3 +101,50 @@ module _ (C start : ℕ) where
         none = λ p p8 p0 p1 zero. omega arith;
         passed = λ p p8 p0 p1. absurd (omega arith);
       }
+
+-- ---- both rules
+
+module _ (B : Bodies) (C start id : ℕ) (v : View) (none : v.out ≡ []) where
+  pub obeys_consumer_split : Splits (λ (s : State ℕ View). Kept B C start s.words s.views) id v
+      (without_consumer v) (consumer_alone v) → Splits (Obeys B C start) id v (without_consumer v) (consumer_alone v)
+  obeys_consumer_split splits = by_bodies B splits
+    where
+      by_bodies : (B : Bodies) → Splits (λ (s : State ℕ View). Kept B C start s.words s.views) id v
+          (without_consumer v) (consumer_alone v) → Splits (Obeys B C start) id v (without_consumer v) (consumer_alone v)
+      by_bodies in_words splits = lift_consumer_split in_words C start id v none splits
+      by_bodies elsewhere splits = split_marks C start id v (without_consumer v) (consumer_alone v)
+          (λ e. absurd (false≢true e)) (λ e. (e, refl)) (lift_consumer_split elsewhere C start id v none splits)
+
+  pub obeys_producer_split : Splits (λ (s : State ℕ View). Kept B C start s.words s.views) id v
+      (without_share v) (producer_alone v) → Splits (Obeys B C start) id v (without_share v) (producer_alone v)
+  obeys_producer_split splits = by_bodies B splits
+    where
+      by_bodies : (B : Bodies) → Splits (λ (s : State ℕ View). Kept B C start s.words s.views) id v
+          (without_share v) (producer_alone v) → Splits (Obeys B C start) id v (without_share v) (producer_alone v)
+      by_bodies in_words splits = lift_producer_split in_words C start id v none splits
+      by_bodies elsewhere splits = split_marks C start id v (without_share v) (producer_alone v)
+          (λ e. (e, refl)) (λ e. absurd (false≢true e)) (lift_producer_split elsewhere C start id v none splits)
+
+  pub obeys_consumer_join : (other : ℕ) (w : View) → w.out ≡ [] → w.consumes ≡ true
+      → Joins (λ (s : State ℕ View). Kept B C start s.words s.views) id v other w (with_consumer_of v w) spent
+      → Joins (Obeys B C start) id v other w (with_consumer_of v w) spent
+  obeys_consumer_join other w none_w is joins = by_bodies B joins
+    where
+      by_bodies : (B : Bodies)
+          → Joins (λ (s : State ℕ View). Kept B C start s.words s.views) id v other w (with_consumer_of v w) spent
+          → Joins (Obeys B C start) id v other w (with_consumer_of v w) spent
+      by_bodies in_words joins = lift_consumer_join in_words C start id v none other w none_w is joins
+      by_bodies elsewhere joins = join_marks C start id v other w (with_consumer_of v w) (λ e. inr (e, refl))
+          (lift_consumer_join elsewhere C start id v none other w none_w is joins)
+
+  pub obeys_producer_join : (other : ℕ) (w : View) → w.out ≡ [] → w.consumes ≡ false
+      → Joins (λ (s : State ℕ View). Kept B C start s.words s.views) id v other w (with_producer_of v w) spent
+      → Joins (Obeys B C start) id v other w (with_producer_of v w) spent
+  obeys_producer_join other w none_w is_not joins = by_bodies B joins
+    where
+      by_bodies : (B : Bodies)
+          → Joins (λ (s : State ℕ View). Kept B C start s.words s.views) id v other w (with_producer_of v w) spent
+          → Joins (Obeys B C start) id v other w (with_producer_of v w) spent
+      by_bodies in_words joins = lift_producer_join in_words C start id v none other w none_w is_not joins
+      by_bodies elsewhere joins = join_marks C start id v other w (with_producer_of v w) (λ e. inl (e, refl))
+          (lift_producer_join elsewhere C start id v none other w none_w is_not joins)

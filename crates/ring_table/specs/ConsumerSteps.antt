@@ -69,26 +69,6 @@ pub record LoadsPassed (v : View) (n : ℕ) (w : View) : Type 0 where
   pub zero : n ≡ 0 → ClearsWord v w
   pub other : n ≢ 0 → w ≡ v
 
--- the end of the record at the position p, of a message that was got, otherwise of the word there
-unfoldable pub record_end : ℕ → List PlacedMessage → ℕ
-record_end p [] = p + 8
-record_end p (m ∷ ms) = if m.place == p then p + span (length m.message.body) else record_end p ms
-
--- the next record to clear has this many bytes
-pub record HasSpan (v : View) (bytes : ℕ) : Type 0 where
-  pub some : 8 ≤ bytes
-  pub ends : record_end v.consumer.cleared v.consumer.got ≡ v.consumer.cleared + bytes
-
--- if bodies are elsewhere, the header of a message at the next word to clear has that record's length
-pub record LoadsRecord (v : View) (n : ℕ) (w : View) : Type 0 where
-  pub zero : n ≡ 0 → ClearsWord v w
-  pub other : n ≢ 0 → w ≡ v
-  pub message : n ≢ 0 → n < 2 ^ 63 → HasSpan v (rounded (n % 2 ^ 32))
-
--- so only the header is cleared: the words after it are 0
-abbrev pub ClearsRecord : View → View → Type 0
-ClearsRecord v w = w ≡ with_consumer (cleared_to (record_end v.consumer.cleared v.consumer.got) v.consumer) v
-
 abbrev pub StoresHead : View → View → Type 0
 StoresHead v w = w ≡ with_consumer (stands_at v.consumer.scan v.consumer.got v.consumer) v
 

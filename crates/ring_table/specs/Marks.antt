@@ -3,9 +3,9 @@
 use Rattle.std.specs.Prelude.{◌≡◌, ◌≢◌, ◌⊎◌, ℕ, ◌+◌, ◌-◌, ◌/◌, ◌%◌, ◌^◌, ◌≤◌, ◌<◌, List, length, slice_index, if◌then◌else◌, nat_lt, ◌==◌}
 use mathlib.Core.Option.{Option}
 use Rattle.ring_layout.specs.Places.{index}
-use Rattle.ring_table.specs.Staged.{elsewhere}
+use Rattle.ring_table.specs.Staged.{Bodies, in_words, elsewhere}
 use Rattle.ring_table.specs.Views.{Key, View}
-use Rattle.ring_table.specs.Shelf.{IsShelf}
+use Rattle.ring_table.specs.Shelf.{HasShelf, IsShelf}
 use Rattle.ring_table.specs.Rule.{Kept}
 use Rattle.ring_layout.specs.Headers.{committed_header, padding_header}
 use Rattle.ring_table.specs.Staged.{PlacedMessage}
@@ -63,6 +63,14 @@ pub record KeepsMarks (C start : ℕ) (words : List ℕ) (homes : List (Option �
   pub shelf : IsShelf C homes views
   pub encodes : Encodes C kept.consumer.head kept.consumer.cleared headers words
 
+-- the rule
+abbrev pub KeepsIn : Bodies → ℕ → ℕ → List ℕ → List (Option ℕ) → List View → Type 0
+KeepsIn in_words C start words homes views = Kept in_words C start words views × HasShelf in_words C homes views
+KeepsIn elsewhere C start words homes views = KeepsMarks C start words homes views
+
+abbrev pub Keeps : Bodies → Key → List ℕ → List (Option ℕ) → List View → Type 0
+Keeps B k words homes views = KeepsIn B k.capacity k.start words homes views
+
 -- ---- what a mark n shows a read that has come to `scan` and got these messages
 
 -- no record is settled there
@@ -76,12 +84,12 @@ pub record LoadsMark (C scan : ℕ) (got : List PlacedMessage) (me : Mine) (n : 
   pub logs : Logs (index C scan) header me.0 me'.0
   pub quiet : IsQuiet scan n → (header ≡ 0) × (me'.1 ≡ me.1) × (me'.0.out ≡ me.0.out)
   pub passes : scan < n → n % 8 ≢ open_kind → n % 8 ≢ committed_kind
-      → (header ≡ padding_header (n - n % 8 - scan)) × (me'.1 ≡ me.1) × (me'.0.out ≡ me.0.out)
+      → (header ≡ padding_header (n - n % 8 - scan)) × (me'.1 ≡ me.1) × (me'.0.out ≡ me.0.out) × (n - n % 8 - scan < 2 ^ 31)
   pub message : scan < n → n % 8 ≡ committed_kind → (lent : IsLent C scan me')
       × (header ≡ committed_header lent.last.message.message.type_id (length lent.last.message.message.body))
       × (header < 18446744073709551616)
 
 -- what was passed up to the position whose index this is counts as cleared, without a store
 abbrev pub ClearsUp : ℕ → View → View → Type 0
-ClearsUp word v w = (to : ℕ) → to % 8 ≡ 0 → v.consumer.head < to → to ≤ v.consumer.head + v.capacity
+ClearsUp word v w = (to : ℕ) → to % 8 ≡ 0 → v.consumer.cleared < to → to ≤ v.consumer.cleared + v.capacity
     → index v.capacity to ≡ word → w ≡ with_consumer (cleared_to to v.consumer) v

@@ -9,9 +9,9 @@ use Rattle.ring_layout.specs.declared.message.ClaimState.TheVariants.{Open}
 use Rattle.ring_layout.specs.History.{span}
 use Rattle.ring_layout.specs.Places.{IsCapacity, index}
 use Rattle.ring_layout.specs.Layout.{ring_words}
-use Rattle.ring_layout.specs.Headers.{committed_header, open_header}
 use Rattle.ring_table.specs.Staged.{StagedClaim, PlacedMessage, Padded, Stored, body_word, slot_bytes, staged_span}
-use Rattle.ring_table.specs.Changes.{blank, recorded, with_body, with_header}
+use Rattle.ring_layout.specs.declared.message.ClaimState.{ClaimState}
+use Rattle.ring_table.specs.Changes.{stored_as, with_body}
 use Rattle.ring_table.specs.Passing.{placed_message}
 use Rattle.ring_table.specs.Views.{Key, View}
 use Rattle.ring_table.specs.ProducerSteps.{Mine, HasClaim, with_changed}
@@ -42,13 +42,11 @@ pub record HasBody (i : ℕ) (body : List ℕ) (held : List (ℕ × ℕ)) : Type
 abbrev pub with_out : List PlacedMessage → View → View
 with_out ms v = record v { out = ms }
 
--- the claimed header is stored, and the slots of the body are taken
-abbrev pub OpensBody : ℕ → ℕ → Mine → Mine → Type 0
-OpensBody word value me me' = (type_id : ℤ) (n : ℕ) → FitsSigned w32 type_id → 8 + n < 2 ^ 31
-    → value ≡ open_header type_id n → HasSlots word (words_of (8 + n)) me'.1
-    × ((k : ℕ) (c : StagedClaim) → HasClaim me.0 k c → c.stage ≡ Padded → index me.0.capacity c.place ≡ word
-    → me'.0 ≡ with_out ((record { place = c.place; message = blank type_id n }) ∷ [])
-    (with_changed c.place (with_header type_id n) me.0))
+-- the slots of the own claim at this word, whose mark is not stored, are taken
+abbrev pub ReservesAt : ℕ → Mine → Mine → Type 0
+ReservesAt word me me' = (k : ℕ) (c : StagedClaim) → HasClaim me.0 k c → c.stage ≡ Padded
+    → index me.0.capacity c.place ≡ word → (me'.0 ≡ with_out (placed_message c ∷ []) me.0)
+    × HasSlots word (words_of (8 + length c.message.body)) me'.1
 
 -- the slots of the newest claim, whose header is not stored, are taken
 abbrev pub ReservesBody : Mine → Mine → Type 0
@@ -56,14 +54,13 @@ ReservesBody me me' = (others : List StagedClaim) (c : StagedClaim) → me.0.pro
     → c.stage ≡ Padded → (me'.0 ≡ with_out (placed_message c ∷ []) me.0)
     × HasSlots (index me.0.capacity c.place) (words_of (8 + length c.message.body)) me'.1
 
--- the committed header of the own claim whose body is out is stored, and the slots go home. The claim gets the type id
--- of the header and the body whose words they have
-abbrev pub CommitsBody : ℕ → Mine → Mine → Type 0
-CommitsBody value me me' = (me'.1 ≡ []) × ((m : PlacedMessage) (i : ℕ) (type_id : ℤ) (body : List ℕ)
-    → me.0.out ≡ m ∷ [] → FitsSigned w32 type_id → 8 + length body < 2 ^ 31
-    → value ≡ committed_header type_id (length body) → All (λ b. b < 256) body
+-- the mark of the own claim whose slots are out is stored, and they go home. The claim gets this state, and the type id
+-- and the body that they have
+abbrev pub StoresRecord : ClaimState → Mine → Mine → Type 0
+StoresRecord s me me' = (me'.1 ≡ []) × ((m : PlacedMessage) (i : ℕ) (type_id : ℤ) (body : List ℕ)
+    → me.0.out ≡ m ∷ [] → FitsSigned w32 type_id → 8 + length body < 2 ^ 31 → All (λ b. b < 256) body
     → HasBody i (slot_bytes (record { type_id = type_id; body = body })) me.1
-    → me'.0 ≡ with_out [] (with_changed m.place (recorded type_id body) me.0))
+    → me'.0 ≡ with_out [] (with_changed m.place (stored_as s type_id body) me.0))
 
 -- the slots of the own open claim whose header has this word are taken
 abbrev pub TakesBody : ℕ → Mine → Mine → Type 0
@@ -89,7 +86,11 @@ abbrev pub body_loads : ℕ → PlacedMessage → ℕ → List (ℕ × ℕ)
 body_loads C m zero = []
 body_loads C m (suc k) = body_loads C m k ++ (index C (m.place + 8 + 8 * k), body_word m.message.body (8 * k)) ∷ []
 
--- they go home, and the log has their words as if each was loaded
+-- they go home
+abbrev pub ReturnsSlots : Mine → Mine → Type 0
+ReturnsSlots me me' = (me'.1 ≡ []) × ((m : PlacedMessage) → me.0.out ≡ m ∷ [] → me'.0 ≡ with_out [] me.0)
+
+-- they go home, and the log has the words of the body as if each was loaded
 abbrev pub ReturnsBody : Mine → Mine → Type 0
 ReturnsBody me me' = (me'.1 ≡ []) × ((m : PlacedMessage) → me.0.out ≡ m ∷ []
     → me'.0 ≡ record me.0 {

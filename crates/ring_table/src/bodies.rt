@@ -11,7 +11,7 @@ ghost use Rattle.ring_table.specs.Staged.{body_word, headed, AreRising};
 
 use crate::mode::InSlots;
 use crate::steps::slots::{
-    commit_body, give_body, lend_body, open_body, reserve_body, return_body,
+    commit_record, lend_body, open_record, reserve_at, reserve_body, return_body,
 };
 use crate::steps::{RingSeat, SharedRing};
 use crate::view::Wanted;
@@ -163,7 +163,7 @@ pub fn copy_slots(
     }
 }
 
-/// Stores the header of a claim of `len` bytes, its length negated, and sets its slots to 0. The claim is open from then
+/// Fills the slots of a claim of `len` bytes with its header and zeros, and stores its mark. The claim is open from then
 /// on, with zeros for its bytes.
 pub fn store_claimed_slots(
     ring: &SharedRing<InSlots>,
@@ -179,13 +179,13 @@ pub fn store_claimed_slots(
     ensures view { producer.new.me.0 ≡ with_changed place (with_header wanted.type_id wanted.len) producer.old.me.0 }
     ensures rising { AreRising producer.old.me.0.producer.claims }
 {
-    open_body(ring, producer, capacity, place, wanted);
+    reserve_at(ring, producer, capacity, place);
     let header = committed_header(wanted.type_id, wanted.len);
     fill_zeros(ring, producer, word_index(capacity, place), header, wanted.len);
-    give_body(ring, producer, capacity, place);
+    open_record(ring, producer, capacity, place, wanted);
 }
 
-/// Writes the whole body of the newest claim into its slots, and then stores its committed header and no other. The
+/// Writes the header and the whole body of the newest claim into its slots, and then stores its mark and no other. The
 /// claim is committed from then on, and has this body.
 #[inline(always)]
 pub fn write_slots(
@@ -208,7 +208,7 @@ pub fn write_slots(
     reserve_body(ring, producer, capacity);
     let header = committed_header(wanted.type_id, wanted.len);
     fill_slots(ring, producer, word_index(capacity, place), header, body);
-    commit_body(ring, producer, capacity, place, wanted);
+    commit_record(ring, producer, capacity, place, wanted);
 }
 
 /// Copies the body of the message that the read got last, of `len` bytes, to the front of the scratch. The log gets its

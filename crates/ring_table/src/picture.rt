@@ -5,15 +5,25 @@ ghost use Rattle.ring_layout.specs.Layout.{ring_words};
 ghost use Rattle.ring_table.specs.declared.view.Key.{Key as TheKey};
 ghost use Rattle.ring_table.specs.Closed.{IsClosed, IsLeft, LeavesRest};
 ghost use Rattle.ring_table.specs.Owners.{all_of};
-ghost use Rattle.ring_table.specs.Staged.{elsewhere, staged_end};
+ghost use Rattle.ring_table.specs.Staged.{elsewhere, shown_header, staged_end};
 ghost use Rattle.ring_table.specs.Views.{View};
 ghost use Rattle.ring_table.specs.Walk.{IsCopied, Parts, Walked};
 
-use crate::mode::{InSlots, Mode};
 use atomic_table::Closed;
 use ring_layout::ring_buffer_descriptor::{HEAD_POSITION_WORD, TAIL_POSITION_WORD, TRAILER_WORDS};
 use ring_layout::{align8, word_index};
 use std::alloc::Global;
+
+/// A header as the formats have it.
+pub(crate) fn formatted(header: u64) -> u64
+    ensures { result ≡ shown_header elsewhere header }
+{
+    if header / 0x1_0000_0000 == 0xffff_fffe {
+        header + 0x1_0000_0000
+    } else {
+        header
+    }
+}
 
 /// Copies the words of a table that was closed.
 pub fn copy_words(closed: &Closed<u64, Global>, words: &mut Vec<u64>)
@@ -57,7 +67,7 @@ fn show_record(closed: &Closed<u64, Global>, words: &mut Vec<u64>, capacity: u32
 {
     let index = word_index(capacity, at);
     let header = words[index];
-    let shown = InSlots::formatted(header);
+    let shown = formatted(header);
     let bytes = align8(shown % 0x1_0000_0000);
     if shown == header {
         copy_range(closed, words, index + 1, bytes as usize / 8 - 1);
