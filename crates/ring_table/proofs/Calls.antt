@@ -87,7 +87,7 @@ pub leaves_claim : (B : Bodies) {v w : View} (C e new n : ℕ) (type_id : ℤ)
     → w ≡ with_claim (moved_claim C e type_id n) new v → Leaves B v w
 leaves_claim B {v} {w} C e new n type_id is = leaves_as B is refl
     (carries_claim v (moved_claim C e type_id n) (eqb e (next_place C e (span n))) new refl)
-    (rests_same {v} {with_claim (moved_claim C e type_id n) new v} refl refl)
+    (rests_same {v = v} {w = with_claim (moved_claim C e type_id n) new v} refl refl)
 
 -- the head is stored at q, up to which the words are cleared
 pub head_rises : (B : Bodies) (C start id : ℕ) (v : View) (s : State ℕ View) → Ok B C start s

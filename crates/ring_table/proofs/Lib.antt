@@ -54,3 +54,4 @@ pub mod MarkSteps
 pub mod ReadMarks
 pub mod ClearMarks
 pub mod SeatMarks
+pub mod SettleMarks

@@ -82,7 +82,7 @@ rests_same kind same = record {
 
 -- what a seat's view is after a step, whose consumer's part stays
 pub rests_as : {v w x : View} → w ≡ x → x.consumes ≡ v.consumes → x.consumer ≡ v.consumer → Rests v w
-rests_as {v} {w} {x} is kind same = rests_same {v} {w} (ap (λ (z : View). z.consumes) is ∙ kind)
+rests_as {v} {w} {x} is kind same = rests_same {v = v} {w = w} (ap (λ (z : View). z.consumes) is ∙ kind)
     (ap (λ (z : View). z.consumer) is ∙ same)
 
 module _ (C start : ℕ) where

@@ -105,6 +105,11 @@ state_kind Open = open_kind
 state_kind Committed = committed_kind
 state_kind Aborted = aborted_kind
 
+pub few_kinds : (s : ClaimState) → state_kind s ≤ 3
+few_kinds Open = omega arith
+few_kinds Committed = omega arith
+few_kinds Aborted = omega arith
+
 pub shows_claim : (C : ℕ) (m : Message) (s : ClaimState) → C ≤ 2 ^ 24 → IsMessage C m
     → Shows (header_of (record { message = m; state = s })) (span (length m.body)) (state_kind s)
 shows_claim C m Open most is =
@@ -240,8 +245,3 @@ near_all C e cs p least most placed = of_all C (IsNear C) (record {
       let kinds = few_kinds s in
       record { small = t.small; below = omega arith; length_is = t.length_is };
 }) e cs p least placed
-  where
-    few_kinds : (s : ClaimState) → state_kind s ≤ 3
-    few_kinds Open = omega arith
-    few_kinds Committed = omega arith
-    few_kinds Aborted = omega arith

@@ -8,7 +8,7 @@ use lib.ListN.{get_elem?}
 use Rattle.std.proofs.lemmas.Bool.{cases_lt, cond-true}
 use Rattle.std.proofs.lemmas.List.{set-get_or}
 use Rattle.std.proofs.lemmas.Nat.{div-add-mod'}
-use Rattle.atomic_table.specs.Table.{State, Act, Valid, keeps, stepped, carried_after, homes_after}
+use Rattle.atomic_table.specs.Table.{State, Act, Allows, Valid, keeps, stepped, carried_after, homes_after}
 use Rattle.atomic_table.proofs.Lists.{set_here}
 use Rattle.ring_layout.specs.History.{IsMessage}
 use Rattle.ring_layout.specs.Places.{index}
@@ -158,10 +158,13 @@ module _ (C start : ℕ) (s : State ℕ View) (m : KeepsMarks C start s.words s.
     comes j = kept_words come s.homes j (rests come refl refl refl) come_kept come_shelf
 
 -- what a step may do with the mark at the position q
-abbrev pub MayRead : ℕ → ℕ → State ℕ View → ℕ → List PlacedMessage → ℕ → Mine → Type 0
-MayRead C start s q got id me = (w : View) × (a : Act ℕ) × Valid s.homes me.1 a
+abbrev pub MayReadAs : ℕ → ℕ → ℕ → State ℕ View → ℕ → List PlacedMessage → ℕ → Mine → Type 0
+MayReadAs C start D s q got id me = (w : View) × (a : Act ℕ) × Valid s.homes me.1 a
     × KeepsMarks C start (set s.words (index C q) (slice_index s.words (index C q))) (homes_after s.homes me.1 a)
-    (set s.views id w) × LoadsMark C q got me (slice_index s.words (index C q)) (w, carried_after me.1 a)
+    (set s.views id w) × LoadsMark D q got me (slice_index s.words (index C q)) (w, carried_after me.1 a)
+
+abbrev pub MayRead : ℕ → ℕ → State ℕ View → ℕ → List PlacedMessage → ℕ → Mine → Type 0
+MayRead C start = MayReadAs C start C
 
 module _ (C start slots : ℕ) (q : ℕ) (got : List PlacedMessage) (id : ℕ) (me : Mine) (cap : me.0.capacity ≡ C)
     (consumes : me.0.consumes ≡ true) (bare : me.0.out ≡ []) (empty : me.1 ≡ []) (s : State ℕ View)
@@ -355,3 +358,36 @@ module _ (C start slots : ℕ) (q : ℕ) (got : List PlacedMessage) (id : ℕ) (
       reads_none n refl (inr (omega arith)))
       t)
       seen.length_is
+
+module _ (C start : ℕ) where
+  -- at the head, as a read begins
+  pub reads_first : (slots id : ℕ) (me : Mine) → me.0.capacity ≡ C → me.0.consumes ≡ true → me.0.out ≡ [] → me.1 ≡ []
+      → me.0.consumer.cleared ≡ me.0.consumer.head
+      → Allows (Marked C start) slots id me (index C me.0.consumer.head) (λ n. n)
+      (λ n me'. LoadsMark me.0.capacity me.0.consumer.head me.0.consumer.taken me n me')
+  reads_first slots id me cap consumes bare empty none_cleared s m wide at small =
+      let r = m.kept in
+      let mine = ((r.seated.each id me.0 at).consumes consumes).1 in
+      let heads : me.0.consumer.head ≡ r.consumer.head = ap (λ (z : ConsumerView). z.head) mine in
+      let cleared : me.0.consumer.cleared ≡ r.consumer.cleared = ap (λ (z : ConsumerView). z.cleared) mine in
+      let least = r.lawful.capacity.least in
+      subst (λ c. MayReadAs C start c s me.0.consumer.head me.0.consumer.taken id me) (sym cap)
+      (reads_mark C start slots me.0.consumer.head me.0.consumer.taken id me cap consumes bare empty s m wide at
+      (subst (λ (z : ConsumerView). Reaches z.head start (all_of r.hist) z.taken) (sym mine) r.memory.took)
+      (omega arith, omega arith))
+
+  -- at the position that the running read has reached
+  pub reads_next : (slots id : ℕ) (me : Mine) → me.0.capacity ≡ C → me.0.consumes ≡ true → me.0.out ≡ [] → me.1 ≡ []
+      → me.0.consumer.scan < me.0.consumer.head + C
+      → Allows (Marked C start) slots id me (index C me.0.consumer.scan) (λ n. n)
+      (λ n me'. LoadsMark me.0.capacity me.0.consumer.scan me.0.consumer.got me n me')
+  reads_next slots id me cap consumes bare empty near s m wide at small =
+      let r = m.kept in
+      let mine = ((r.seated.each id me.0 at).consumes consumes).1 in
+      let heads : me.0.consumer.head ≡ r.consumer.head = ap (λ (z : ConsumerView). z.head) mine in
+      let scan : me.0.consumer.scan ≡ r.consumer.scan = ap (λ (z : ConsumerView). z.scan) mine in
+      let to = r.memory.clears_to in
+      subst (λ c. MayReadAs C start c s me.0.consumer.scan me.0.consumer.got id me) (sym cap)
+      (reads_mark C start slots me.0.consumer.scan me.0.consumer.got id me cap consumes bare empty s m wide at
+      (subst (λ (z : ConsumerView). Reaches z.scan start (all_of r.hist) z.got) (sym mine) r.memory.passed)
+      (omega arith, omega arith))

@@ -28,16 +28,12 @@ holder table id capacity = record { table = table; id = id; capacity = capacity 
 
 module _ {id : TableId} {key : Key} {capacity : ℕ} {seat : Seat ℕ View} (table : seat.table_id ≡ id)
     (words : id.words ≡ ring_words capacity) (key_is : key.capacity ≡ capacity) (lawful : IsCapacity capacity) where
-  -- what a step asks of the table
-  abbrev pub MarkStep : ℕ → (ℕ → ℕ) → (ℕ → Mine → Type 0) → Type 0
-  MarkStep i f told = (seat.table_id ≡ id) × (i < id.words)
-      × Allows (Marked key.capacity key.start) id.slots seat.id seat.me i f told
-
   -- a load whose number says nothing, at a word of the trailer in the code and at a record's in the lemma
   pub slot_load_anywhere : (i word q : ℕ) → word < 96 → i ≡ capacity / 8 + word → (told : Mine → Type 0)
       → ((me' : Mine) → told me' → Rests seat.me.0 me'.0)
       → Allows (Holds elsewhere capacity key.start) id.slots seat.id seat.me (index capacity q) (λ n. n) (λ _. told)
-      → MarkStep i (λ n. n) (λ _. told)
+      → (seat.table_id ≡ id) × (i < id.words)
+      × Allows (Marked key.capacity key.start) id.slots seat.id seat.me i (λ n. n) (λ _. told)
   slot_load_anywhere i word q inside is told rests allows =
       let least = lawful.least in
       let c8 = capacity_aligned capacity lawful in
@@ -53,7 +49,8 @@ module _ {id : TableId} {key : Key} {capacity : ℕ} {seat : Seat ℕ View} (tab
       → ((me' : Mine) → told (index capacity q) me' → Rests seat.me.0 me'.0)
       → Allows (Holds elsewhere capacity key.start) id.slots seat.id seat.me (index capacity q) (λ n. n)
       (λ _. told (index capacity q))
-      → MarkStep i (λ n. n) (λ _. told i)
+      → (seat.table_id ≡ id) × (i < id.words)
+      × Allows (Marked key.capacity key.start) id.slots seat.id seat.me i (λ n. n) (λ _. told i)
   slot_load i p q is at told rests allows =
       let there : i ≡ index capacity q = is ∙ ap (index capacity) (sym at) in
       let least = lawful.least in
@@ -70,7 +67,8 @@ module _ {id : TableId} {key : Key} {capacity : ℕ} {seat : Seat ℕ View} (tab
   -- a step of the rule with marks at the word of a record
   pub mark_step : (i p q : ℕ) → i ≡ index capacity p → q ≡ p → (f : ℕ → ℕ) (told : ℕ → ℕ → Mine → Type 0)
       → Allows (Marked capacity key.start) id.slots seat.id seat.me (index capacity q) f (told (index capacity q))
-      → MarkStep i f (told i)
+      → (seat.table_id ≡ id) × (i < id.words)
+      × Allows (Marked key.capacity key.start) id.slots seat.id seat.me i f (told i)
   mark_step i p q is at f told allows =
       let there : i ≡ index capacity q = is ∙ ap (index capacity) (sym at) in
       let least = lawful.least in

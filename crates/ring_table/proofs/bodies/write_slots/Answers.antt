@@ -41,8 +41,8 @@ fill_slots-requires-clause-has c =
       count = t.count ∙ many;
     }
 
-pub commit_body-requires-clause-body : goal.commit_body-requires-clause-body
-commit_body-requires-clause-body c =
+pub commit_record-requires-clause-body : goal.commit_record-requires-clause-body
+commit_record-requires-clause-body c =
     let h = c.requires.newest in
     let body : List ℕ = c.args.body.now in
     let len = c.requires.len in
@@ -85,23 +85,22 @@ returns-clause-view c =
     let header_is : c.committed_header-header.result ≡ committed_header c.args.wanted.type_id (length body) =
     packs_recorded c.committed_header-header.result c.args.wanted.len c.args.wanted.type_id c.requires.message.type_fits
     c.committed_header-header.ensures ∙ ap (committed_header c.args.wanted.type_id) (sym len) in
-    let given = c.commit_body.ensures.commits.1 (placed_message h.claim) _ c.args.wanted.type_id body
-    (ap (λ (v : View). v.out) same) c.requires.message.type_fits small
-    (ap (committed_header c.args.wanted.type_id) (sym len)) bytes
+    let given = c.commit_record.ensures.stores.1 (placed_message h.claim) _ c.args.wanted.type_id body
+    (ap (λ (v : View). v.out) same) c.requires.message.type_fits small bytes
     (subst (λ z. HasBody c.word_index.result (headed z body) c.fill_slots.new.seat.me.1) header_is
     c.fill_slots.ensures.has) in
-    body_given v c.commit_body.new.producer.me.0 (placed_message h.claim) c.args.place f c.requires.seat.home h.at_place
+    body_given v c.commit_record.new.producer.me.0 (placed_message h.claim) c.args.place f c.requires.seat.home h.at_place
     (given ∙ ap (λ (z : View). with_out [] (with_changed h.claim.place f z)) same)
 
 pub returns-clause-seat : goal.returns-clause-seat
 returns-clause-seat c =
-    let g = c.commit_body.ensures in
+    let g = c.commit_record.ensures in
     let f = c.fill_slots.ensures.seat in
     let t = c.reserve_body.ensures.seat in
     record {
       table = g.seat.table ∙ f.table ∙ t.table;
       id = g.seat.id ∙ f.id ∙ t.id;
-      slots = g.commits.0 ∙ sym c.requires.seat.none;
+      slots = g.stores.0 ∙ sym c.requires.seat.none;
       capacity = g.seat.capacity ∙ ap (λ (v : View). v.capacity) f.view ∙ t.capacity;
       out = ap (λ (v : View). v.out) (returns-clause-view c);
     }

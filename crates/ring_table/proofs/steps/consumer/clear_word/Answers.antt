@@ -2,7 +2,7 @@ use Rattle.ring_table.specs.Staged.{in_words}
 use Rattle.std.proofs.Common.{◌≡◌, ap, arith, refl}
 use Rattle.ring_table.specs.Views.{View}
 use Rattle.ring_table.specs.ConsumerSteps.{ClearsWord}
-use Rattle.ring_table.proofs.Calls.{same_seat, record_step, leaves_same, of_as}
+use Rattle.ring_table.proofs.Calls.{same_seat, record_step, leaves_words, of_as}
 use Rattle.ring_table.proofs.ClearLemmas.{clears_word}
 use Rattle.ring_table.proofs.steps.consumer.clear_word.Goals as goal
 
@@ -11,7 +11,7 @@ store-requires c =
     let at = c.requires.cleared in
     record_step c.requires.seat _ c.args.cleared _ c.requires.target at (λ _. 0)
     (λ _ me _ me'. (me'.1 ≡ me.1) × ClearsWord me.0 me'.0)
-    (λ _ _ t _ _ _. (t.0, leaves_same in_words t.1 refl refl refl refl refl))
+    (λ _ _ t _ _ _. (t.0, leaves_words t.1 refl))
     (clears_word in_words c.args.capacity c.args.ring.now.key.start _ _ c.args.consumer.now.me c.requires.consumes (omega arith))
 
 pub returns-clause-seat : goal.returns-clause-seat

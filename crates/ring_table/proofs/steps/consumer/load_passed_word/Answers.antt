@@ -4,7 +4,7 @@ use mathlib.Core.Logic.{dite}
 use native.Mathlib.Decide.{ℕ_discrete}
 use Rattle.ring_table.specs.Views.{View}
 use Rattle.ring_table.specs.ConsumerSteps.{LoadsPassed}
-use Rattle.ring_table.proofs.Calls.{same_seat, record_step, leaves_same, of_as}
+use Rattle.ring_table.proofs.Calls.{same_seat, record_step, leaves_words, of_as}
 use Rattle.ring_table.proofs.ClearLemmas.{loads_passed}
 use Rattle.ring_table.proofs.steps.consumer.load_passed_word.Goals as goal
 
@@ -15,8 +15,8 @@ load-requires c =
     (λ _ me n me'. (me'.1 ≡ me.1) × LoadsPassed me.0 n me'.0)
     (λ n _ t _ _ _. (
       t.0,
-      dite (ℕ_discrete n 0) (λ zero. leaves_same in_words (t.1.zero zero) refl refl refl refl refl)
-          (λ other. leaves_same in_words (t.1.other other) refl refl refl refl refl),
+      dite (ℕ_discrete n 0) (λ zero. leaves_words (t.1.zero zero) refl)
+          (λ other. leaves_words (t.1.other other) refl),
     ))
     (loads_passed in_words c.args.capacity c.args.ring.now.key.start _ _ c.args.consumer.now.me c.requires.consumes
     (omega arith))
