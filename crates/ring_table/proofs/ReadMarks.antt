@@ -1,5 +1,5 @@
 -- The consumer's loads of marks keep the rule.
-use Rattle.std.proofs.Common.{◌≡◌, ◌≢◌, ◌⊎◌, ℕ, ◌+◌, ◌-◌, ◌*◌, ◌/◌, ◌%◌, ◌^◌, ◌≤◌, ◌<◌, ℤ, pos, ◌≤ℤ◌, FitsSigned, List, [], ◌∷◌, ◌++◌, cond, true, set, slice_index, sym, refl, ap, ◌∙◌, subst, inl, inr, ⊎_elim, length, le-ltb, eq-eqb, arith}
+use Rattle.std.proofs.Common.{◌≡◌, ◌≢◌, ◌⊎◌, ℕ, suc, ◌+◌, ◌-◌, ◌*◌, ◌/◌, ◌%◌, ◌^◌, ◌≤◌, ◌<◌, ℤ, pos, ◌≤ℤ◌, FitsSigned, List, [], ◌∷◌, ◌++◌, cond, true, set, slice_index, sym, refl, ap, ◌∙◌, subst, inl, inr, ⊎_elim, length, le-ltb, eq-eqb, arith}
 use Rattle.std.specs.Int.{cast_unsigned, w32}
 use mathlib.Core.Option.{Option, some}
 use mathlib.Core.Logic.{dite}
@@ -22,7 +22,10 @@ use Rattle.ring_table.specs.Rule.{Kept}
 use Rattle.ring_table.specs.Shelf.{IsShelf}
 use Rattle.ring_table.specs.ProducerSteps.{Mine}
 use Rattle.ring_table.specs.ConsumerSteps.{with_scan, rounded, IsInside, LoadsHeader}
-use Rattle.ring_table.specs.SlotSteps.{with_out, HasBody, LendsBody}
+use Rattle.ring_table.specs.Ranges.{numbered}
+use Rattle.ring_table.proofs.RangeLemmas.{first_of_some}
+use Rattle.ring_table.proofs.SlotBytes.{first_word_of, length_slot}
+use Rattle.ring_table.specs.SlotSteps.{with_out, HasBody, IsLent, LendsBody}
 use Rattle.ring_table.specs.Marks.{committed_kind, open_kind, padding_kind, aborted_kind, bytes_of, kind_of, mark_of, Encodes, KeepsMarks, LoadsMark}
 use Rattle.ring_table.proofs.StagedPlaces.{capacity_aligned, start_aligned}
 use Rattle.ring_table.proofs.ReachLemmas.{reach_bounds, reach_aligned}
@@ -212,7 +215,7 @@ module _ (C start slots : ℕ) (q : ℕ) (got : List PlacedMessage) (id : ℕ) (
         logs = refl;
         quiet = λ quiet. ⊎_elim (λ (le : n ≤ q). absurd (omega arith))
             (λ (other : n % 8 ≡ open_kind). absurd (kinds.1 (sym kind_is ∙ other))) quiet;
-        passes = λ _ _ _. (ap padding_header back, refl, refl, omega arith);
+        passes = λ _ _ _. (ap padding_header back, refl, refl, omega arith, omega arith);
         message = λ above other. absurd (kinds.2 (sym kind_is ∙ other));
       } in (
         w,
@@ -391,3 +394,21 @@ module _ (C start : ℕ) where
       (reads_mark C start slots me.0.consumer.scan me.0.consumer.got id me cap consumes bare empty s m wide at
       (subst (λ (z : ConsumerView). Reaches z.scan start (all_of r.hist) z.got) (sym mine) r.memory.passed)
       (omega arith, omega arith))
+
+-- the slot in front has the header
+pub lent_front : (C place : ℕ) (me : Mine) (l : IsLent C place me)
+    → committed_header l.last.message.message.type_id (length l.last.message.message.body) < 2 ^ 64
+    → (rest : List (ℕ × ℕ)) × (me.1 ≡ (index C place,
+    committed_header l.last.message.message.type_id (length l.last.message.message.body)) ∷ rest)
+lent_front C place me l small =
+    let m = l.last.message.message in
+    let long = length_slot m in
+    let count = l.slots.count in
+    let f = first_of_some l.slots.values (omega arith) in
+    let word : f.0 ≡ committed_header m.type_id (length m.body) =
+    sym (l.slots.words 0 f.0 (ap (λ z. get_elem? z 0) f.2))
+    ∙ first_word_of (committed_header m.type_id (length m.body)) m.body small in (
+      numbered (suc (index C place)) f.1,
+      l.slots.held_is ∙ ap (numbered (index C place)) f.2
+          ∙ ap (λ z. (index C place, z) ∷ numbered (suc (index C place)) f.1) word,
+    )

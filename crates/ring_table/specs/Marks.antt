@@ -84,7 +84,8 @@ pub record LoadsMark (C scan : ℕ) (got : List PlacedMessage) (me : Mine) (n : 
   pub logs : Logs (index C scan) header me.0 me'.0
   pub quiet : IsQuiet scan n → (header ≡ 0) × (me'.1 ≡ me.1) × (me'.0.out ≡ me.0.out)
   pub passes : scan < n → n % 8 ≢ open_kind → n % 8 ≢ committed_kind
-      → (header ≡ padding_header (n - n % 8 - scan)) × (me'.1 ≡ me.1) × (me'.0.out ≡ me.0.out) × (n - n % 8 - scan < 2 ^ 31)
+      → (header ≡ padding_header (n - n % 8 - scan)) × (me'.1 ≡ me.1) × (me'.0.out ≡ me.0.out)
+      × (n - n % 8 - scan < 2 ^ 31) × (scan ≤ n - n % 8)
   pub message : scan < n → n % 8 ≡ committed_kind → (lent : IsLent C scan me')
       × (header ≡ committed_header lent.last.message.message.type_id (length lent.last.message.message.body))
       × (header < 18446744073709551616)
