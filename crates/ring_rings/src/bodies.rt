@@ -23,11 +23,11 @@ ghost use Rattle.ring_rings.specs.Bodies.{HasPaddedLast, IsPaddedLast, PutsBytes
 ghost use Rattle.ring_rings.specs.ReadingSteps.{CopiesBody, HasBodyAt, HasGotLast, HasLastAt, IsInBlock, IsReaderSeatOf, LoadsWholeBody, OnlyLoads};
 
 use atomic_table::Closed;
-use ring_table::{Key, Mode, RingSeat, RingTable, SharedRing, Unsettled, Wanted};
+use ring_table::{Headers, Key, RingSeat, RingTable, SharedRing, Unsettled, Wanted};
 use std::alloc::{AllocError, Global};
 
 /// The memory of the bodies of messages, which is words (`InWords`) or slots (`InSlots`).
-pub trait Bodies: Mode {
+pub trait Bodies: Headers {
     /// Returns the number of slots of a table of this many bytes.
     ghost slots_for: { ℕ → ℕ };
 

@@ -13,9 +13,9 @@ use atomic_table::Closed;
 use ring_layout::record_descriptor::HEADER_LENGTH;
 use ring_layout::{first_word, put_bytes_word, put_word, word_index};
 use ring_table::{
-    InWords, Key, RingSeat, RingTable, SharedRing, Unsettled, Wanted, clear_word, copy_words,
+    Headers, InWords, Key, RingSeat, RingTable, SharedRing, Unsettled, Wanted, clear_word, copy_words,
     load_body_word, load_own_word, load_passed_word, open, rescue_words, store_body_word,
-    store_claimed_header, store_committed_header,
+    store_claimed_header,
 };
 use std::alloc::{AllocError, Global};
 
@@ -178,7 +178,7 @@ impl Bodies for InWords {
     ) {
         store_claimed_header(words, seat, capacity, place, wanted);
         store_body(words, seat, capacity, place, body);
-        store_committed_header(words, seat, capacity, place, wanted);
+        InWords::store_committed_header(words, seat, capacity, place, wanted);
     }
 
     #[inline(always)]
