@@ -55,3 +55,4 @@ pub mod ReadMarks
 pub mod ClearMarks
 pub mod SeatMarks
 pub mod SettleMarks
+pub mod DecodeLemmas

@@ -1,13 +1,13 @@
 -- Marks: the words of a ring whose bodies lie in slots. The word at the index of a position p is a mark if it is above
 -- p, and otherwise says nothing. A mark is the end of the record or of the padding that begins at p, and its kind.
-use Rattle.std.specs.Prelude.{◌≡◌, ◌≢◌, ◌⊎◌, ℕ, ◌+◌, ◌-◌, ◌/◌, ◌%◌, ◌^◌, ◌≤◌, ◌<◌, List, length, slice_index, if◌then◌else◌, nat_lt, ◌==◌}
+use Rattle.std.specs.Prelude.{◌≡◌, ◌≢◌, ◌⊎◌, ℕ, pos, ◌+◌, ◌-◌, ◌*◌, ◌/◌, ◌%◌, ◌^◌, ◌≤◌, ◌<◌, List, length, slice_index, if◌then◌else◌, nat_lt, ◌==◌}
 use mathlib.Core.Option.{Option}
 use Rattle.ring_layout.specs.Places.{index}
-use Rattle.ring_table.specs.Staged.{Bodies, in_words, elsewhere}
+use Rattle.ring_table.specs.Staged.{Bodies, in_words, elsewhere, padding_word}
 use Rattle.ring_table.specs.Views.{Key, View}
 use Rattle.ring_table.specs.Shelf.{HasShelf, IsShelf}
 use Rattle.ring_table.specs.Rule.{Kept}
-use Rattle.ring_layout.specs.Headers.{committed_header, padding_header}
+use Rattle.ring_layout.specs.Headers.{committed_header, open_header, padding_header}
 use Rattle.ring_table.specs.Staged.{PlacedMessage}
 use Rattle.ring_table.specs.Views.{Logs, cleared_to, with_consumer}
 use Rattle.ring_table.specs.ProducerSteps.{Mine}
@@ -94,3 +94,23 @@ pub record LoadsMark (C scan : ℕ) (got : List PlacedMessage) (me : Mine) (n : 
 abbrev pub ClearsUp : ℕ → View → View → Type 0
 ClearsUp word v w = (to : ℕ) → to % 8 ≡ 0 → v.consumer.cleared < to → to ≤ v.consumer.cleared + v.capacity
     → index v.capacity to ≡ word → w ≡ with_consumer (cleared_to to v.consumer) v
+
+-- ---- the headers of a table that was closed
+
+-- The header of what the mark w shows at the position p, if its first slot has y. An open claim counts as one with the
+-- type id 1, whose body fills its record, since its slots may be out
+unfoldable pub decoded : ℕ → ℕ → ℕ → ℕ
+decoded p w y =
+    if nat_lt p w then (if w % 8 == committed_kind then y
+    else (if w % 8 == padding_kind then padding_word elsewhere (w - w % 8 - p)
+    else (if w % 8 == aborted_kind then (2 ^ 32 - 1) * 2 ^ 32 + y % 2 ^ 32
+    else open_header (pos 1) (w - w % 8 - p - 8)))) else 0
+
+-- a mark at the position p is of some bytes
+abbrev pub MayDecode : ℕ → ℕ → Type 0
+MayDecode p w = p < w → (p + 8 ≤ w - w % 8) × (w - w % 8 - p < 2 ^ 31)
+
+-- the new words have the headers that the old ones and the slots show, from the head on
+abbrev pub IsDecoded : ℕ → ℕ → List ℕ → List ℕ → List ℕ → Type 0
+IsDecoded C head slots old new = (p : ℕ) → p % 8 ≡ 0 → head ≤ p → p < head + C
+    → slice_index new (index C p) ≡ decoded p (slice_index old (index C p)) (slice_index slots (index C p))
