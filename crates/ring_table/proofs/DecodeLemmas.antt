@@ -30,6 +30,33 @@ pub decoded_none : (p w y : ℕ) → w ≤ p → decoded p w y ≡ 0
 unfolding decoded
 decoded_none p w y le = cond-false _ _ _ (le-ltb p w le)
 
+pub kind_is_committed : (p w y : ℕ) → p < w → w % 8 ≡ committed_kind → decoded p w y ≡ y
+unfolding decoded
+kind_is_committed p w y above kind =
+    cond-true _ _ _ (lt-ltb p w above) ∙ cond-true _ _ _ (eq-eqb (w % 8) committed_kind kind)
+
+pub kind_is_padding : (p w y : ℕ) → p < w → w % 8 ≡ padding_kind
+    → decoded p w y ≡ padding_word elsewhere (w - w % 8 - p)
+unfolding decoded
+kind_is_padding p w y above kind =
+    cond-true _ _ _ (lt-ltb p w above) ∙ cond-false _ _ _ (ne_eqb (w % 8) committed_kind (λ e. omega arith))
+    ∙ cond-true _ _ _ (eq-eqb (w % 8) padding_kind kind)
+
+pub kind_is_aborted : (p w y : ℕ) → p < w → w % 8 ≡ aborted_kind
+    → decoded p w y ≡ (2 ^ 32 - 1) * 2 ^ 32 + y % 2 ^ 32
+unfolding decoded
+kind_is_aborted p w y above kind =
+    cond-true _ _ _ (lt-ltb p w above) ∙ cond-false _ _ _ (ne_eqb (w % 8) committed_kind (λ e. omega arith))
+    ∙ cond-false _ _ _ (ne_eqb (w % 8) padding_kind (λ e. omega arith))
+    ∙ cond-true _ _ _ (eq-eqb (w % 8) aborted_kind kind)
+
+pub kind_is_other : (p w y : ℕ) → p < w → w % 8 ≢ committed_kind → w % 8 ≢ padding_kind → w % 8 ≢ aborted_kind
+    → decoded p w y ≡ open_header (pos 1) (w - w % 8 - p - 8)
+unfolding decoded
+kind_is_other p w y above one two three =
+    cond-true _ _ _ (lt-ltb p w above) ∙ cond-false _ _ _ (ne_eqb (w % 8) committed_kind one)
+    ∙ cond-false _ _ _ (ne_eqb (w % 8) padding_kind two) ∙ cond-false _ _ _ (ne_eqb (w % 8) aborted_kind three)
+
 decoded_committed : (p b w y : ℕ) → w ≡ p + b → p % 8 ≡ 0 → b % 8 ≡ 0 → 0 < b → decoded p w y ≡ y
 unfolding decoded
 decoded_committed p b w y is p8 b8 full =

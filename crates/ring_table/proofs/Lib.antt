@@ -56,3 +56,4 @@ pub mod ClearMarks
 pub mod SeatMarks
 pub mod SettleMarks
 pub mod DecodeLemmas
+pub mod LastMarks

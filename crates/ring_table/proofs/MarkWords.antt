@@ -4,6 +4,7 @@ use Rattle.std.specs.Int.{cast_unsigned, w32}
 use mathlib.Core.Logic.{dite}
 use native.Mathlib.Decide.{ℕ_discrete}
 use Rattle.std.proofs.lemmas.Bool.{cases_lt, cond-true, cond-false}
+use Rattle.std.proofs.lemmas.Nat.{mod_below}
 use Rattle.ring_layout.specs.declared.message.Message.{Message}
 use Rattle.ring_layout.specs.declared.message.ClaimState.{ClaimState}
 use Rattle.ring_layout.specs.declared.message.ClaimState.TheVariants.{Open, Committed, Aborted}
@@ -73,6 +74,32 @@ kind_committed h le no_pad no_abort =
 pub kind_open : (h : ℕ) → 2 ^ 31 < h % 2 ^ 32 → kind_of h ≡ open_kind
 unfolding kind_of
 kind_open h above = cond-true _ _ _ (lt-ltb (2 ^ 31) (h % 2 ^ 32) above)
+
+negative_bytes : (h : ℕ) → 2 ^ 31 < h % 2 ^ 32 → 8 ≤ bytes_of h
+unfolding bytes_of
+negative_bytes h above =
+    let low = mod_below h (2 ^ 32) (omega arith) in
+    subst (λ k. 8 ≤ k) (sym (cond-true _ (rounded (2 ^ 32 - h % 2 ^ 32)) (rounded (h % 2 ^ 32))
+    (lt-ltb (2 ^ 31) (h % 2 ^ 32) above))) (omega arith)
+
+pub few_of : (h : ℕ) → kind_of h < 8
+few_of h = by_length (cases_lt (2 ^ 31) (h % 2 ^ 32))
+  where
+    by_length : (2 ^ 31 < h % 2 ^ 32) ⊎ (h % 2 ^ 32 ≤ 2 ^ 31) → kind_of h < 8
+    by_length (inl above) = let is = kind_open h above in omega arith
+    by_length (inr le) = dite (ℕ_discrete (h / 2 ^ 32) (2 ^ 32 - 2))
+        (λ e. let is = kind_padding h le e in omega arith)
+        (λ ne. dite (ℕ_discrete (h / 2 ^ 32) (2 ^ 32 - 1))
+        (λ e. let is = kind_aborted h le e in omega arith)
+        (λ ne'. let is = kind_committed h le ne ne' in omega arith))
+
+pub long_bytes : (h : ℕ) → h ≢ 0 → (h ≡ 0) ⊎ (((0 < h % 2 ^ 32) × (h % 2 ^ 32 < 2 ^ 31)) ⊎ (2 ^ 31 < h % 2 ^ 32)) → 8 ≤ bytes_of h
+long_bytes h ne (inl none) = absurd (ne none)
+long_bytes h ne (inr (inl plus)) =
+    let some_length = plus.0 in
+    let less = plus.1 in
+    let is = bytes_plain h (omega arith) in omega arith
+long_bytes h ne (inr (inr above)) = negative_bytes h above
 
 -- what has the header h ends these bytes later, and is of this kind; and h is a word, and not 0
 pub record Shows (h bytes kind : ℕ) : Type 0 where
@@ -158,6 +185,10 @@ shows_claim C m Aborted most is =
       small = omega arith;
       length_is = inr (inl (omega arith, omega arith));
     }
+
+pub committed_small : (C : ℕ) (m : Message) → C ≤ 2 ^ 24 → IsMessage C m
+    → committed_header m.type_id (length m.body) < 2 ^ 64
+committed_small C m most is = (shows_claim C m Committed most is).small
 
 -- ---- what holds of all words of a picture whose bodies lie elsewhere
 

@@ -46,7 +46,7 @@ set_twice (x ∷ xs) zero v w = refl
 set_twice (x ∷ xs) (suc id) v w = ap (λ l. x ∷ l) (set_twice xs id v w)
 
 -- a claim of the history is its owner's
-has_owned : (h : OwnedHistory) (n j : ℕ) (c : StagedClaim) → get_elem? h n ≡ some (j, c)
+pub has_owned : (h : OwnedHistory) (n j : ℕ) (c : StagedClaim) → get_elem? h n ≡ some (j, c)
     → (k : ℕ) × (get_elem? (owned_by j h) k ≡ some c)
 has_owned [] n j c e = absurd (some-ne-none (j, c) (sym e))
 has_owned (x ∷ xs) zero j c e =

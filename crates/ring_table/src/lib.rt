@@ -8,6 +8,7 @@
 
 mod bodies;
 mod claim;
+mod decode;
 mod headers;
 mod laws;
 mod mode;

@@ -1,0 +1,108 @@
+-- The marks that a table left.
+use Rattle.std.proofs.Common.{◌≡◌, ◌≢◌, ℕ, zero, suc, ◌+◌, ◌-◌, ◌/◌, ◌%◌, ◌≤◌, ◌<◌, List, [], ◌∷◌, cond, true, length, slice_index, get_or, sym, refl, ap, ◌∙◌, subst, ⊎_elim, le-ltb, arith}
+use Rattle.std.specs.Prelude.{⊤}
+use mathlib.Core.Option.{Option, some, some-injective, some-ne-none}
+use mathlib.Core.Logic.{dite}
+use native.Mathlib.Decide.{ℕ_discrete}
+use lib.ListN.{get_elem?}
+use Rattle.std.proofs.lemmas.Bool.{cases_lt}
+use Rattle.std.proofs.lemmas.List.{ext_get_or}
+use Rattle.ring_layout.specs.Headers.{committed_header}
+use Rattle.ring_layout.specs.Places.{index, max_position}
+use Rattle.ring_layout.specs.Layout.{head_index}
+use Rattle.ring_table.specs.Staged.{elsewhere, StagedClaim, ArePlaced, staged_end, staged_word_at}
+use Rattle.ring_table.specs.Owners.{OwnedHistory, all_of}
+use Rattle.ring_table.specs.Passing.{AreSettled, IsSettled}
+use Rattle.ring_table.specs.Views.{ConsumerView, View}
+use Rattle.ring_table.specs.Rule.{Kept}
+use Rattle.ring_table.specs.Marks.{Encodes, IsDecoded, KeepsMarks, MayDecode, bytes_of, decoded, kind_of, mark_of}
+use Rattle.ring_table.proofs.StagedPlaces.{capacity_aligned, start_aligned, lies_in}
+use Rattle.ring_table.proofs.MemoryLemmas.{head_bounds}
+use Rattle.ring_table.proofs.MarkWords.{whole_bytes, few_of, long_bytes}
+use Rattle.ring_table.proofs.MarkSteps.{HasIndex, header_near, position_of}
+use Rattle.ring_table.proofs.DecodeLemmas.{HeadAt, Marks, all_filled_out, decode_all, filled_none}
+
+-- each settled claim of a history has its header there
+pub heads_all : (p y : ℕ) (h : OwnedHistory) → ((k : ℕ) (x : ℕ × StagedClaim) → get_elem? h k ≡ some x
+    → IsSettled x.1.stage → x.1.place ≡ p → y ≡ committed_header x.1.message.type_id (length x.1.message.body))
+    → HeadAt p y (all_of h)
+heads_all p y [] each = tt
+heads_all p y (x ∷ h) each = (each 0 x refl, heads_all p y h (λ k z e. each (suc k) z e))
+
+module _ (C start : ℕ) (words : List ℕ) (homes : List (Option ℕ)) (views : List View)
+    (m : KeepsMarks C start words homes views) (rests : m.kept.consumer.cleared ≡ m.kept.consumer.head) where
+  -- what is at the position p, from the head on
+  pub marks_at : (p : ℕ) → p % 8 ≡ 0 → m.kept.consumer.head ≤ p → p < m.kept.consumer.head + C
+      → Marks p (slice_index words (index C p)) (slice_index m.headers (index C p))
+  marks_at p p8 lo hi = record {
+    none = m.encodes.none p p8 (omega arith) hi;
+    mark = m.encodes.marks p p8 (omega arith) hi;
+  }
+
+  pub may_decode : (p : ℕ) → p % 8 ≡ 0 → m.kept.consumer.head ≤ p → p < m.kept.consumer.head + C
+      → MayDecode p (slice_index words (index C p))
+  may_decode p p8 lo hi above =
+      let h : ℕ = slice_index m.headers (index C p) in
+      let w : ℕ = slice_index words (index C p) in
+      let at = marks_at p p8 lo hi in
+      let some_mark : h ≢ 0 = λ zero. let none = at.none zero in omega arith in
+      let mark : w ≡ mark_of p h = at.mark some_mark in
+      let near = header_near C start m.headers views m.kept p p8 lo hi in
+      let below = near.below in
+      let most = m.kept.lawful.capacity.most in
+      let eight = whole_bytes h in
+      let few = few_of h in
+      let full : 8 ≤ bytes_of h = long_bytes h some_mark near.length_is in
+      (omega arith, omega arith)
+
+  head_there : slice_index words (head_index C) ≡ m.kept.consumer.head
+  head_there = m.encodes.trailer (head_index C) (omega arith) ∙ m.kept.memory.head_is
+
+  pub head_fits : (slice_index words (head_index C) % 8 ≡ 0) × (slice_index words (head_index C) ≤ max_position)
+  head_fits =
+      let r = m.kept in
+      let bounds = head_bounds elsewhere C start r.lawful m.headers r.consumer (all_of r.hist) r.memory in
+      let is = head_there in
+      let limit = r.memory.limit in
+      let top = bounds.1 in
+      (ap (λ k. k % 8) is ∙ bounds.2, omega arith)
+
+  pub may_decode_all : (p : ℕ) → p % 8 ≡ 0 → slice_index words (head_index C) ≤ p
+      → p < slice_index words (head_index C) + C → MayDecode p (slice_index words (index C p))
+  may_decode_all p p8 lo hi = let is = head_there in may_decode p p8 (omega arith) (omega arith)
+
+  -- all claims are settled: the headers that are shown are those of the rule
+  pub headers_back : (new xs : List ℕ) → AreSettled (all_of m.kept.hist)
+      → ((k : ℕ) (x : ℕ × StagedClaim) → get_elem? m.kept.hist k ≡ some x → m.kept.consumer.head ≤ x.1.place
+      → slice_index xs (index C x.1.place) ≡ committed_header x.1.message.type_id (length x.1.message.body))
+      → length new ≡ length words → IsDecoded C (slice_index words (head_index C)) xs words new
+      → ((i : ℕ) → C / 8 ≤ i → slice_index new i ≡ slice_index words i) → new ≡ m.headers
+  headers_back new xs settled heads wide decodes trailer =
+      let r = m.kept in
+      let law = r.lawful in
+      let least = law.capacity.least in
+      let c8 = capacity_aligned C law.capacity in
+      let start8 = start_aligned C start law in
+      let mem = r.memory in
+      let head_is = head_there in
+      let bounds = head_bounds elsewhere C start law m.headers r.consumer (all_of r.hist) mem in
+      ext_get_or 0 new m.headers (wide ∙ m.encodes.wide) (λ i lt. ⊎_elim
+      (λ (low : i < C / 8).
+      let p = position_of C r.consumer.head i (omega arith) c8 bounds.2 low in
+      let q : ℕ = p.at in
+      let from = p.from in
+      let below = p.below in
+      let shows : slice_index m.headers (index C q) ≡ staged_word_at elsewhere (all_of r.hist) q =
+      mem.shows q p.whole from below ∙ ap (λ b. cond b 0 (staged_word_at elsewhere (all_of r.hist) q))
+      (le-ltb q r.consumer.cleared (omega arith)) in
+      let back : slice_index new (index C q) ≡ slice_index m.headers (index C q) =
+      decodes q p.whole (omega arith) (omega arith)
+      ∙ decode_all C start (all_of r.hist) q (slice_index words (index C q)) (slice_index xs (index C q)) law.capacity start8
+      mem.placed p.whole
+      (subst (Marks q (slice_index words (index C q))) shows (marks_at q p.whole from below))
+      (heads_all q (slice_index xs (index C q)) r.hist (λ k x there done place.
+      ap (λ z. slice_index xs (index C z)) (sym place) ∙ heads k x there (omega arith)))
+      ∙ ap (λ cs. staged_word_at elsewhere cs q) (filled_none (all_of r.hist) settled) ∙ sym shows in
+      subst (λ z. slice_index new z ≡ slice_index m.headers z) p.is back)
+      (λ (far : C / 8 ≤ i). trailer i far ∙ m.encodes.trailer i far)
+      (cases_lt i (C / 8)))
