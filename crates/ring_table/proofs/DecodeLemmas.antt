@@ -89,7 +89,7 @@ decoded_open p b w y is p8 b8 =
 
 -- ---- claims whose open ones fill their records
 
-abbrev filled_out : Stage → Message → Message
+abbrev pub filled_out : Stage → Message → Message
 filled_out Moved m = m
 filled_out Padded m = m
 filled_out (Stored Open) m = blank (pos 1) (span (length m.body) - 8)
@@ -147,7 +147,7 @@ pub filled_ends : (e : ℕ) (cs : List StagedClaim) → staged_end e (all_filled
 filled_ends e [] = refl
 filled_ends e (c ∷ cs) = ap (λ k. staged_end k (all_filled_out cs)) (filled_end c) ∙ filled_ends (claim_end c) cs
 
-filled_settled_one : (t : Stage) (m : Message) → IsSettled t → filled_out t m ≡ m
+pub filled_settled_one : (t : Stage) (m : Message) → IsSettled t → filled_out t m ≡ m
 filled_settled_one Moved m is = absurd is
 filled_settled_one Padded m is = absurd is
 filled_settled_one (Stored Open) m is = absurd is

@@ -1,5 +1,5 @@
 -- The marks that a table left.
-use Rattle.std.proofs.Common.{◌≡◌, ◌≢◌, ℕ, zero, suc, ◌+◌, ◌-◌, ◌/◌, ◌%◌, ◌≤◌, ◌<◌, List, [], ◌∷◌, cond, true, length, slice_index, get_or, sym, refl, ap, ◌∙◌, subst, ⊎_elim, le-ltb, arith}
+use Rattle.std.proofs.Common.{◌≡◌, ◌≢◌, ℕ, zero, suc, ◌+◌, ◌-◌, ◌/◌, ◌%◌, ◌≤◌, ◌<◌, List, [], ◌∷◌, ◌++◌, cond, true, length, slice_index, get_or, sym, refl, ap, ◌∙◌, subst, ⊎_elim, le-ltb, arith}
 use Rattle.std.specs.Prelude.{⊤}
 use mathlib.Core.Option.{Option, some, some-injective, some-ne-none}
 use mathlib.Core.Logic.{dite}
@@ -9,7 +9,9 @@ use Rattle.std.proofs.lemmas.Bool.{cases_lt}
 use Rattle.std.proofs.lemmas.List.{ext_get_or}
 use Rattle.ring_layout.specs.Headers.{committed_header}
 use Rattle.ring_layout.specs.Places.{index, max_position}
-use Rattle.ring_layout.specs.Layout.{head_index}
+use Rattle.ring_layout.specs.Layout.{head_index, tail_index}
+use Rattle.ring_table.specs.Closed.{restarted}
+use Rattle.ring_table.specs.Rescued.{ShowsClaims}
 use Rattle.ring_table.specs.Staged.{elsewhere, StagedClaim, ArePlaced, staged_end, staged_word_at}
 use Rattle.ring_table.specs.Owners.{OwnedHistory, all_of}
 use Rattle.ring_table.specs.Passing.{AreSettled, IsSettled}
@@ -20,7 +22,7 @@ use Rattle.ring_table.proofs.StagedPlaces.{capacity_aligned, start_aligned, lies
 use Rattle.ring_table.proofs.MemoryLemmas.{head_bounds}
 use Rattle.ring_table.proofs.MarkWords.{whole_bytes, few_of, long_bytes}
 use Rattle.ring_table.proofs.MarkSteps.{HasIndex, header_near, position_of}
-use Rattle.ring_table.proofs.DecodeLemmas.{HeadAt, Marks, all_filled_out, decode_all, filled_none}
+use Rattle.ring_table.proofs.DecodeLemmas.{HeadAt, Marks, all_filled_out, decode_all, filled_ends, filled_none, filled_placed}
 
 -- each settled claim of a history has its header there
 pub heads_all : (p y : ℕ) (h : OwnedHistory) → ((k : ℕ) (x : ℕ × StagedClaim) → get_elem? h k ≡ some x
@@ -106,3 +108,44 @@ module _ (C start : ℕ) (words : List ℕ) (homes : List (Option ℕ)) (views :
       subst (λ z. slice_index new z ≡ slice_index m.headers z) p.is back)
       (λ (far : C / 8 ≤ i). trailer i far ∙ m.encodes.trailer i far)
       (cases_lt i (C / 8)))
+
+  -- the words that are decoded show the claims that the headers show
+  pub shows_decoded : (new xs : List ℕ) (cs : List StagedClaim) → ShowsClaims elsewhere C m.headers cs
+      → IsDecoded C (slice_index words (head_index C)) xs words new
+      → ((i : ℕ) → C / 8 ≤ i → slice_index new i ≡ slice_index words i)
+      → ((p : ℕ) → m.kept.consumer.head ≤ p → HeadAt p (slice_index xs (index C p)) cs)
+      → ShowsClaims elsewhere C new (all_filled_out cs)
+  shows_decoded new xs cs k decodes trailer heads =
+      let cap = m.kept.lawful.capacity in
+      let least = cap.least in
+      let head : ℕ = slice_index m.headers (head_index C) in
+      let at_words : slice_index words (head_index C) ≡ head = m.encodes.trailer (head_index C) (omega arith) in
+      let head_is : head ≡ m.kept.consumer.head = m.kept.memory.head_is in
+      let here : slice_index new (head_index C) ≡ head = trailer (head_index C) (omega arith) ∙ at_words in
+      let tail : slice_index new (tail_index C) ≡ slice_index m.headers (tail_index C) =
+      trailer (tail_index C) (omega arith) ∙ m.encodes.trailer (tail_index C) (omega arith) in
+      let ends : staged_end (slice_index new (head_index C)) (all_filled_out cs) ≡ staged_end head cs =
+      ap (λ x. staged_end x (all_filled_out cs)) here ∙ filled_ends head cs in
+      let limit = k.limit in
+      let room = k.room in
+      record {
+        aligned = ap (λ x. x % 8) here ∙ k.aligned;
+        placed = subst (λ x. ArePlaced C x (all_filled_out cs)) (sym here) (filled_placed C head cs cap k.placed);
+        tail_is = tail ∙ k.tail_is ∙ sym ends;
+        limit = omega arith;
+        room = omega arith;
+        shows = λ p p8 lo hi.
+            let w : ℕ = slice_index words (index C p) in
+            decodes p p8 (omega arith) (omega arith)
+            ∙ decode_all C head cs p w (slice_index xs (index C p)) cap k.aligned k.placed p8
+            (subst (Marks p w) (k.shows p p8 (omega arith) (omega arith)) (marks_at p p8 (omega arith) (omega arith)))
+            (heads p (omega arith));
+      }
+
+pub heads_rest : (p y : ℕ) (front rest : List StagedClaim) → HeadAt p y (front ++ rest) → HeadAt p y rest
+heads_rest p y [] rest all = all
+heads_rest p y (c ∷ front) rest all = heads_rest p y front rest all.1
+
+pub heads_restarted : (p y s : ℕ) (rest : List StagedClaim) → HeadAt p y rest → HeadAt p y (restarted s rest)
+heads_restarted p y s [] all = tt
+heads_restarted p y s (c ∷ rest) all = all
