@@ -1,5 +1,5 @@
 -- Where records lie: the slots of a record are side by side, and no two records from the head on share one.
-use Rattle.std.proofs.Common.{◌≡◌, ◌≢◌, ℕ, zero, suc, ◌+◌, ◌-◌, ◌*◌, ◌/◌, ◌%◌, ◌≤◌, ◌<◌, ◌⊎◌, List, [], ◌∷◌, ◌++◌, true, length, sym, refl, ap, ◌∙◌, subst, inl, inr, ⊎_elim, arith}
+use Rattle.std.proofs.Common.{◌≡◌, ℕ, zero, suc, ◌+◌, ◌-◌, ◌*◌, ◌/◌, ◌%◌, ◌≤◌, ◌<◌, ◌⊎◌, List, [], ◌∷◌, length, sym, refl, ap, ◌∙◌, subst, inl, inr, ⊎_elim, arith}
 use mathlib.Core.Option.{Option, some, some-injective, some-ne-none}
 use lib.ListN.{get_elem?}
 use Rattle.std.proofs.lemmas.Bool.{cases_lt}
@@ -14,7 +14,7 @@ use Rattle.ring_table.specs.Views.{View}
 use Rattle.ring_table.specs.Rule.{Kept}
 use Rattle.ring_table.specs.SlotSteps.{words_of}
 use Rattle.ring_table.proofs.RangeLemmas.{Outside, AreHome}
-use Rattle.ring_table.proofs.StagedPlaces.{capacity_aligned, start_aligned, lies_in, places_aligned, one_at_position, one_at_place}
+use Rattle.ring_table.proofs.StagedPlaces.{capacity_aligned, start_aligned, lies_in, places_aligned, one_at_position}
 use Rattle.ring_table.proofs.ReachLemmas.{none_of, shown_cases}
 
 -- a record of n bytes is in the lap from the head on

@@ -9,16 +9,14 @@ use Rattle.ring_layout.specs.declared.message.ClaimState.{ClaimState}
 use Rattle.ring_layout.specs.declared.message.ClaimState.TheVariants.{Open}
 use Rattle.ring_layout.specs.Headers.{header_of}
 use Rattle.ring_layout.specs.Places.{index}
-use Rattle.ring_layout.specs.Layout.{ring_words}
 use Rattle.ring_table.specs.Staged.{PlacedMessage, Bodies, in_words, elsewhere, StagedClaim, Stage, Stored, IsStored, AreRising}
 use Rattle.ring_table.specs.Changes.{changed, staged, moved_claim}
-use Rattle.ring_table.specs.Views.{Key, View, ProducerView, ConsumerView, with_claims, with_claim, with_consumer, stands_at}
+use Rattle.ring_table.specs.Views.{Key, View, ConsumerView, with_claims, with_claim, with_consumer, stands_at}
 use Rattle.ring_table.specs.ConsumerSteps.{StaysAt}
 use Rattle.ring_layout.specs.Places.{next_place}
 use Rattle.ring_layout.specs.History.{span}
 use Rattle.ring_table.specs.ProducerSteps.{Mine, HasClaimAt, Changes, IsStagedOpen, StoresSettled, with_changed}
 use Rattle.ring_table.specs.Seats.{IsSeatOf, IsSameSeat}
-use Rattle.ring_table.proofs.StagedPlaces.{capacity_aligned}
 use Rattle.ring_table.proofs.LoadLemmas.{Ok}
 use Rattle.ring_table.proofs.StoreLemmas.{settles}
 use Rattle.ring_table.proofs.ShelfLemmas.{CarriesOn, CarriesIn}
@@ -135,7 +133,6 @@ module _ (B : Bodies) {id : TableId} {key : Key} {capacity : ℕ} {seat : Seat �
       → Ok B key.capacity key.start s → get_elem? s.views seat.id ≡ some seat.me.0
       → (me'.1 ≡ seat.me.1) × Leaves B seat.me.0 me'.0
 
-
   -- at a word of the trailer
   pub trailer_step : (i word : ℕ) → word < 96 → i ≡ capacity / 8 + word
       → (f : ℕ → ℕ) (told : ℕ → Mine → ℕ → Mine → Type 0) → Spares i told
@@ -152,7 +149,6 @@ module _ (B : Bodies) {id : TableId} {key : Key} {capacity : ℕ} {seat : Seat �
 
 module _ {id : TableId} {key : Key} {capacity : ℕ} {seat : Seat ℕ View}
     (s : IsSeatOf id key capacity seat) where
-
   -- at a record's word, whose position is p in the code and q in the lemma
   pub record_step : (i p q : ℕ) → i ≡ index capacity p → q ≡ p
       → (f : ℕ → ℕ) (told : ℕ → Mine → ℕ → Mine → Type 0) → Spares in_words s i told

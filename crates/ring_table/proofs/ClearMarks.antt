@@ -1,20 +1,20 @@
 -- The consumer clears what it has passed in one step, which changes no word: the headers go away.
-use Rattle.std.proofs.Common.{◌≡◌, ◌≢◌, ℕ, zero, suc, ◌+◌, ◌-◌, ◌*◌, ◌/◌, ◌%◌, ◌≤◌, ◌<◌, List, [], true, set, get_or, slice_index, sym, refl, ap, ◌∙◌, subst, length, length-set, get_or-set_other, arith}
-use mathlib.Core.Option.{Option, some}
+use Rattle.std.proofs.Common.{◌≡◌, ℕ, zero, suc, ◌+◌, ◌-◌, ◌*◌, ◌/◌, ◌%◌, ◌≤◌, ◌<◌, List, [], true, set, slice_index, sym, refl, ap, ◌∙◌, subst, length, length-set, get_or-set_other, arith}
+use mathlib.Core.Option.{some}
 use lib.ListN.{get_elem?}
 use Rattle.std.proofs.lemmas.List.{set-get_or}
 use Rattle.atomic_table.specs.Table.{State, keeps, Allows}
 use Rattle.atomic_table.proofs.Lists.{set_here, set_again}
 use Rattle.ring_layout.specs.Places.{index}
 use Rattle.ring_layout.proofs.ListLemmas.{at_below}
-use Rattle.ring_table.specs.Staged.{elsewhere, staged_end}
+use Rattle.ring_table.specs.Staged.{elsewhere}
 use Rattle.ring_table.specs.Owners.{all_of}
 use Rattle.ring_table.specs.Views.{ConsumerView, View, cleared_to, with_consumer}
 use Rattle.ring_table.specs.Rule.{Kept}
 use Rattle.ring_table.specs.ProducerSteps.{Mine}
-use Rattle.ring_table.specs.Marks.{mark_of, ClearsUp, Encodes, KeepsMarks}
+use Rattle.ring_table.specs.Marks.{ClearsUp, Encodes, KeepsMarks}
 use Rattle.ring_table.proofs.ReachLemmas.{reach_bounds}
-use Rattle.ring_table.proofs.MemoryLemmas.{index_inside, not_inside, one_position}
+use Rattle.ring_table.proofs.MemoryLemmas.{not_inside, one_position}
 use Rattle.ring_table.proofs.ClearLemmas.{clears_at}
 use Rattle.ring_table.proofs.ShelfLemmas.{stepped_shelf}
 use Rattle.ring_table.proofs.CarryLemmas.{carries_same}

@@ -17,7 +17,7 @@ use Rattle.ring_table.specs.Staged.{PlacedMessage, staged_end, staged_word_at}
 use Rattle.ring_table.specs.Owners.{OwnedHistory, all_of}
 use Rattle.ring_table.specs.Passing.{Reaches}
 use Rattle.ring_table.specs.Services.{AreServed}
-use Rattle.ring_table.specs.Views.{Logs, ConsumerView, View, Wanted, logged, with_consumer, scanned}
+use Rattle.ring_table.specs.Views.{Logs, ConsumerView, View, logged, with_consumer, scanned}
 use Rattle.ring_table.specs.Rule.{IsMemory, Knows, Kept}
 use Rattle.ring_table.specs.ProducerSteps.{Mine}
 use Rattle.ring_table.specs.ConsumerSteps.{with_scan, rounded, IsInside, LoadsHeader, LoadsBody}

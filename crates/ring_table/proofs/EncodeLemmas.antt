@@ -1,5 +1,5 @@
 -- The words encode headers as both change.
-use Rattle.std.proofs.Common.{◌≡◌, ◌≢◌, ℕ, ◌+◌, ◌-◌, ◌/◌, ◌%◌, ◌≤◌, ◌<◌, List, set, get_or, slice_index, sym, refl, ap, ◌∙◌, subst, ⊎_elim, length, length-set, get_or-set_other, get_or-set_same, arith}
+use Rattle.std.proofs.Common.{◌≡◌, ◌≢◌, ℕ, ◌+◌, ◌-◌, ◌/◌, ◌%◌, ◌≤◌, ◌<◌, List, set, get_or, slice_index, sym, ap, ◌∙◌, subst, ⊎_elim, length, length-set, get_or-set_other, get_or-set_same, arith}
 use mathlib.Core.Logic.{dite}
 use native.Mathlib.Decide.{ℕ_discrete}
 use native.Mathlib.Nat.{add-mod_right}
@@ -8,7 +8,7 @@ use Rattle.ring_layout.specs.Places.{index}
 use Rattle.ring_table.specs.Staged.{elsewhere}
 use Rattle.ring_table.specs.Rule.{IsLawful}
 use Rattle.ring_table.specs.Marks.{mark_of, Encodes}
-use Rattle.ring_table.proofs.MemoryLemmas.{index_inside, not_inside, one_position}
+use Rattle.ring_table.proofs.MemoryLemmas.{not_inside, one_position}
 
 module _ (C start : ℕ) (law : IsLawful C start) (head cleared : ℕ) (headers words : List ℕ)
     (e : Encodes C head cleared headers words) where

@@ -1,5 +1,5 @@
 -- The steps that give a body's slots back keep the rule.
-use Rattle.std.proofs.Common.{◌≡◌, ◌≢◌, ℕ, ℤ, FitsSigned, ◌+◌, ◌*◌, ◌/◌, ◌^◌, ◌≤◌, ◌<◌, List, [], ◌∷◌, ◌++◌, true, set, map, slice_index, sym, refl, ap, ◌∙◌, subst, ⊎_elim, length, append-nil, arith}
+use Rattle.std.proofs.Common.{◌≡◌, ◌≢◌, ℕ, ℤ, FitsSigned, ◌+◌, ◌/◌, ◌^◌, ◌≤◌, ◌<◌, List, [], ◌∷◌, ◌++◌, true, set, map, slice_index, sym, refl, ap, ◌∙◌, subst, ⊎_elim, length, append-nil, arith}
 use Rattle.std.specs.Prelude.{All}
 use mathlib.Core.Option.{some}
 use mathlib.Core.Logic.{dite}

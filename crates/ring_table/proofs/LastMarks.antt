@@ -1,9 +1,6 @@
 -- The marks that a table left.
-use Rattle.std.proofs.Common.{◌≡◌, ◌≢◌, ℕ, zero, suc, ◌+◌, ◌-◌, ◌/◌, ◌%◌, ◌≤◌, ◌<◌, List, [], ◌∷◌, ◌++◌, cond, true, length, slice_index, get_or, sym, refl, ap, ◌∙◌, subst, ⊎_elim, le-ltb, arith}
-use Rattle.std.specs.Prelude.{⊤}
-use mathlib.Core.Option.{Option, some, some-injective, some-ne-none}
-use mathlib.Core.Logic.{dite}
-use native.Mathlib.Decide.{ℕ_discrete}
+use Rattle.std.proofs.Common.{◌≡◌, ◌≢◌, ℕ, suc, ◌+◌, ◌/◌, ◌%◌, ◌≤◌, ◌<◌, List, [], ◌∷◌, ◌++◌, cond, length, slice_index, sym, refl, ap, ◌∙◌, subst, ⊎_elim, le-ltb, arith}
+use mathlib.Core.Option.{Option, some}
 use lib.ListN.{get_elem?}
 use Rattle.std.proofs.lemmas.Bool.{cases_lt}
 use Rattle.std.proofs.lemmas.List.{ext_get_or}
@@ -15,13 +12,12 @@ use Rattle.ring_table.specs.Rescued.{ShowsClaims}
 use Rattle.ring_table.specs.Staged.{elsewhere, StagedClaim, ArePlaced, staged_end, staged_word_at}
 use Rattle.ring_table.specs.Owners.{OwnedHistory, all_of}
 use Rattle.ring_table.specs.Passing.{AreSettled, IsSettled}
-use Rattle.ring_table.specs.Views.{ConsumerView, View}
-use Rattle.ring_table.specs.Rule.{Kept}
-use Rattle.ring_table.specs.Marks.{Encodes, IsDecoded, KeepsMarks, MayDecode, bytes_of, decoded, kind_of, mark_of}
-use Rattle.ring_table.proofs.StagedPlaces.{capacity_aligned, start_aligned, lies_in}
+use Rattle.ring_table.specs.Views.{View}
+use Rattle.ring_table.specs.Marks.{IsDecoded, KeepsMarks, MayDecode, bytes_of, mark_of}
+use Rattle.ring_table.proofs.StagedPlaces.{capacity_aligned, start_aligned}
 use Rattle.ring_table.proofs.MemoryLemmas.{head_bounds}
 use Rattle.ring_table.proofs.MarkWords.{whole_bytes, few_of, long_bytes}
-use Rattle.ring_table.proofs.MarkSteps.{HasIndex, header_near, position_of}
+use Rattle.ring_table.proofs.MarkSteps.{header_near, position_of}
 use Rattle.ring_table.proofs.DecodeLemmas.{HeadAt, Marks, all_filled_out, decode_all, filled_ends, filled_none, filled_placed}
 
 -- each settled claim of a history has its header there

@@ -1,5 +1,5 @@
 -- A step of the rule with headers is one of the rule with marks.
-use Rattle.std.proofs.Common.{◌≡◌, ◌≢◌, ℕ, ◌+◌, ◌-◌, ◌*◌, ◌/◌, ◌%◌, ◌≤◌, ◌<◌, ◌⊎◌, List, [], cond, true, set, get_or, slice_index, sym, refl, ap, ◌∙◌, subst, inl, inr, ⊎_elim, length, lt-ltb, le-ltb, arith}
+use Rattle.std.proofs.Common.{◌≡◌, ◌≢◌, ℕ, ◌+◌, ◌-◌, ◌*◌, ◌/◌, ◌%◌, ◌≤◌, ◌<◌, ◌⊎◌, List, [], cond, true, set, slice_index, sym, ap, ◌∙◌, subst, inl, inr, ⊎_elim, lt-ltb, le-ltb, arith}
 use mathlib.Core.Option.{Option, some}
 use mathlib.Core.Logic.{dite}
 use native.Mathlib.Decide.{ℕ_discrete}
@@ -16,7 +16,7 @@ use Rattle.ring_layout.proofs.ListLemmas.{at_below}
 use Rattle.ring_table.specs.Staged.{Bodies, in_words, elsewhere, staged_word_at}
 use Rattle.ring_table.specs.Owners.{all_of}
 use Rattle.ring_table.specs.Views.{ConsumerView, View}
-use Rattle.ring_table.specs.Rule.{IsLawful, Kept}
+use Rattle.ring_table.specs.Rule.{Kept}
 use Rattle.ring_table.specs.Shelf.{IsShelf}
 use Rattle.ring_table.specs.ProducerSteps.{Mine}
 use Rattle.std.specs.Prelude.{⊤}
@@ -270,8 +270,7 @@ module _ (C start : ℕ) where
       let cleared_is = after.0 in
       let head' : (r'.consumer.head ≤ r'.consumer.cleared) × (q < r'.consumer.head + C) = ⊎_elim
       (λ (z : r'.consumer.head ≡ r.consumer.head). (omega arith, omega arith))
-      (λ (z : r'.consumer.head ≡ r.consumer.cleared). (omega arith, omega arith)) after.1 in
-      (
+      (λ (z : r'.consumer.head ≡ r.consumer.cleared). (omega arith, omega arith)) after.1 in (
         t.0,
         t.1,
         t.2,

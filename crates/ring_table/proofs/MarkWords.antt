@@ -1,5 +1,5 @@
 -- Marks beside the headers that they stand for.
-use Rattle.std.proofs.Common.{◌≡◌, ◌≢◌, ℕ, zero, suc, ◌+◌, ◌-◌, ◌*◌, ◌/◌, ◌%◌, ◌^◌, ◌≤◌, ◌<◌, ℤ, pos, neg_ℤ, FitsSigned, List, [], ◌∷◌, cond, sym, refl, ap, ◌∙◌, subst, ◌⊎◌, inl, inr, ⊎_elim, length, lt-ltb, le-ltb, eq-eqb, ne_eqb, arith}
+use Rattle.std.proofs.Common.{◌≡◌, ◌≢◌, ℕ, zero, suc, ◌+◌, ◌-◌, ◌/◌, ◌%◌, ◌^◌, ◌≤◌, ◌<◌, pos, neg_ℤ, List, [], ◌∷◌, cond, sym, refl, ap, ◌∙◌, subst, ◌⊎◌, inl, inr, ⊎_elim, length, lt-ltb, le-ltb, eq-eqb, ne_eqb, arith}
 use Rattle.std.specs.Int.{cast_unsigned, w32}
 use mathlib.Core.Logic.{dite}
 use native.Mathlib.Decide.{ℕ_discrete}
@@ -9,9 +9,9 @@ use Rattle.ring_layout.specs.declared.message.Message.{Message}
 use Rattle.ring_layout.specs.declared.message.ClaimState.{ClaimState}
 use Rattle.ring_layout.specs.declared.message.ClaimState.TheVariants.{Open, Committed, Aborted}
 use Rattle.ring_layout.specs.History.{IsMessage, span}
-use Rattle.ring_layout.specs.Headers.{header, header_of, open_header, committed_header, aborted_header, padding_type}
+use Rattle.ring_layout.specs.Headers.{header_of, open_header, committed_header, aborted_header, padding_type}
 use Rattle.ring_layout.specs.Places.{next_place}
-use Rattle.ring_layout.proofs.HeaderLemmas.{fits_pos, fits_neg}
+use Rattle.ring_layout.proofs.HeaderLemmas.{fits_neg}
 use Rattle.ring_layout.proofs.PlaceLemmas.{next_cases}
 use Rattle.ring_table.specs.Staged.{elsewhere, padding_mark, padding_word, StagedClaim, Stage, Moved, Padded, Stored, ArePlaced, claim_of, claim_end, staged_span, masked_padding, masked_record, staged_word, staged_word_at}
 use Rattle.ring_table.specs.ConsumerSteps.{rounded}

@@ -1,23 +1,22 @@
 -- The consumer's loads of marks keep the rule.
-use Rattle.std.proofs.Common.{◌≡◌, ◌≢◌, ◌⊎◌, ℕ, suc, ◌+◌, ◌-◌, ◌*◌, ◌/◌, ◌%◌, ◌^◌, ◌≤◌, ◌<◌, ℤ, pos, ◌≤ℤ◌, FitsSigned, List, [], ◌∷◌, ◌++◌, cond, true, set, slice_index, sym, refl, ap, ◌∙◌, subst, inl, inr, ⊎_elim, length, le-ltb, eq-eqb, arith}
+use Rattle.std.proofs.Common.{◌≡◌, ◌≢◌, ◌⊎◌, ℕ, suc, ◌+◌, ◌-◌, ◌/◌, ◌%◌, ◌^◌, ◌≤◌, ◌<◌, ℤ, pos, ◌≤ℤ◌, FitsSigned, List, [], ◌∷◌, ◌++◌, cond, true, set, slice_index, sym, refl, ap, ◌∙◌, subst, inl, inr, ⊎_elim, length, le-ltb, eq-eqb, arith}
 use Rattle.std.specs.Int.{cast_unsigned, w32}
 use mathlib.Core.Option.{Option, some}
 use mathlib.Core.Logic.{dite}
 use native.Mathlib.Decide.{ℕ_discrete}
 use lib.ListN.{get_elem?}
-use Rattle.std.proofs.lemmas.Bool.{cases_lt, cond-true}
+use Rattle.std.proofs.lemmas.Bool.{cond-true}
 use Rattle.std.proofs.lemmas.List.{set-get_or}
-use Rattle.std.proofs.lemmas.Nat.{div-add-mod'}
-use Rattle.atomic_table.specs.Table.{State, Act, Allows, Valid, keeps, stepped, carried_after, homes_after}
+use Rattle.atomic_table.specs.Table.{State, Act, Allows, Valid, keeps, carried_after, homes_after}
 use Rattle.atomic_table.proofs.Lists.{set_here}
 use Rattle.ring_layout.specs.History.{IsMessage}
 use Rattle.ring_layout.specs.Places.{index}
 use Rattle.ring_layout.specs.Headers.{header, padding_header, padding_type, committed_header}
 use Rattle.ring_layout.proofs.ListLemmas.{at_below}
-use Rattle.ring_table.specs.Staged.{elsewhere, slot_bytes, PlacedMessage, shown_header, staged_end, staged_word_at}
-use Rattle.ring_table.specs.Owners.{OwnedHistory, all_of}
+use Rattle.ring_table.specs.Staged.{elsewhere, slot_bytes, PlacedMessage, shown_header, staged_word_at}
+use Rattle.ring_table.specs.Owners.{all_of}
 use Rattle.ring_table.specs.Passing.{Reaches}
-use Rattle.ring_table.specs.Views.{Logs, ConsumerView, View}
+use Rattle.ring_table.specs.Views.{ConsumerView, View}
 use Rattle.ring_table.specs.Rule.{Kept}
 use Rattle.ring_table.specs.Shelf.{IsShelf}
 use Rattle.ring_table.specs.ProducerSteps.{Mine}
@@ -25,13 +24,13 @@ use Rattle.ring_table.specs.ConsumerSteps.{with_scan, rounded, IsInside, LoadsHe
 use Rattle.ring_table.specs.Ranges.{numbered}
 use Rattle.ring_table.proofs.RangeLemmas.{first_of_some}
 use Rattle.ring_table.proofs.SlotBytes.{first_word_of, length_slot}
-use Rattle.ring_table.specs.SlotSteps.{with_out, HasBody, IsLent, LendsBody}
+use Rattle.ring_table.specs.SlotSteps.{with_out, HasBody, IsLent}
 use Rattle.ring_table.specs.Marks.{committed_kind, open_kind, padding_kind, aborted_kind, bytes_of, kind_of, mark_of, Encodes, KeepsMarks, LoadsMark}
 use Rattle.ring_table.proofs.StagedPlaces.{capacity_aligned, start_aligned}
 use Rattle.ring_table.proofs.ReachLemmas.{reach_bounds, reach_aligned}
-use Rattle.ring_table.proofs.HeaderReads.{FindsAt, halves, low_half, shown_low, shown_other, Leads, leads}
+use Rattle.ring_table.proofs.HeaderReads.{halves, low_half, shown_low, shown_other, Leads, leads}
 use Rattle.ring_table.proofs.ConsumeLemmas.{not_positive, one_type_id, padding_bits, scans}
-use Rattle.ring_table.proofs.ShelfLemmas.{CarriesOn, stepped_shelf}
+use Rattle.ring_table.proofs.ShelfLemmas.{stepped_shelf}
 use Rattle.ring_table.proofs.CarryLemmas.{carries_same}
 use Rattle.ring_table.proofs.OutLemmas.{lends_body, set_twice}
 use Rattle.ring_table.proofs.MarkWords.{bytes_plain, whole_bytes, kind_aborted, kind_committed, kind_open, kind_padding}
@@ -398,8 +397,10 @@ module _ (C start : ℕ) where
 -- the slot in front has the header
 pub lent_front : (C place : ℕ) (me : Mine) (l : IsLent C place me)
     → committed_header l.last.message.message.type_id (length l.last.message.message.body) < 2 ^ 64
-    → (rest : List (ℕ × ℕ)) × (me.1 ≡ (index C place,
-    committed_header l.last.message.message.type_id (length l.last.message.message.body)) ∷ rest)
+    → (rest : List (ℕ × ℕ)) × (me.1 ≡ (
+      index C place,
+      committed_header l.last.message.message.type_id (length l.last.message.message.body),
+    ) ∷ rest)
 lent_front C place me l small =
     let m = l.last.message.message in
     let long = length_slot m in

@@ -1,5 +1,5 @@
 -- Seats that are cut in two or put together leave the marks, and a fresh ring has none.
-use Rattle.std.proofs.Common.{◌≡◌, ◌≢◌, ℕ, ◌+◌, ◌/◌, ◌≤◌, ◌<◌, List, [], ◌∷◌, ◌++◌, true, false, ◌⊎◌, set, slice_index, sym, refl, ap, ◌∙◌, subst, inl, inr, ⊎_elim, length, arith}
+use Rattle.std.proofs.Common.{◌≡◌, ◌≢◌, ℕ, ◌≤◌, List, [], ◌∷◌, ◌++◌, true, false, ◌⊎◌, set, sym, refl, ap, ◌∙◌, subst, inl, inr, ⊎_elim, length, arith}
 use mathlib.Core.Option.{Option, some}
 use lib.ListN.{get_elem?}
 use Rattle.std.proofs.lemmas.Bool.{false≢true}
@@ -9,7 +9,7 @@ use Rattle.ring_layout.specs.Places.{index, max_position}
 use Rattle.ring_table.specs.Staged.{Bodies, in_words, elsewhere}
 use Rattle.ring_table.specs.Views.{ConsumerView, View, first_view, spent, without_consumer, consumer_alone, with_consumer_of, without_share, producer_alone, with_producer_of}
 use Rattle.ring_table.specs.Rule.{IsLawful, Kept}
-use Rattle.ring_table.specs.Shelf.{HasReader, IsShelf}
+use Rattle.ring_table.specs.Shelf.{IsShelf}
 use Rattle.ring_table.specs.Closed.{IsFresh}
 use Rattle.ring_table.specs.Marks.{Encodes, KeepsMarks}
 use Rattle.ring_table.proofs.ListLemmas.{at_more}

@@ -1,24 +1,21 @@
 -- The marks of claims are stored that have no slots out.
-use Rattle.std.proofs.Common.{◌≡◌, ℕ, ◌+◌, ◌-◌, ◌%◌, ◌^◌, ◌≤◌, ◌<◌, [], sym, refl, ap, ◌∙◌, subst, length, arith}
-use Rattle.std.proofs.lemmas.Nat.{mod_below}
+use Rattle.std.proofs.Common.{◌≡◌, ℕ, ◌+◌, ◌-◌, ◌%◌, ◌^◌, ◌≤◌, ◌<◌, [], sym, refl, ap, subst, length, arith}
 use Rattle.atomic_table.specs.Table.{Allows}
 use Rattle.ring_layout.specs.declared.message.ClaimState.{ClaimState}
-use Rattle.ring_layout.specs.declared.message.ClaimState.TheVariants.{Open, Committed, Aborted}
+use Rattle.ring_layout.specs.declared.message.ClaimState.TheVariants.{Open}
 use Rattle.ring_layout.specs.Headers.{header_of}
 use Rattle.ring_layout.specs.History.{span}
 use Rattle.ring_layout.specs.Places.{index}
 use Rattle.ring_table.specs.Staged.{elsewhere, StagedClaim, Moved, Padded, Stored, IsStored, AreRising, padding_word}
-use Rattle.ring_table.specs.Changes.{changed, staged}
+use Rattle.ring_table.specs.Changes.{staged}
 use Rattle.ring_table.specs.Passing.{IsSettled}
-use Rattle.ring_table.specs.Views.{View, with_claims}
-use Rattle.ring_table.specs.Marks.{padding_kind}
+use Rattle.ring_table.specs.Views.{View}
 use Rattle.ring_table.specs.ProducerSteps.{Mine, HasClaim, StoresPadding, StoresSettled}
-use Rattle.ring_table.proofs.StagedWords.{staged_word-header}
-use Rattle.ring_table.proofs.LoadLemmas.{HasUnsettled, stands}
+use Rattle.ring_table.proofs.LoadLemmas.{stands}
 use Rattle.ring_table.proofs.StoreLemmas.{pads, settles}
 use Rattle.ring_table.proofs.ShelfLemmas.{CarriesOn}
 use Rattle.ring_table.proofs.CarryLemmas.{lift, carries_changed, one_claim}
-use Rattle.ring_table.proofs.MarkWords.{Shows, shows_claim, shows_padding, state_kind, few_kinds}
+use Rattle.ring_table.proofs.MarkWords.{Shows, shows_claim, state_kind, few_kinds}
 use Rattle.ring_table.proofs.MarkSteps.{Marked, lift_mark, rests_as}
 use Rattle.ring_table.proofs.SlotCalls.{lies_ahead, padding_ahead}
 

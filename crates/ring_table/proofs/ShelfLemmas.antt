@@ -1,6 +1,6 @@
 -- The slots as views change and homes stay.
 use Rattle.std.specs.Prelude.{⊤}
-use Rattle.std.proofs.Common.{◌≡◌, ◌≢◌, ℕ, zero, suc, ◌+◌, ◌≤◌, ◌<◌, ◌⊎◌, List, [], ◌∷◌, ◌++◌, Bool, true, false, cond, ltb, set, sym, refl, ap, ◌∙◌, subst, inl, inr, ⊎_elim, length, arith}
+use Rattle.std.proofs.Common.{◌≡◌, ◌≢◌, ℕ, ◌≤◌, ◌⊎◌, List, [], ◌∷◌, ◌++◌, true, set, sym, refl, ap, ◌∙◌, subst, inl, ⊎_elim, length, arith}
 use mathlib.Core.Option.{Option, some, some-injective, some-ne-none}
 use mathlib.Core.Logic.{dite}
 use native.Mathlib.Decide.{ℕ_discrete}
@@ -10,7 +10,7 @@ use Rattle.ring_table.specs.Staged.{Bodies, in_words, elsewhere, StagedClaim, Pl
 use Rattle.ring_layout.specs.declared.message.Message.{Message}
 use Rattle.ring_table.specs.Views.{View}
 use Rattle.ring_table.specs.ProducerSteps.{HasClaim}
-use Rattle.ring_table.specs.Shelf.{IsOut, IsOneOut, IsClaimOf, ReadsFrom, HasReader, HasRight, IsShelf, HasShelf}
+use Rattle.ring_table.specs.Shelf.{IsOut, IsOneOut, IsClaimOf, ReadsFrom, HasReader, HasRight, IsShelf}
 use Rattle.ring_layout.proofs.ListLemmas.{at_below}
 use Rattle.ring_table.proofs.ListLemmas.{at_more}
 

@@ -1,5 +1,5 @@
 -- What the consumer's seat alone knows of a table with slots: which bodies are at home, and what the words become.
-use Rattle.std.proofs.Common.{◌≡◌, ◌≢◌, ℕ, zero, suc, ◌+◌, ◌*◌, ◌/◌, ◌%◌, ◌≤◌, ◌<◌, List, [], ◌∷◌, ◌++◌, cond, true, length, slice_index, sym, refl, ap, ◌∙◌, subst, ⊎_elim, eq-eqb, ne_eqb, eqb, arith, All}
+use Rattle.std.proofs.Common.{◌≡◌, ℕ, zero, suc, ◌+◌, ◌*◌, ◌/◌, ◌%◌, ◌≤◌, ◌<◌, List, [], ◌∷◌, ◌++◌, cond, true, length, slice_index, sym, refl, ap, ◌∙◌, subst, ⊎_elim, eq-eqb, ne_eqb, eqb, arith, All}
 use Rattle.std.specs.Prelude.{⊤}
 use Rattle.std.proofs.lemmas.Bool.{cond-true, cond-false}
 use mathlib.Core.Option.{Option, some, some-injective, some-ne-none}
@@ -9,18 +9,17 @@ use lib.ListN.{get_elem?}
 use Rattle.ring_layout.specs.declared.message.Message.{Message}
 use Rattle.ring_layout.specs.declared.message.ClaimState.TheVariants.{Open, Committed, Aborted}
 use Rattle.ring_layout.specs.Layout.{head_index, tail_index}
-use Rattle.ring_layout.specs.Places.{index, max_position, next_place}
+use Rattle.ring_layout.specs.Places.{index, max_position}
 use Rattle.ring_layout.proofs.PlaceLemmas.{next_le}
 use Rattle.ring_table.specs.Closed.{restarted}
 use Rattle.ring_table.specs.Owners.{OwnedHistory, all_of, owned_by}
 use Rattle.ring_table.specs.Passing.{IsSettled, AreSettled, placed_message, shown_at, placed_committed_of}
-use Rattle.ring_table.specs.ProducerSteps.{HasClaim}
-use Rattle.ring_table.specs.Refilling.{FillsTo, Filled, FitAll, FitsBody, MayFill, all_filled, filled, filled_message}
-use Rattle.ring_table.specs.Rescued.{AreTight, Settles, ShowsClaims}
+use Rattle.ring_table.specs.Refilling.{FillsTo, Filled, FitAll, FitsBody, MayFill, all_filled, filled_message}
+use Rattle.ring_table.specs.Rescued.{AreTight, Settles}
 use Rattle.ring_table.specs.Rule.{Kept}
 use Rattle.ring_table.specs.Shelf.{IsClaimOf, IsShelf}
 use Rattle.ring_table.specs.SlotSteps.{words_of}
-use Rattle.ring_table.specs.Staged.{in_words, elsewhere, StagedClaim, PlacedMessage, Stage, Moved, Padded, Stored, ArePlaced, body_word, claim_end, staged_end, staged_span, unplaced}
+use Rattle.ring_table.specs.Staged.{elsewhere, StagedClaim, PlacedMessage, Stage, Moved, Padded, Stored, ArePlaced, body_word, claim_end, staged_end, staged_span}
 use Rattle.ring_table.specs.Views.{View}
 use Rattle.ring_table.proofs.BlankLemmas.{all_blanked, as_long, blank_count, blank_end, blank_silent, blanked}
 use Rattle.ring_table.proofs.BodyPlaces.{body_index, claim_lies}

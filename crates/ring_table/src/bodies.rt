@@ -181,7 +181,13 @@ pub fn store_claimed_slots(
 {
     reserve_at(ring, producer, capacity, place);
     let header = committed_header(wanted.type_id, wanted.len);
-    fill_zeros(ring, producer, word_index(capacity, place), header, wanted.len);
+    fill_zeros(
+        ring,
+        producer,
+        word_index(capacity, place),
+        header,
+        wanted.len,
+    );
     open_record(ring, producer, capacity, place, wanted);
 }
 

@@ -40,14 +40,16 @@ pub use steps::consumer::{
 };
 pub use steps::marks::clear_marks;
 pub use steps::producer::{
-    load_head, load_own_word, load_tail, move_tail, store_body_word, store_claimed_header, store_tail,
+    load_head, load_own_word, load_tail, move_tail, store_body_word, store_claimed_header,
+    store_tail,
 };
 pub use steps::seats::{join_consumer, join_producer, split_consumer, split_producer};
 pub use steps::service::{
     draw_correlation_id, load_cache, load_heartbeat, store_cache, store_heartbeat,
 };
 pub use steps::slots::{
-    commit_record, give_body, lend_body, open_record, reserve_at, reserve_body, return_body, take_body,
+    commit_record, give_body, lend_body, open_record, reserve_at, reserve_body, return_body,
+    take_body,
 };
 pub use steps::{RingSeat, SharedRing};
 pub use table::{RingTable, open, open_slots};

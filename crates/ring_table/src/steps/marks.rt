@@ -22,8 +22,11 @@ use ring_layout::{align8, padding_header, word_index};
 
 /// The kinds of marks, in their low three bits.
 pub(crate) const COMMITTED_KIND: u64 = 0;
+
 pub(crate) const PADDING_KIND: u64 = 1;
+
 pub(crate) const OPEN_KIND: u64 = 2;
+
 pub(crate) const ABORTED_KIND: u64 = 3;
 
 /// The mark of a record of `len` bytes of body at a place.

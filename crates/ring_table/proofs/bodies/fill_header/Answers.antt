@@ -1,4 +1,4 @@
-use Rattle.std.proofs.Common.{◌≡◌, ℕ, ◌+◌, List, [], sym, arith}
+use Rattle.std.proofs.Common.{[], sym, arith}
 use Rattle.ring_table.proofs.FillLemmas.{fill_start}
 use Rattle.ring_table.proofs.SlotBytes.{first_word_of}
 use Rattle.ring_table.specs.Staged.{headed}

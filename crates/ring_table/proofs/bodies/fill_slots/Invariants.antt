@@ -1,4 +1,4 @@
-use Rattle.std.proofs.Common.{◌≡◌, ◌+◌, length}
+use Rattle.std.proofs.Common.{◌+◌, length}
 use Rattle.ring_table.specs.SlotSteps.{words_of}
 use Rattle.ring_table.specs.Staged.{headed}
 use Rattle.ring_table.specs.Filling.{Filling, IsSameTable}

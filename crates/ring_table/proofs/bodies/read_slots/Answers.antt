@@ -1,4 +1,4 @@
-use Rattle.std.proofs.Common.{◌≡◌, ℕ, ◌+◌, ◌≤◌, List, length, sym, ap, ◌∙◌, subst, arith}
+use Rattle.std.proofs.Common.{◌≡◌, ◌≤◌, length, sym, ap, ◌∙◌, subst, arith}
 use Rattle.ring_table.specs.Ranges.{numbered}
 use Rattle.ring_table.proofs.SlotBytes.{length_slot}
 use Rattle.ring_layout.specs.Places.{index}

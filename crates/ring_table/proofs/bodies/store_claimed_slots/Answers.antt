@@ -1,4 +1,4 @@
-use Rattle.std.proofs.Common.{◌≡◌, ℕ, ℤ, FitsSigned, ◌+◌, ◌^◌, ◌<◌, List, [], length, replicate, sym, refl, ap, ◌∙◌, subst, arith}
+use Rattle.std.proofs.Common.{◌≡◌, ℕ, ℤ, FitsSigned, ◌+◌, ◌^◌, ◌<◌, [], length, replicate, sym, ap, ◌∙◌, subst, arith}
 use Rattle.std.specs.Int.{cast_signed, cast_unsigned, w32}
 use Rattle.std.proofs.lemmas.List.{length-replicate}
 use Rattle.ring_layout.specs.Headers.{committed_header}
@@ -8,7 +8,7 @@ use Rattle.ring_table.specs.Changes.{with_header}
 use Rattle.ring_table.specs.Passing.{placed_message}
 use Rattle.ring_table.specs.ProducerSteps.{HasClaim, with_changed}
 use Rattle.ring_table.specs.Ranges.{numbered}
-use Rattle.ring_table.specs.SlotSteps.{HasBody, HasSlots, with_out, words_of}
+use Rattle.ring_table.specs.SlotSteps.{HasBody, with_out, words_of}
 use Rattle.ring_table.specs.Views.{View}
 use Rattle.ring_table.proofs.HeaderCalls.{packs_recorded}
 use Rattle.ring_table.proofs.SlotBodies.{body_given}

@@ -1,5 +1,4 @@
-use Rattle.std.proofs.Common.{◌≡◌, ℕ, List, length, slice_index, sym, ap, ◌∙◌, subst, arith}
-use Rattle.std.specs.Slots.{slots_items}
+use Rattle.std.proofs.Common.{◌≡◌, ℕ, List, slice_index, sym, ◌∙◌, subst, arith}
 use Rattle.atomic_table.proofs.Lists.{at_index}
 use Rattle.ring_layout.specs.Layout.{tail_index, head_index}
 use Rattle.ring_table.specs.Owners.{all_of}

@@ -1,14 +1,11 @@
-use Rattle.std.proofs.Common.{◌≡◌, ℕ, ◌+◌, ◌-◌, ◌*◌, ◌/◌, ◌%◌, ◌≤◌, ◌<◌, List, length, slice_index, sym, ap, ◌∙◌, subst}
+use Rattle.std.proofs.Common.{◌≡◌, ℕ, ◌-◌, ◌*◌, ◌/◌, ◌≤◌, List, length, slice_index, sym, ap, ◌∙◌, subst}
 use Rattle.std.specs.Slots.{slots_items}
 use Rattle.std.specs.declared.alloc.Global.{Global}
 use Rattle.atomic_table.specs.declared.owned.Closed.{Closed}
-use Rattle.ring_layout.specs.Layout.{ring_words}
-use Rattle.ring_layout.specs.Places.{IsCapacity}
 use Rattle.ring_table.specs.declared.view.Key.{Key}
 use Rattle.ring_table.specs.Closed.{IsClosed, IsLeft}
 use Rattle.ring_table.specs.Marks.{IsDecoded, KeepsMarks}
 use Rattle.ring_table.specs.Rule.{Kept}
-use Rattle.ring_table.specs.Shelf.{IsShelf}
 use Rattle.ring_table.specs.Staged.{elsewhere}
 use Rattle.ring_table.specs.Views.{ConsumerView, View}
 use Rattle.ring_table.specs.Walk.{Parts}

@@ -1,9 +1,9 @@
-use Rattle.std.proofs.Common.{◌≡◌, ℕ, ◌+◌, ◌/◌, ◌%◌, ◌≤◌, ◌<◌, List, [], length, slice_index, true, sym, ap, ◌∙◌, subst, arith}
+use Rattle.std.proofs.Common.{◌≡◌, ℕ, ◌/◌, ◌≤◌, ◌<◌, List, [], length, slice_index, true, sym, ap, ◌∙◌, subst, arith}
 use mathlib.Core.Option.{Option, some}
 use lib.ListN.{get_elem?}
 use Rattle.std.specs.Slots.{slots_items}
 use Rattle.ring_layout.specs.Layout.{head_index, tail_index}
-use Rattle.ring_layout.specs.Places.{index, IsCapacity}
+use Rattle.ring_layout.specs.Places.{IsCapacity}
 use Rattle.ring_table.specs.Marks.{IsDecoded, KeepsMarks}
 use Rattle.ring_table.specs.Refilling.{MayFill, Filled}
 use Rattle.ring_table.specs.Owners.{OwnedHistory}
@@ -93,10 +93,12 @@ settle_words-unsettled-requires-clause-claims c =
     let saved = l.2 in
     let final = saved.final in
     let m = subst (λ (z : ℕ × List ℕ). KeepsMarks z.0 l.0.start z.1 final.0.homes final.0.views)
-    (λ i. (l.4 i, (final.2 ∙ sym c.copy_words.ensures) i)) final.1.0 in
-    (_, shows_one _ _ _ _ _ m saved.id l.1 final.1.1 saved.consumes saved.rests saved.home
-    (slots_items c.args.closed.slots) final.4 _ _ c.decode_marks.ensures.headers c.decode_marks.ensures.trailer
-    c.format_headers.ensures.headers c.format_headers.ensures.trailer)
+    (λ i. (l.4 i, (final.2 ∙ sym c.copy_words.ensures) i)) final.1.0 in (
+      _,
+      shows_one _ _ _ _ _ m saved.id l.1 final.1.1 saved.consumes saved.rests saved.home
+          (slots_items c.args.closed.slots) final.4 _ _ c.decode_marks.ensures.headers c.decode_marks.ensures.trailer
+          c.format_headers.ensures.headers c.format_headers.ensures.trailer,
+    )
 
 pub add_bodies-requires-clause-claims : goal.add_bodies-requires-clause-claims
 add_bodies-requires-clause-claims c =
@@ -108,10 +110,13 @@ add_bodies-requires-clause-claims c =
     let shows = shows_one _ _ _ _ _ m saved.id l.1 final.1.1 saved.consumes saved.rests saved.home
     (slots_items c.args.closed.slots) final.4 _ _ c.decode_marks.ensures.headers c.decode_marks.ensures.trailer
     c.format_headers.ensures.headers c.format_headers.ensures.trailer in
-    let k = c.settle_words-unsettled.ensures.settles _ shows in
-    (_, k.now, fills _ _ _ _ _ m saved.id l.1 final.1.1 saved.consumes saved.rests saved.home
-    (slots_items c.args.closed.slots) final.4 _ _ c.decode_marks.ensures.headers c.decode_marks.ensures.trailer
-    c.format_headers.ensures.headers c.format_headers.ensures.trailer _ _ _ c.settle_words-unsettled.ensures.trailer k)
+    let k = c.settle_words-unsettled.ensures.settles _ shows in (
+      _,
+      k.now,
+      fills _ _ _ _ _ m saved.id l.1 final.1.1 saved.consumes saved.rests saved.home
+          (slots_items c.args.closed.slots) final.4 _ _ c.decode_marks.ensures.headers c.decode_marks.ensures.trailer
+          c.format_headers.ensures.headers c.format_headers.ensures.trailer _ _ _ c.settle_words-unsettled.ensures.trailer k,
+    )
 
 pub returns : goal.returns
 returns c = λ key v hist drawn saved had same.

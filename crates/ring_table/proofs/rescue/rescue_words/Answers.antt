@@ -1,4 +1,4 @@
-use Rattle.std.proofs.Common.{◌≡◌, ℕ, ◌/◌, ◌≤◌, List, length, slice_index, sym, ◌∙◌, subst}
+use Rattle.std.proofs.Common.{◌≡◌, ℕ, List, sym, ◌∙◌, subst}
 use Rattle.ring_table.specs.Owners.{OwnedHistory}
 use Rattle.ring_table.specs.Rescued.{KeptWith, Rescues}
 use Rattle.ring_table.specs.Rule.{Kept}

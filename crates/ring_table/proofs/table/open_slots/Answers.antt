@@ -1,5 +1,4 @@
 use Rattle.std.proofs.Common.{refl, sym, subst}
-use Rattle.ring_table.specs.Staged.{elsewhere}
 use Rattle.ring_table.specs.Closed.{IsFresh}
 use Rattle.ring_table.proofs.OpenLemmas.{fresh_shelf}
 use Rattle.ring_table.proofs.SeatMarks.{fresh_marks}

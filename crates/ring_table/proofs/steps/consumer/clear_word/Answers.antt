@@ -1,6 +1,5 @@
 use Rattle.ring_table.specs.Staged.{in_words}
-use Rattle.std.proofs.Common.{◌≡◌, ap, arith, refl}
-use Rattle.ring_table.specs.Views.{View}
+use Rattle.std.proofs.Common.{◌≡◌, arith, refl}
 use Rattle.ring_table.specs.ConsumerSteps.{ClearsWord}
 use Rattle.ring_table.proofs.Calls.{same_seat, record_step, leaves_words, of_as}
 use Rattle.ring_table.proofs.ClearLemmas.{clears_word}

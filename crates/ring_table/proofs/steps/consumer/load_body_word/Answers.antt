@@ -1,6 +1,5 @@
-use Rattle.ring_table.specs.Staged.{in_words}
-use Rattle.std.proofs.Common.{◌≡◌, ap, refl, subst}
-use Rattle.ring_table.specs.Views.{View, logged}
+use Rattle.std.proofs.Common.{◌≡◌, refl, subst}
+use Rattle.ring_table.specs.Views.{logged}
 use Rattle.ring_table.specs.ConsumerSteps.{LoadsBody}
 use Rattle.ring_table.proofs.Calls.{same_seat, record_step, leaves_words, of_as}
 use Rattle.ring_table.proofs.ConsumeLemmas.{loads_body}

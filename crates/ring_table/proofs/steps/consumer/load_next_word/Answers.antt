@@ -1,6 +1,5 @@
 use Rattle.ring_table.specs.Staged.{in_words}
-use Rattle.std.proofs.Common.{◌≡◌, ℕ, sym, subst, arith}
-use Rattle.ring_table.specs.Staged.{shown_header}
+use Rattle.std.proofs.Common.{◌≡◌, ℕ, subst, arith}
 use Rattle.ring_table.specs.Views.{Logs}
 use Rattle.ring_table.specs.ProducerSteps.{Mine}
 use Rattle.ring_table.specs.ConsumerSteps.{LoadsHeader}

@@ -1,8 +1,7 @@
 use Rattle.ring_table.specs.Staged.{in_words}
-use Rattle.std.proofs.Common.{◌≡◌, ap, arith, refl}
+use Rattle.std.proofs.Common.{◌≡◌, arith, refl}
 use mathlib.Core.Logic.{dite}
 use native.Mathlib.Decide.{ℕ_discrete}
-use Rattle.ring_table.specs.Views.{View}
 use Rattle.ring_table.specs.ConsumerSteps.{LoadsPassed}
 use Rattle.ring_table.proofs.Calls.{same_seat, record_step, leaves_words, of_as}
 use Rattle.ring_table.proofs.ClearLemmas.{loads_passed}

@@ -1,5 +1,4 @@
-use Rattle.std.proofs.Common.{◌≡◌, ap, arith, refl}
-use Rattle.ring_table.specs.Views.{View}
+use Rattle.std.proofs.Common.{◌≡◌, arith, refl}
 use Rattle.ring_table.specs.ConsumerSteps.{StoresHead}
 use Rattle.ring_table.proofs.Calls.{same_seat, trailer_step, head_rests, head_rises, leaves_as, of_as}
 use Rattle.ring_table.proofs.ClearLemmas.{stores_head}

@@ -1,7 +1,6 @@
-use Rattle.std.proofs.Common.{◌≡◌, ℕ, ◌+◌, ◌%◌, ◌≤◌, ◌<◌, sym, ap, ◌∙◌, refl, subst, arith}
+use Rattle.std.proofs.Common.{◌≡◌, sym, ap, ◌∙◌, refl, arith}
 use Rattle.ring_layout.specs.Places.{index}
 use Rattle.ring_table.specs.Marks.{ClearsUp}
-use Rattle.ring_table.specs.Views.{View}
 use Rattle.ring_table.proofs.Calls.{same_seat, of_as}
 use Rattle.ring_table.proofs.ClearMarks.{clears_up}
 use Rattle.ring_table.proofs.SlotCalls.{mark_step}

@@ -1,9 +1,5 @@
-use Rattle.std.proofs.Common.{◌≡◌, ℕ, ◌+◌, ◌<◌, [], sym, ap, ◌∙◌, refl, subst, arith}
-use Rattle.ring_layout.specs.Places.{index}
-use Rattle.ring_table.specs.ConsumerSteps.{LoadsHeader}
+use Rattle.std.proofs.Common.{ℕ, sym, ◌∙◌, subst}
 use Rattle.ring_table.specs.Marks.{LoadsMark}
-use Rattle.ring_table.specs.ProducerSteps.{Mine}
-use Rattle.ring_table.specs.Views.{View}
 use Rattle.ring_table.proofs.ReadMarks.{reads_first}
 use Rattle.ring_table.proofs.SlotCalls.{mark_step}
 use Rattle.ring_table.proofs.steps.marks.load_first_mark.Goals.{After-load-mark}

@@ -1,11 +1,10 @@
-use Rattle.std.proofs.Common.{◌≡◌, ◌≢◌, ℕ, ◌+◌, ◌-◌, ◌%◌, ◌≤◌, ◌<◌, List, [], ◌∷◌, sym, refl, ap, ◌∙◌, subst, inl, inr, length, arith}
+use Rattle.std.proofs.Common.{◌≡◌, ℕ, ◌≤◌, ◌∷◌, sym, ap, ◌∙◌, subst, length, arith}
 use Rattle.ring_layout.specs.Headers.{committed_header}
 use Rattle.ring_layout.specs.Places.{index}
 use Rattle.ring_table.specs.ConsumerSteps.{LoadsHeader}
-use Rattle.ring_table.specs.Marks.{LoadsMark}
 use Rattle.ring_table.specs.ProducerSteps.{Mine}
 use Rattle.ring_table.specs.SlotSteps.{with_out, HasBody, IsLent}
-use Rattle.ring_table.specs.Staged.{PlacedMessage, slot_bytes}
+use Rattle.ring_table.specs.Staged.{slot_bytes}
 use Rattle.ring_table.specs.Views.{View}
 use Rattle.ring_table.proofs.ReadMarks.{lent_front}
 use Rattle.ring_table.proofs.steps.marks.read_mark.Goals as goal

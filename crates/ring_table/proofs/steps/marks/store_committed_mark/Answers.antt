@@ -1,13 +1,9 @@
-use Rattle.std.proofs.Common.{◌≡◌, ℕ, ◌+◌, ◌%◌, ◌^◌, ◌<◌, ◌≤◌, length, ap, ◌∙◌, sym, subst, refl, arith}
-use Rattle.ring_layout.specs.declared.message.ClaimState.TheVariants.{Committed, Open}
-use Rattle.ring_layout.specs.Headers.{header_of}
+use Rattle.std.proofs.Common.{◌≡◌, ◌+◌, ◌%◌, ◌^◌, ◌∙◌, sym, refl}
+use Rattle.ring_layout.specs.declared.message.ClaimState.TheVariants.{Committed}
 use Rattle.ring_layout.specs.History.{span}
-use Rattle.ring_layout.specs.Places.{index}
-use Rattle.ring_table.specs.Staged.{AreRising, Stored}
-use Rattle.ring_table.specs.Changes.{staged}
+use Rattle.ring_table.specs.Staged.{AreRising}
 use Rattle.ring_table.specs.Marks.{committed_kind}
-use Rattle.ring_table.specs.ProducerSteps.{IsStagedOpen, Mine, StoresSettled}
-use Rattle.ring_table.specs.Views.{View}
+use Rattle.ring_table.specs.ProducerSteps.{StoresSettled}
 use Rattle.ring_table.proofs.Calls.{same_seat, settled_view, of_as}
 use Rattle.ring_table.proofs.SettleMarks.{settled_mark}
 use Rattle.ring_table.proofs.SlotCalls.{mark_step}

@@ -1,8 +1,7 @@
-use Rattle.std.proofs.Common.{◌≡◌, ℕ, ◌+◌, ◌-◌, ◌%◌, ◌^◌, ◌<◌, sym, ap, ◌∙◌, subst, refl, arith}
+use Rattle.std.proofs.Common.{◌≡◌, ℕ, ◌+◌, ◌%◌, ◌^◌, ◌<◌, sym, ap, ◌∙◌, subst, refl}
 use Rattle.ring_layout.specs.Places.{index}
-use Rattle.ring_table.specs.Staged.{Moved, Padded, AreRising, padding_word}
+use Rattle.ring_table.specs.Staged.{Moved, Padded, AreRising}
 use Rattle.ring_table.specs.Changes.{staged}
-use Rattle.ring_table.specs.Views.{View}
 use Rattle.ring_table.specs.ProducerSteps.{StoresPadding}
 use Rattle.ring_table.proofs.Calls.{same_seat, after_change, of_as}
 use Rattle.ring_table.proofs.SettleMarks.{padding_stored}

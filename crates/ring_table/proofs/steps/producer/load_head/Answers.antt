@@ -1,5 +1,5 @@
-use Rattle.std.proofs.Common.{◌≡◌, ap, arith, refl}
-use Rattle.ring_table.specs.Views.{View, Logs}
+use Rattle.std.proofs.Common.{◌≡◌, arith, refl}
+use Rattle.ring_table.specs.Views.{Logs}
 use Rattle.ring_table.specs.ProducerSteps.{LoadsHead}
 use Rattle.ring_table.proofs.Calls.{same_seat, trailer_step, leaves_same, of_as}
 use Rattle.ring_table.proofs.LoadLemmas.{loads_head}

@@ -1,6 +1,5 @@
-use Rattle.std.proofs.Common.{ap, refl}
+use Rattle.std.proofs.Common.{refl}
 use Rattle.ring_layout.specs.declared.message.ClaimState.TheVariants.{Aborted}
-use Rattle.ring_table.specs.Views.{View}
 use Rattle.ring_table.proofs.Calls.{same_seat, settled_step, settled_view, of_as}
 use Rattle.ring_table.proofs.HeaderCalls.{packs_aborted}
 use Rattle.ring_table.proofs.steps.producer.store_aborted_word.Goals as goal

@@ -4,7 +4,6 @@ use Rattle.std.proofs.lemmas.List.{length-replicate}
 use Rattle.ring_layout.specs.Places.{index}
 use Rattle.ring_table.specs.Staged.{Padded, AreRising}
 use Rattle.ring_table.specs.Changes.{with_header}
-use Rattle.ring_table.specs.Views.{View}
 use Rattle.ring_table.specs.ProducerSteps.{StoresClaimed}
 use Rattle.ring_table.proofs.Calls.{same_seat, record_step, after_change, of_as, leaves_words}
 use Rattle.ring_table.proofs.HeaderCalls.{packs_open}

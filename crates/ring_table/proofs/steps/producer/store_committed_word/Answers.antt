@@ -1,6 +1,5 @@
-use Rattle.std.proofs.Common.{ap, refl}
+use Rattle.std.proofs.Common.{refl}
 use Rattle.ring_layout.specs.declared.message.ClaimState.TheVariants.{Committed}
-use Rattle.ring_table.specs.Views.{View}
 use Rattle.ring_table.proofs.Calls.{same_seat, settled_step, settled_view, of_as}
 use Rattle.ring_table.proofs.HeaderCalls.{packs_committed}
 use Rattle.ring_table.proofs.steps.producer.store_committed_word.Goals as goal

@@ -1,4 +1,4 @@
-use Rattle.std.proofs.Common.{◌≡◌, ap, ◌∙◌, sym, refl}
+use Rattle.std.proofs.Common.{ap, sym, refl}
 use Rattle.ring_table.specs.SlotSteps.{LendsBody}
 use Rattle.ring_table.specs.Views.{View}
 use Rattle.ring_table.proofs.SlotCalls.{slot_load, holder}

@@ -1,4 +1,4 @@
-use Rattle.std.proofs.Common.{◌≡◌, ap, ◌∙◌, sym, subst, refl}
+use Rattle.std.proofs.Common.{ap, sym, subst, refl}
 use Rattle.ring_layout.specs.Places.{index}
 use Rattle.ring_table.specs.SlotSteps.{HasBody, ReturnsBody}
 use Rattle.ring_table.specs.Staged.{slot_bytes}

@@ -1,4 +1,4 @@
-use Rattle.std.proofs.Common.{◌≡◌, ap, ◌∙◌, sym, refl}
+use Rattle.std.proofs.Common.{ap, ◌∙◌, sym, refl}
 use Rattle.ring_layout.specs.Places.{index}
 use Rattle.ring_table.specs.Staged.{AreRising}
 use Rattle.ring_table.specs.SlotSteps.{TakesBody}
