@@ -41,7 +41,7 @@ padding_shown : (h : ℕ) → h / 2 ^ 32 ≡ 2 ^ 32 - 2 → shown_header elsewhe
 padding_shown h pad =
     ap (λ k. k / 2 ^ 32) (cond-true _ (h + 2 ^ 32) h (eq-eqb (h / 2 ^ 32) (2 ^ 32 - 2) pad)) ∙ omega arith
 
--- ---- what a header tells the read
+-- ---- what a header shows the read
 
 module _ (C q : ℕ) (got : List PlacedMessage) (v : View) (cap : v.capacity ≡ C) where
   -- no header

@@ -95,7 +95,7 @@ pub(crate) fn store_aborted_mark(
     ring.store::<StoreAborted>(producer, word_index(capacity, place), mark);
 }
 
-/// Reads the slot taken last, which stays where it is.
+/// Reads the slot that was taken last, and leaves it in front of the others.
 #[inline(always)]
 fn peek_slot(ring: &SharedRing<InSlots>, seat: &mut RingSeat, slot: usize) -> u64
     requires seat { seat.old.table_id ≡ ring.now.table_id }
