@@ -1,5 +1,6 @@
 pub mod Listing
 pub mod RingRecords
+pub mod Marks
 pub mod PlainWords
 pub mod CounterWords
 pub mod CounterRecords

@@ -1,31 +1,18 @@
-//! The words of a ring whose bodies are stored separately. Its own words have only headers. Slots have the words of the
-//! bodies at the same indexes.
-ghost use Rattle.std.specs.Prelude.{◌≡◌, ◌≢◌, ℕ, ◌+◌, ◌-◌, ◌/◌, ◌≤◌, ◌==◌, if◌then◌else◌, length, slice_index, Err, IfErr, IfOk, None, Some};
+//! The words of a plain ring. Its own words have marks. Slots have the headers and the words of the bodies at the same
+//! indexes.
+ghost use Rattle.std.specs.Prelude.{◌≡◌, ◌≢◌, ℕ, ◌+◌, ◌-◌, ◌/◌, ◌≤◌, ◌==◌, if◌then◌else◌, length, set, slice_index, Err, IfErr, IfOk, None, Some};
 ghost use Rattle.ring_layout.specs.Places.{index, IsCapacity};
 ghost use Rattle.ring_layout.specs.Layout.{ring_words};
 ghost use Rattle.ring_layout.specs.Refusals.{IsRefusedBy};
 ghost use Rattle.ring_snapshot.specs.declared.ring_finding.RingFinding.TheVariants.{BadBodies, BadSize};
-ghost use Rattle.ring_snapshot.specs.PlainWords.{formatted, header_at, joined, joined_from, span_at, with_record};
+ghost use Rattle.ring_snapshot.specs.Marks.{header_at};
+ghost use Rattle.ring_snapshot.specs.PlainWords.{joined, joined_from, span_at, with_body, with_record};
 
 use crate::ring::RingSnapshot;
+use crate::ring::mark::{PADDING_KIND, header_at};
 use crate::ring_finding::RingFinding;
 use ring_layout::record_descriptor::PADDING_MSG_TYPE_ID;
 use ring_layout::{align8, unpack_header, word_index};
-
-/// The type id of padding in words without bodies, which is the high half of a header.
-const PADDING_MARK: u64 = 0xffff_fffe;
-
-/// Returns a header as the format has it. In words without bodies, padding has the type id -2. In the format it has the
-/// type id of an aborted record. All other headers are the same.
-pub fn formatted_header(header: u64) -> u64
-    ensures { result ≡ formatted header }
-{
-    if header / 0x1_0000_0000 == PADDING_MARK {
-        header + 0x1_0000_0000
-    } else {
-        header
-    }
-}
 
 impl<'a> RingSnapshot<'a> {
     ghost use Rattle.std.specs.Prelude.{◌≡◌, ◌+◌, ◌≤◌};
@@ -48,40 +35,52 @@ impl<'a> RingSnapshot<'a> {
     }
 }
 
-/// Writes the record at a position in the format. Returns the number of bytes that the record takes, or 0 if there is
-/// no record.
+/// Writes the `count` words after the header at an index in the format. They are zeros in padding, and otherwise those
+/// of the slots.
+fn join_body(words: &mut [u64], slots: &[u64], index: usize, count: usize)
+    requires inside { (index + 1 + count ≤ length slots.now) × (length slots.now ≤ length words.old) }
+    ensures words { words.new ≡ with_body slots.now index count words.old }
+    ensures length { length words.new ≡ length words.old }
+    ensures others { (i : ℕ) → length slots.now ≤ i → slice_index words.new i ≡ slice_index words.old i }
+{
+    let (from, end) = (index + 1, index + 1 + count);
+    if words[index] % 8 == PADDING_KIND {
+        words[from..end].fill(0);
+    } else {
+        words[from..end].copy_from_slice(&slots[from..end]);
+    }
+}
+
+/// Writes the record at a position in the format, or only its header if no record has this header. Returns the number of
+/// bytes that the record takes, or 0 if there is no record.
 fn join_record(words: &mut [u64], slots: &[u64], capacity: u32, tail: u64, at: u64) -> u64
     requires lawful { IsCapacity capacity }
     requires sizes { (length words.old ≡ ring_words capacity) × (length slots.now ≡ capacity / 8) }
     requires order { at ≤ tail }
-    ensures span { result ≡ span_at capacity tail at (header_at capacity words.old at) }
+    ensures span { result ≡ span_at capacity tail at (header_at capacity words.old slots.now at) }
     ensures words { words.new
-        ≡ (if result == 0 then words.old else with_record capacity slots.now at result words.old) }
+        ≡ (if result == 0 then set words.old (index capacity at) (header_at capacity words.old slots.now at)
+        else with_record capacity slots.now at result words.old) }
     ensures inside { at + result ≤ tail }
     ensures length { length words.new ≡ length words.old }
     ensures trailer { (i : ℕ) → capacity / 8 ≤ i → slice_index words.new i ≡ slice_index words.old i }
 {
     let index = word_index(capacity, at);
-    let header = words[index];
-    let shown = formatted_header(header);
+    let header = header_at(&*words, slots, capacity, at);
     let ring = RingSnapshot {
         capacity,
         words: &*words,
     };
-    let bytes = ring.span_at(tail, at, shown);
+    let bytes = ring.span_at(tail, at, header);
     if bytes > 0 {
-        if shown == header {
-            let end = index + bytes as usize / 8;
-            words[index + 1..end].copy_from_slice(&slots[index + 1..end]);
-        } else {
-            words[index] = shown;
-        }
+        join_body(words, slots, index, bytes as usize / 8 - 1);
     }
+    words[index] = header;
     bytes
 }
 
 /// Writes the records between these positions in the format, up to the first header that no record has.
-#[tactic(auto, using(crate::proofs::JoinLemmas::joined_goes, crate::proofs::JoinLemmas::joined_stops))]
+#[tactic(auto, using(crate::proofs::JoinLemmas::joined_goes, crate::proofs::JoinLemmas::joined_over, crate::proofs::JoinLemmas::joined_stops))]
 fn join_records(words: &mut [u64], slots: &[u64], capacity: u32, head: u64, tail: u64)
     requires lawful { IsCapacity capacity }
     requires sizes { (length words.old ≡ ring_words capacity) × (length slots.now ≡ capacity / 8) }
@@ -92,6 +91,9 @@ fn join_records(words: &mut [u64], slots: &[u64], capacity: u32, head: u64, tail
 {
     let mut at = head;
     for _k in 0..(tail - head) / 8 {
+        if at >= tail {
+            return;
+        }
         let bytes = join_record(words, slots, capacity, tail, at);
         if bytes == 0 {
             return;
@@ -100,13 +102,14 @@ fn join_records(words: &mut [u64], slots: &[u64], capacity: u32, head: u64, tail
     }
 }
 
-/// Makes the words of a ring in the format from `words`, which have only headers, and from `slots`. The slots are
-/// `capacity / 8` words, which have the bodies at the same indexes. All listings can read the result.
+/// Makes the words of a ring in the format from the words of a plain ring and from `slots`. The slots are
+/// `capacity / 8` words, which have the headers and the bodies at the same indexes. All listings can read the result.
 ///
-/// The call goes from the head to the tail, one record after another. Padding, which has the type id -2, gets the type
-/// id that it has in the format. Any other record gets its body, in each state. The call ends at a header that no
-/// record has, and leaves the header as it is. All other words stay as they are. No word is changed if the positions
-/// make no sense.
+/// The call goes from the head to the tail, one record after another. Padding gets its header, and zeros after it. Any
+/// other record gets its header and its body, in each state. The call ends at a word that is no mark, which becomes 0,
+/// and at a mark that makes no sense. [`header_at`] says which marks these are, and what they become. A mark also makes
+/// no sense if its record would cross the end of the buffer or the tail. All other words stay as they are. No word is
+/// changed if the positions make no sense.
 ///
 /// Returns `BadSize` if no ring has this many words. Otherwise returns `BadBodies` if there are not as many slots as
 /// words of the buffer. After an error no word is changed.
