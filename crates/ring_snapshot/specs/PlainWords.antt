@@ -1,6 +1,6 @@
 -- The words of a plain ring in the format. Its words have marks, and slots have the headers and the bodies at the same
 -- indexes. Positions are running byte counts, and C is the capacity of the buffer.
-use Rattle.std.specs.Prelude.{ℕ, zero, suc, ◌+◌, ◌-◌, ◌/◌, ◌&&◌, ◌||◌, ◌==◌, is_none, nat_le, int_lt, if◌then◌else◌, pos, nat_abs, List, replicate, take, drop, set, slice_index}
+use Rattle.std.specs.Prelude.{ℕ, zero, suc, ◌+◌, ◌-◌, ◌/◌, ◌&&◌, ◌||◌, ◌==◌, is_none, nat_le, int_lt, min, if◌then◌else◌, pos, nat_abs, List, replicate, take, drop, set, slice_index}
 use Rattle.ring_layout.specs.History.{overwritten}
 use Rattle.ring_layout.specs.Places.{index}
 use Rattle.ring_layout.specs.Layout.{head_index, tail_index}
@@ -40,10 +40,19 @@ joined_from C slots tail (suc m) at words =
     if n == 0 then set words (index C at) header
     else joined_from C slots tail m (at + n) (with_record C slots at n words))
 
--- the words with the records between these positions in the format, if the positions make sense
+-- The words with n zeros from a position on. After the end of the buffer they go on at its start.
+abbrev pub with_zeros : ℕ → ℕ → ℕ → List ℕ → List ℕ
+with_zeros C at n words =
+    let first = min n (C / 8 - index C at) in
+    overwritten 0 (replicate (n - first) 0) (overwritten (index C at) (replicate first 0) words)
+
+-- the words with the records between these positions in the format, and zeros in the rest of the buffer, if the
+-- positions make sense
 abbrev pub joined_between : ℕ → List ℕ → ℕ → ℕ → List ℕ → List ℕ
 joined_between C slots head tail words =
-    if is_none (positions_finding C head tail) then joined_from C slots tail ((tail - head) / 8) head words else words
+    if is_none (positions_finding C head tail)
+    then joined_from C slots tail ((tail - head) / 8) head (with_zeros C tail ((C - (tail - head)) / 8) words)
+    else words
 
 -- the words with the records between their head and their tail in the format
 abbrev pub joined : ℕ → List ℕ → List ℕ → List ℕ

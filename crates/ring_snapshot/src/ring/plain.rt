@@ -1,12 +1,13 @@
 //! The words of a plain ring. Its own words have marks. Slots have the headers and the words of the bodies at the same
 //! indexes.
-ghost use Rattle.std.specs.Prelude.{◌≡◌, ◌≢◌, ℕ, ◌+◌, ◌-◌, ◌/◌, ◌≤◌, ◌==◌, if◌then◌else◌, length, set, slice_index, Err, IfErr, IfOk, None, Some};
+ghost use Rattle.std.specs.Prelude.{◌≡◌, ◌≢◌, ℕ, ◌+◌, ◌-◌, ◌/◌, ◌≤◌, ◌==◌, if◌then◌else◌, length, replicate, set, slice_index, Err, IfErr, IfOk, None, Some};
+ghost use Rattle.ring_layout.specs.History.{overwritten};
 ghost use Rattle.ring_layout.specs.Places.{index, IsCapacity};
 ghost use Rattle.ring_layout.specs.Layout.{ring_words};
 ghost use Rattle.ring_layout.specs.Refusals.{IsRefusedBy};
 ghost use Rattle.ring_snapshot.specs.declared.ring_finding.RingFinding.TheVariants.{BadBodies, BadSize};
 ghost use Rattle.ring_snapshot.specs.Marks.{header_at};
-ghost use Rattle.ring_snapshot.specs.PlainWords.{joined, joined_from, span_at, with_body, with_record};
+ghost use Rattle.ring_snapshot.specs.PlainWords.{joined, joined_from, span_at, with_body, with_record, with_zeros};
 
 use crate::ring::RingSnapshot;
 use crate::ring::mark::{PADDING_KIND, header_at};
@@ -35,6 +36,16 @@ impl<'a> RingSnapshot<'a> {
     }
 }
 
+/// Sets `count` words from an index on to 0.
+fn fill_zeros(words: &mut [u64], index: usize, count: usize)
+    requires inside { index + count ≤ length words.old }
+    ensures words { words.new ≡ overwritten index (replicate count 0) words.old }
+    ensures length { length words.new ≡ length words.old }
+    ensures others { (i : ℕ) → index + count ≤ i → slice_index words.new i ≡ slice_index words.old i }
+{
+    words[index..index + count].fill(0);
+}
+
 /// Writes the `count` words after the header at an index in the format. They are zeros in padding, and otherwise those
 /// of the slots.
 fn join_body(words: &mut [u64], slots: &[u64], index: usize, count: usize)
@@ -45,7 +56,7 @@ fn join_body(words: &mut [u64], slots: &[u64], index: usize, count: usize)
 {
     let (from, end) = (index + 1, index + 1 + count);
     if words[index] % 8 == PADDING_KIND {
-        words[from..end].fill(0);
+        fill_zeros(words, from, count);
     } else {
         words[from..end].copy_from_slice(&slots[from..end]);
     }
@@ -102,14 +113,29 @@ fn join_records(words: &mut [u64], slots: &[u64], capacity: u32, head: u64, tail
     }
 }
 
+/// Sets `count` words from a position on to 0. After the end of the buffer the words go on at its start.
+fn clear_words(words: &mut [u64], capacity: u32, at: u64, count: usize)
+    requires lawful { IsCapacity capacity }
+    requires sizes { (length words.old ≡ ring_words capacity) × (count ≤ capacity / 8) }
+    ensures words { words.new ≡ with_zeros capacity at count words.old }
+    ensures length { length words.new ≡ length words.old }
+    ensures trailer { (i : ℕ) → capacity / 8 ≤ i → slice_index words.new i ≡ slice_index words.old i }
+{
+    let index = word_index(capacity, at);
+    let first = count.min(capacity as usize / 8 - index);
+    fill_zeros(words, index, first);
+    fill_zeros(words, 0, count - first);
+}
+
 /// Makes the words of a ring in the format from the words of a plain ring and from `slots`. The slots are
 /// `capacity / 8` words, which have the headers and the bodies at the same indexes. All listings can read the result.
 ///
 /// The call goes from the head to the tail, one record after another. Padding gets its header, and zeros after it. Any
 /// other record gets its header and its body, in each state. The call ends at a word that is no mark, which becomes 0,
 /// and at a mark that makes no sense. [`header_at`] says which marks these are, and what they become. A mark also makes
-/// no sense if its record would cross the end of the buffer or the tail. All other words stay as they are. No word is
-/// changed if the positions make no sense.
+/// no sense if its record would cross the end of the buffer or the tail. The words after these two stay as they are. All
+/// words of the buffer that are not between the head and the tail become 0. No word is changed if the positions make no
+/// sense.
 ///
 /// Returns `BadSize` if no ring has this many words. Otherwise returns `BadBodies` if there are not as many slots as
 /// words of the buffer. After an error no word is changed.
@@ -131,6 +157,8 @@ pub fn join_bodies(words: &mut [u64], slots: &[u64]) -> Result<(), RingFinding>
         return Err(RingFinding::BadBodies { words: slots.len() });
     }
     if is_ordered {
+        let rest = (u64::from(capacity) - (tail - head)) / 8;
+        clear_words(words, capacity, tail, rest as usize);
         join_records(words, slots, capacity, head, tail);
     }
     Ok(())

@@ -1,7 +1,7 @@
 use Rattle.std.specs.Prelude.{is_none}
 use Rattle.std.proofs.Common.{rules, ◌≡◌, ◌+◌, ◌-◌, ◌/◌, length, slice_index, ap, sym, ◌∙◌, true}
 use Rattle.ring_layout.specs.Layout.{head_index, tail_index}
-use Rattle.ring_snapshot.specs.PlainWords.{joined, joined_between, joined_from}
+use Rattle.ring_snapshot.specs.PlainWords.{joined, joined_between, joined_from, with_zeros}
 use Rattle.ring_snapshot.specs.RingRecords.{positions_finding}
 use Rattle.std.proofs.lemmas.Bool.{cond-true}
 use Rattle.ring_snapshot.proofs.JoinLemmas.{same_capacity}
@@ -19,8 +19,12 @@ returns-then-is_ordered-clause-joined c = λ C ok size.
     let head : h ≡ slice_index words (head_index D) = search rules in
     let tail : t ≡ slice_index words (tail_index D) = search rules in
     let long : length words ≡ D / 8 + 96 = search rules in
+    let wide : c.from.result ≡ D = search rules in
     let same : D ≡ C = same_capacity D C (length words) c.capacity-capacity.ensures.lawful ok long size in
     c.join_records.ensures.joined
-    ∙ sym (cond-true _ (joined_from D slots t ((t - h) / 8) h words) words ordered)
+    ∙ ap (joined_from D slots t ((t - h) / 8) h)
+    (c.clear_words.ensures.words ∙ ap (λ K. with_zeros D t ((K - (t - h)) / 8) words) wide)
+    ∙ sym (cond-true _ (joined_from D slots t ((t - h) / 8) h (with_zeros D t ((D - (t - h)) / 8) words)) words
+    ordered)
     ∙ (λ i. joined_between D slots (head i) (tail i) words)
     ∙ ap (λ K. joined K slots words) same
