@@ -14,8 +14,9 @@ use std::alloc::Global;
 /// The type id of padding in headers of which the bodies lie in slots.
 const PADDING_MARK: i32 = -2;
 
-/// The header of what a mark shows at a position, if its first slot has this word.
-fn decode_mark(at: u64, mark: u64, slot: u64) -> u64
+/// Returns the header of what a word shows at a position, if the first slot has this word. Returns 0 if the word is no
+/// mark. The header of an open claim has the type id 1 and a body that fills the record, since the slots may be out.
+pub fn decode_mark(at: u64, mark: u64, slot: u64) -> u64
     requires { MayDecode at mark }
     ensures { result ≡ decoded at mark slot }
 {

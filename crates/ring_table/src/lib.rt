@@ -25,6 +25,7 @@ pub use bodies::{
     copy_slots, fill_slots, fill_zeros, read_slots, store_claimed_slots, write_slots,
 };
 pub use claim::{PlacedMessage, Stage, StagedClaim};
+pub use decode::decode_mark;
 pub use headers::Headers;
 pub use laws::{
     last_claim_stands_last, newest_claim_changes_alone, open_claims_are_counted,
@@ -38,7 +39,7 @@ pub use rule::RingRule;
 pub use steps::consumer::{
     clear_word, load_body_word, load_passed_word, store_head, store_head_before,
 };
-pub use steps::marks::clear_marks;
+pub use steps::marks::{ABORTED_KIND, COMMITTED_KIND, OPEN_KIND, PADDING_KIND, clear_marks};
 pub use steps::producer::{
     load_head, load_own_word, load_tail, move_tail, store_body_word, store_claimed_header,
     store_tail,

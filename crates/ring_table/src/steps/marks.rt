@@ -20,14 +20,17 @@ use crate::steps::{RingSeat, SharedRing};
 use crate::view::Wanted;
 use ring_layout::{align8, padding_header, word_index};
 
-/// The kinds of marks, in their low three bits.
-pub(crate) const COMMITTED_KIND: u64 = 0;
+/// The kind of a committed record, in the low three bits of a mark.
+pub const COMMITTED_KIND: u64 = 0;
 
-pub(crate) const PADDING_KIND: u64 = 1;
+/// The kind of padding.
+pub const PADDING_KIND: u64 = 1;
 
-pub(crate) const OPEN_KIND: u64 = 2;
+/// The kind of an open claim.
+pub const OPEN_KIND: u64 = 2;
 
-pub(crate) const ABORTED_KIND: u64 = 3;
+/// The kind of an aborted record.
+pub const ABORTED_KIND: u64 = 3;
 
 /// The mark of a record of `len` bytes of body at a place.
 #[inline(always)]
