@@ -2,8 +2,12 @@
 -- otherwise says nothing: it may be what an earlier lap left. A mark is the end of the record or of the padding that
 -- begins at the position, and its kind. The slot at the same index has the header that the record has once it is
 -- committed. Positions are running byte counts, and C is the capacity of the buffer.
-use Rattle.std.specs.Prelude.{ℕ, ◌-◌, ◌%◌, ◌^◌, Bool, ◌&&◌, ◌==◌, nat_le, nat_lt, int_lt, if◌then◌else◌, pos, neg_ℤ, nat_abs, List, slice_index}
-use Rattle.ring_layout.specs.Headers.{header, padding_header, padding_type}
+use Rattle.std.specs.Prelude.{◌≡◌, ℕ, ◌+◌, ◌-◌, ◌%◌, ◌^◌, Bool, ◌&&◌, ◌==◌, nat_le, nat_lt, int_lt, if◌then◌else◌, pos, neg_ℤ, nat_abs, List, length, slice_index}
+use Rattle.ring_layout.specs.declared.message.Claim.{Claim}
+use Rattle.ring_layout.specs.declared.message.ClaimState.{ClaimState}
+use Rattle.ring_layout.specs.declared.message.ClaimState.TheVariants.{Open, Committed, Aborted}
+use Rattle.ring_layout.specs.Headers.{committed_header, header, padding_header, padding_type}
+use Rattle.ring_layout.specs.History.{IsMessage, span_of}
 use Rattle.ring_layout.specs.Places.{index}
 use Rattle.ring_snapshot.specs.Listing.{up_to_eight}
 use Rattle.ring_snapshot.specs.RingRecords.{length_in, type_in}
@@ -28,6 +32,24 @@ kind_in mark = mark % 8
 -- the bytes from a position to the end in a mark
 abbrev pub bytes_to : ℕ → ℕ → ℕ
 bytes_to mark at = mark - kind_in mark - at
+
+-- ---- the words and the slots of a ring
+
+-- the kind of a claim
+abbrev pub kind_of : Claim → ℕ
+kind_of c = by_state c.state
+  where
+    by_state : ClaimState → ℕ
+    by_state Open = open_kind
+    by_state Committed = committed_kind
+    by_state Aborted = aborted_kind
+
+-- The words have the mark of a claim at this place, and the slots have its header in the form of a committed record
+pub record HasMark (C : ℕ) (words slots : List ℕ) (place : ℕ) (c : Claim) : Type 0 where
+  pub lawful : IsMessage C c.message
+  pub aligned : place % 8 ≡ 0
+  pub mark : slice_index words (index C place) ≡ place + span_of c + kind_of c
+  pub header : slice_index slots (index C place) ≡ committed_header c.message.type_id (length c.message.body)
 
 -- ---- headers in the format
 

@@ -1,8 +1,10 @@
 //! The marks in the words of a plain ring.
-ghost use Rattle.std.specs.Prelude.{◌≡◌, ◌/◌, ◌<ℤ◌, pos, length};
-ghost use Rattle.ring_layout.specs.Places.{IsCapacity};
+ghost use Rattle.std.specs.Prelude.{◌≡◌, ℕ, ◌+◌, ◌/◌, ◌%◌, ◌<◌, ◌≤◌, ◌<ℤ◌, pos, length, slice_index};
+ghost use Rattle.ring_layout.specs.declared.message.Claim.{Claim};
+ghost use Rattle.ring_layout.specs.Headers.{header_of, padding_header};
+ghost use Rattle.ring_layout.specs.Places.{index, IsCapacity};
 ghost use Rattle.ring_layout.specs.Layout.{ring_words};
-ghost use Rattle.ring_snapshot.specs.Marks.{header_as, header_at, is_message_of, marked_header};
+ghost use Rattle.ring_snapshot.specs.Marks.{HasMark, header_as, header_at, is_message_of, marked_header, padding_kind};
 ghost use Rattle.ring_snapshot.specs.RingRecords.{length_in};
 
 use ring_layout::record_descriptor::PADDING_MSG_TYPE_ID;
@@ -63,8 +65,8 @@ fn marked_header(bytes: u64, kind: u64, slot: u64) -> u64
 /// Returns the header at a position of a plain ring, as the format has it. `words` are those of a ring of `capacity`
 /// bytes, and `slots` are the `capacity / 8` words with the messages and their headers.
 ///
-/// Returns 0 if the word at the position is no mark, since nothing was stored for the position. Returns a header that
-/// no record has, with the length 1, if the mark makes no sense:
+/// Returns the header of the claim or of the padding whose mark the word is. Returns 0 if the word at the position is no
+/// mark, since nothing was stored for the position. Returns a header that no record has, with the length 1, if the mark makes no sense:
 /// - its kind is above 3;
 /// - padding has 2^31 bytes or more;
 /// - the header in the slot is no header of a message, or its record would not end at the end in the mark.
@@ -72,6 +74,10 @@ pub fn header_at(words: &[u64], slots: &[u64], capacity: u32, at: u64) -> u64
     requires lawful { IsCapacity capacity }
     requires sizes { (length words.now ≡ ring_words capacity) × (length slots.now ≡ capacity / 8) }
     ensures header { result ≡ header_at capacity words.now slots.now at }
+    ensures claim { (c : Claim) → HasMark capacity words.now slots.now at c → result ≡ header_of c }
+    ensures padding { (n : ℕ) → at % 8 ≡ 0 → n % 8 ≡ 0 → 0 < n → n ≤ capacity
+        → slice_index words.now (index capacity at) ≡ at + n + padding_kind → result ≡ padding_header n }
+    ensures none { slice_index words.now (index capacity at) ≤ at → result ≡ 0 }
 {
     let index = word_index(capacity, at);
     let mark = words[index];
