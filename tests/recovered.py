@@ -73,14 +73,20 @@ def killed():
 
 
 def shown_at(at, mark, slot):
-    """The length and the type id of the header that a mark at a position shows. One that makes no sense shows 1 and 0."""
+    """The length and the type id of the header that a mark at a position shows. That of an open record has the type id
+    1, and its body fills the record. One that makes no sense shows 1 and 0."""
     kind, (length, type_id) = mark % 8, struct.unpack("<ii", struct.pack("<Q", slot))
-    span = max(mark - kind - at, 0)
-    if kind == PADDING and span < 2**31:
-        return span, -1
-    if kind in (PADDING, 4, 5, 6, 7) or length < 1 or type_id < 1 or -(-length // 8) * 8 != span:
+    span = mark - kind - at
+    has_end = length > 0 and -(-length // 8) * 8 == span
+    if not 8 <= span < 2**31:
         return 1, 0
-    return {OPEN: (-length, type_id), ABORTED: (length, -1)}.get(kind, (length, type_id))
+    if kind == PADDING:
+        return span, -2
+    if kind == OPEN:
+        return -span, 1
+    if kind == ABORTED and has_end:
+        return length, -1
+    return (length, type_id) if kind == 0 and has_end and type_id not in (-1, -2) else (1, 0)
 
 
 def recovered(words, slots):
@@ -106,6 +112,8 @@ def recovered(words, slots):
         span = -(-count // 8) * 8
         if at < end or not 8 <= count <= 8 + size or index + span > capacity or at + span > tail:
             return f"BadLength at {index}: length {length}", [], 0
+        if type_id < -2 or type_id == 0 and length > 1:
+            return f"BadType at {index}: type id {type_id}", [], 0
         end = at + span
         is_open += length < 0
         if length > 0 and type_id > 0:
