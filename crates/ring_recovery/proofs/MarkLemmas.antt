@@ -15,12 +15,12 @@ use Rattle.ring_table.specs.Staged.{elsewhere, ArePlaced, claim_end, masked_reco
 use Rattle.ring_table.specs.declared.claim.Stage.{Stage}
 use Rattle.ring_table.specs.declared.claim.Stage.TheVariants.{Moved, Padded, Stored}
 use Rattle.ring_table.specs.declared.claim.StagedClaim.{StagedClaim}
-use Rattle.ring_table.proofs.DecodeLemmas.{HeadAt, all_filled_out, decode_all, decoded_none, filled_end, filled_out, filled_placed, filled_record, filled_settled_one}
+use Rattle.ring_table.proofs.DecodeLemmas.{HeadAt, Marks, all_filled_out, decode_all, decoded_none, filled_end, filled_out, filled_placed, filled_record, filled_settled_one}
 use Rattle.ring_table.proofs.MarkWords.{committed_small, few_of, long_bytes, near_all, shows_claim, shows_mark, whole_bytes}
 use Rattle.ring_table.proofs.SlotBytes.{first_word_of, slot_later}
 use Rattle.ring_table.proofs.StagedWords.{staged_word-header, staged_word-record}
 use Rattle.ring_recovery.specs.Headers.{recovered_header}
-use Rattle.ring_recovery.specs.Image.{HaveRecord, IsMarkOf}
+use Rattle.ring_recovery.specs.Image.{HaveRecord}
 use Rattle.ring_recovery.proofs.GivenLemmas.{HaveAll, HaveBody, masked_zero}
 
 -- ---- the bytes of a header
@@ -138,7 +138,7 @@ same_marks C e (c ∷ cs) p cap placed =
 
 module _ (C head : ℕ) (words slots : List ℕ) (cs : List StagedClaim) (cap : IsCapacity C) (aligned : head % 8 ≡ 0)
     (placed : ArePlaced C head cs) (have : HaveRecords C slots cs) (p : ℕ) (p8 : p % 8 ≡ 0)
-    (is : IsMarkOf p (staged_word_at elsewhere cs p) (slice_index words (index C p))) where
+    (is : Marks p (slice_index words (index C p)) (staged_word_at elsewhere cs p)) where
   abbrev h : ℕ
   h = staged_word_at elsewhere cs p
 
@@ -149,14 +149,14 @@ module _ (C head : ℕ) (words slots : List ℕ) (cs : List StagedClaim) (cap : 
   y = slice_index slots (index C p)
 
   decodes : decoded p w y ≡ staged_word_at elsewhere (all_filled_out cs) p
-  decodes = decode_all C head cs p w y cap aligned placed p8 (record { none = is.0; mark = is.1 })
+  decodes = decode_all C head cs p w y cap aligned placed p8 is
       (heads_of C head p slots cs cap.most placed have)
 
   pub header_is : recovered_header C words slots p ≡ staged_word_at elsewhere (all_filled_out cs) p
   header_is = dite (ℕ_discrete h 0)
-      (λ none. let le = is.0 none in cond-true _ _ _ (le-leb w p le) ∙ sym (decoded_none p w y le) ∙ decodes)
+      (λ none. let le = is.none none in cond-true _ _ _ (le-leb w p le) ∙ sym (decoded_none p w y le) ∙ decodes)
       (λ some.
-      let mark : w ≡ mark_of p h = is.1 some in
+      let mark : w ≡ mark_of p h = is.mark some in
       let near = near_all C head cs p cap.least cap.most placed in
       let below = near.below in
       let most = cap.most in

@@ -1,7 +1,7 @@
 -- What the headers and the slots that a ring left come to.
-use Rattle.std.proofs.Common.{◌≡◌, ℕ, ◌+◌, ◌-◌, ◌/◌, ◌%◌, ◌≤◌, ◌<◌, true, false, List, ◌++◌, slice_index, sym, ap, ◌∙◌, subst, ⊎_elim, append_assoc, eq-eqb, le-ltb, arith, None, Result, Ok, Err}
+use Rattle.std.proofs.Common.{◌≡◌, ℕ, ◌+◌, ◌-◌, ◌/◌, ◌%◌, ◌≤◌, ◌<◌, true, false, List, ◌++◌, slice_index, sym, ap, ◌∙◌, subst, append_assoc, eq-eqb, le-ltb, arith, None, Result, Ok, Err}
 use Rattle.std.specs.Prelude.{IfOk, MatchResult, not, ◌||◌}
-use Rattle.std.proofs.lemmas.Bool.{cases_lt, cond-false}
+use Rattle.std.proofs.lemmas.Bool.{cond-false}
 use Rattle.ring_layout.specs.Layout.{head_index, tail_index}
 use Rattle.ring_layout.specs.Lists.{Begins}
 use Rattle.ring_layout.specs.Places.{index}
@@ -18,12 +18,12 @@ use Rattle.ring_table.specs.Rule.{Kept}
 use Rattle.ring_table.specs.Staged.{ArePlaced, elsewhere, staged_end, staged_word_at}
 use Rattle.ring_table.specs.declared.claim.PlacedMessage.{PlacedMessage}
 use Rattle.ring_table.specs.declared.claim.StagedClaim.{StagedClaim}
-use Rattle.ring_table.proofs.DecodeLemmas.{all_filled_out, filled_count, filled_ends, filled_messages, filled_placed}
+use Rattle.ring_table.proofs.DecodeLemmas.{Marks, all_filled_out, filled_count, filled_ends, filled_messages, filled_placed}
 use Rattle.ring_table.proofs.ReachLemmas.{reach_aligned, reach_bounds}
 use Rattle.ring_table.proofs.RestLemmas.{Splits, splits}
 use Rattle.ring_table.proofs.StagedPlaces.{capacity_aligned, end_aligned, start_aligned}
 use Rattle.ring_recovery.specs.Headers.{finding_of, head_of, headers_between, messages_of, open_of, recovered_header, tail_of}
-use Rattle.ring_recovery.specs.Image.{IsMarkOf, Remains}
+use Rattle.ring_recovery.specs.Image.{Remains}
 use Rattle.ring_recovery.specs.Recovered.{AreFrom, IsRecoveredOf, Reads, all_placed, messages_left}
 use Rattle.ring_recovery.specs.declared.recovered.Recovered.{Recovered}
 use Rattle.ring_recovery.proofs.BodyLemmas.{HaveFrom, have_all, have_records, have_rest, have_restarted}
@@ -96,15 +96,15 @@ module _ (C start : ℕ) (words slots : List ℕ) (m : Remains C start words slo
 
   -- the words have the marks of all claims
   marked : (p : ℕ) → p % 8 ≡ 0 → head ≤ p → p < head + C
-      → IsMarkOf p (staged_word_at elsewhere claims p) (slice_index words (index C p))
-  marked p p8 from below = ⊎_elim (λ low. m.cleared p p8 from low)
-      (λ (high : rule.consumer.cleared ≤ p).
+      → Marks p (slice_index words (index C p)) (staged_word_at elsewhere claims p)
+  marked p p8 from below =
+      let high : rule.consumer.cleared ≤ p = omega (arith, m.rule.rests, from) in
       let shows : slice_index m.rule.headers (index C p) ≡ staged_word_at elsewhere claims p =
-      rule.memory.shows p p8 from below ∙ cond-false _ _ _ (le-ltb p rule.consumer.cleared high) in (
-        λ none. m.rule.encodes.none p p8 high below (shows ∙ none),
-        λ some. m.rule.encodes.marks p p8 high below (λ none. some (sym shows ∙ none)) ∙ ap (mark_of p) shows,
-      ))
-      (cases_lt p rule.consumer.cleared)
+      rule.memory.shows p p8 from below ∙ cond-false _ _ _ (le-ltb p rule.consumer.cleared high) in
+      record {
+        none = λ none. m.rule.encodes.none p p8 high below (shows ∙ none);
+        mark = λ some. m.rule.encodes.marks p p8 high below (λ none. some (sym shows ∙ none)) ∙ ap (mark_of p) shows;
+      }
 
   are_shown : AreShown C tail (recovered_header C words slots) head (all_filled_out left)
   are_shown = record {
@@ -113,7 +113,7 @@ module _ (C start : ℕ) (words slots : List ℕ) (m : Remains C start words slo
     placed = filled_placed C head left rule.lawful.capacity at_head.placed;
     ends = filled_ends head left ∙ at_head.ends;
     shows = λ p p8 from below. header_is C head words slots left rule.lawful.capacity head8 at_head.placed have p p8
-        (subst (λ h. IsMarkOf p h (slice_index words (index C p))) (at_head.words p from)
+        (subst (Marks p (slice_index words (index C p))) (at_head.words p from)
         (marked p p8 from (omega (arith, below, rule.memory.room))));
   }
 

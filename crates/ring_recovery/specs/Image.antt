@@ -1,14 +1,13 @@
 -- The memory that a ring leaves if all its threads die at once, each at any step. Its words have marks, and its records
 -- lie in slots, one slot for each word of the buffer.
-use Rattle.std.specs.Prelude.{◌≡◌, ◌≢◌, ℕ, ◌+◌, ◌/◌, ◌%◌, ◌≤◌, ◌<◌, List, [], ◌∷◌, length, slice_index}
+use Rattle.std.specs.Prelude.{◌≡◌, ℕ, ◌+◌, ◌/◌, ◌%◌, ◌<◌, List, [], ◌∷◌, length, slice_index}
 use mathlib.Core.Option.{Option, some}
 use lib.ListN.{get_elem?}
 use Rattle.ring_layout.specs.Places.{index}
 use Rattle.ring_layout.specs.declared.message.Message.{Message}
-use Rattle.ring_table.specs.Marks.{KeepsMarks, mark_of}
-use Rattle.ring_table.specs.Owners.{all_of}
+use Rattle.ring_table.specs.Marks.{KeepsMarks}
 use Rattle.ring_table.specs.Shelf.{IsGotOut}
-use Rattle.ring_table.specs.Staged.{elsewhere, body_word, slot_bytes, staged_word_at}
+use Rattle.ring_table.specs.Staged.{body_word, slot_bytes}
 use Rattle.ring_table.specs.declared.claim.PlacedMessage.{PlacedMessage}
 use Rattle.ring_table.specs.declared.view.View.{View}
 
@@ -16,10 +15,6 @@ use Rattle.ring_table.specs.declared.view.View.{View}
 abbrev pub HaveRecord : ℕ → List ℕ → ℕ → Message → Type 0
 HaveRecord C slots place m = (at : ℕ) → at % 8 ≡ 0 → at < 8 + length m.body
     → slice_index slots (index C (place + at)) ≡ body_word (slot_bytes m) at
-
--- w is the mark of the header h at the position p, or no mark if there is no header
-abbrev pub IsMarkOf : ℕ → ℕ → ℕ → Type 0
-IsMarkOf p h w = (h ≡ 0 → w ≤ p) × (h ≢ 0 → w ≡ mark_of p h)
 
 -- The slots are those of a ring. A slot at home has its word. A slot that the reader has out to read a message still
 -- has the word of this message's record, since a reader stores nothing there. Nothing is said of the slots that producers have
@@ -31,12 +26,9 @@ pub record IsImage (C : ℕ) (homes : List (Option ℕ)) (views : List View) (sl
       → HaveRecord C slots m.place m.message
 
 -- The words and the slots are what a ring of this capacity and this start left. The rule of the ring holds between any
--- two steps of any threads, so it holds of what is left, whatever step each thread died at. What the consumer counts as
--- cleared has its marks until the head is stored
+-- two steps of any threads, so it holds of what is left, whatever step each thread died at
 pub record Remains (C start : ℕ) (words slots : List ℕ) : Type 0 where
   pub homes : List (Option ℕ)
   pub views : List View
   pub rule : KeepsMarks C start words homes views
-  pub cleared : (p : ℕ) → p % 8 ≡ 0 → rule.kept.consumer.head ≤ p → p < rule.kept.consumer.cleared
-      → IsMarkOf p (staged_word_at elsewhere (all_of rule.kept.hist) p) (slice_index words (index C p))
   pub image : IsImage C homes views slots

@@ -169,6 +169,11 @@ module _ (C start : ℕ) where
       let one : r'.consumer ≡ r.consumer = sym new ∙ was in
       (ap (λ (z : ConsumerView). z.cleared) one, inl (ap (λ (z : ConsumerView). z.head) one)))
 
+  -- so no more is cleared than the head says
+  pub rests_on : {c h c' h' : ℕ} → c ≡ h → (c' ≡ c) × ((h' ≡ h) ⊎ (h' ≡ c)) → c' ≡ h'
+  rests_on {c} {h} {c'} {h'} is after = ⊎_elim (λ (z : h' ≡ h). after.0 ∙ is ∙ sym z) (λ (z : h' ≡ c). after.0 ∙ sym z)
+      after.1
+
   -- so the words encode the same headers
   pub encodes_after : (headers words : List ℕ) (views : List View) (r : Kept elsewhere C start headers views)
       (head' cleared' : ℕ) → Encodes C r.consumer.head r.consumer.cleared headers words → cleared' ≡ r.consumer.cleared
@@ -214,6 +219,7 @@ module _ (C start : ℕ) where
               (encodes_trailer C start r.lawful r'.consumer.head r'.consumer.cleared m.headers s.words
               (encodes_after m.headers s.words s.views r r'.consumer.head r'.consumer.cleared m.encodes after.0 after.1)
               i (f n) far (omega arith));
+          rests = rests_on m.rests after;
         },
         subst (λ z. told z (t.0, carried_after me.1 t.1)) (sym same) t.4,
       )
@@ -241,6 +247,7 @@ module _ (C start : ℕ) where
           shelf = t.3.1;
           encodes = subst (Encodes C r'.consumer.head r'.consumer.cleared m.headers) (sym words_are)
               (encodes_after m.headers s.words s.views r r'.consumer.head r'.consumer.cleared m.encodes after.0 after.1);
+          rests = rests_on m.rests after;
         },
         t.4,
       )
@@ -281,6 +288,7 @@ module _ (C start : ℕ) where
           encodes = encodes_mark C start r.lawful r'.consumer.head r'.consumer.cleared m.headers s.words
               (encodes_after m.headers s.words s.views r r'.consumer.head r'.consumer.cleared m.encodes after.0 after.1)
               q h mark there.0 head'.0 (omega arith) head'.1 (omega arith) full there.3;
+          rests = rests_on m.rests after;
         },
         t.4,
       )

@@ -34,7 +34,7 @@ use Rattle.ring_table.proofs.ShelfLemmas.{stepped_shelf}
 use Rattle.ring_table.proofs.CarryLemmas.{carries_same}
 use Rattle.ring_table.proofs.OutLemmas.{lends_body, set_twice}
 use Rattle.ring_table.proofs.MarkWords.{bytes_plain, whole_bytes, kind_aborted, kind_committed, kind_open, kind_padding}
-use Rattle.ring_table.proofs.MarkSteps.{Marked, Rests, encodes_after, header_near, rests_after, with_headers}
+use Rattle.ring_table.proofs.MarkSteps.{Marked, Rests, encodes_after, header_near, rests_after, rests_on, with_headers}
 
 -- a header of padding as the formats have it
 padding_shown : (h : ℕ) → h / 2 ^ 32 ≡ 2 ^ 32 - 2 → shown_header elsewhere h / 2 ^ 32 ≡ 2 ^ 32 - 1
@@ -141,6 +141,7 @@ module _ (C start : ℕ) (s : State ℕ View) (m : KeepsMarks C start s.words s.
         encodes = subst (Encodes C kept.consumer.head kept.consumer.cleared m.headers) (sym (set-get_or s.words j 0))
             (encodes_after C start m.headers s.words s.views m.kept kept.consumer.head kept.consumer.cleared m.encodes
             after.0 after.1);
+        rests = rests_on C start m.rests after;
       }
 
   -- the read comes to a position

@@ -39,6 +39,7 @@ module _ (C start : ℕ) where
         kept = kept;
         shelf = shelf;
         encodes = subst (λ (z : ConsumerView). Encodes C z.head z.cleared m.headers s.words) one m.encodes;
+        rests = subst (λ (z : ConsumerView). z.cleared ≡ z.head) one m.rests;
       }
 
   pub split_marks : (id : ℕ) (v left right : View) → IsReaderOf v left → IsReaderOf v right
@@ -91,6 +92,7 @@ module _ (C start : ℕ) where
         kept = kept;
         shelf = shelf;
         encodes = subst (λ (z : ConsumerView). Encodes C z.head z.cleared words words) mine no_marks;
+        rests = subst (λ (z : ConsumerView). z.cleared ≡ z.head) mine refl;
       }
     where
       no_marks : Encodes C start start words words

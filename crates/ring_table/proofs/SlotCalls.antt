@@ -80,6 +80,17 @@ module _ {id : TableId} {key : Key} {capacity : ℕ} {seat : Seat ℕ View} (tab
             (λ k. (sym key_is k, sym there k)) allows,
       )
 
+  -- a step of the rule with marks at a word of the trailer
+  pub trailer_mark_step : (i word : ℕ) → word < 96 → i ≡ capacity / 8 + word → (f : ℕ → ℕ) (told : ℕ → Mine → Type 0)
+      → Allows (Marked capacity key.start) id.slots seat.id seat.me (capacity / 8 + word) f told
+      → (seat.table_id ≡ id) × (i < id.words) × Allows (Marked key.capacity key.start) id.slots seat.id seat.me i f told
+  trailer_mark_step i word inside is f told allows = (
+    table,
+    omega arith,
+    subst (λ (z : ℕ × ℕ). Allows (Marked z.0 key.start) id.slots seat.id seat.me z.1 f told)
+        (λ k. (sym key_is k, sym is k)) allows,
+  )
+
 -- where the mark of an own claim that is not settled lies, and which it is: the code wraps, though no position is so far
 pub lies_ahead : (C start id : ℕ) (v : View) (k : ℕ) (c : StagedClaim) → HasClaim v k c → (IsSettled c.stage → ⊥)
     → (bytes kind mark h : ℕ) → Shows h bytes kind → kind < 8 → bytes ≡ staged_span c

@@ -10,14 +10,16 @@ ghost use Rattle.ring_table.specs.ProducerSteps.{HasClaimAt, IsStagedOpen, Mine,
 ghost use Rattle.ring_table.specs.Seats.{IsSameSeat, IsSeatOf};
 ghost use Rattle.ring_table.specs.SlotSteps.{IsHolderOf, IsSameHolder};
 ghost use Rattle.ring_table.specs.Staged.{AreRising, PlacedMessage, Padded, Stored};
-ghost use Rattle.ring_table.specs.Views.{cleared_to, with_consumer};
+ghost use Rattle.ring_table.specs.ConsumerSteps.{HasLastAhead, StoresHead, StoresHeadBefore};
 
 use crate::mode::InSlots;
+use crate::plays::consumer::{StoreHead, StoreHeadBefore};
 use crate::plays::producer::{StoreAborted, StoreCommitted, StorePadding};
-use crate::plays::slots::{ClearUp, LoadFirstMark, LoadNextMark};
+use crate::plays::slots::{LoadFirstMark, LoadNextMark};
 use crate::steps::slots::return_slots;
-use crate::steps::{RingSeat, SharedRing};
+use crate::steps::{RingSeat, SharedRing, trailer_word};
 use crate::view::Wanted;
+use ring_layout::ring_buffer_descriptor::HEAD_POSITION_WORD;
 use ring_layout::{align8, padding_header, word_index};
 
 /// The kind of a committed record, in the low three bits of a mark.
@@ -182,16 +184,34 @@ pub(crate) fn load_next_mark(
     read_mark(ring, consumer, capacity, scan, mark)
 }
 
-/// What the read has passed up to the position `to` counts as cleared. No word is stored: the marks there are below the
-/// positions of the next lap.
-pub fn clear_marks(ring: &SharedRing<InSlots>, consumer: &mut RingSeat, capacity: u32, to: u64)
+/// Stores the head after all that the read has passed, which counts as cleared with this store. The marks there are below
+/// the positions of the next lap, so no word of a record is stored.
+pub fn pass_marks(ring: &SharedRing<InSlots>, consumer: &mut RingSeat, capacity: u32, head: u64)
     requires seat { IsSeatOf ring.now.table_id ring.now.key capacity consumer.old }
     requires consumes { consumer.old.me.0.consumes ≡ true }
-    requires passed { (consumer.old.me.0.consumer.cleared < to) × (to ≤ consumer.old.me.0.consumer.scan) }
-    requires near { to ≤ consumer.old.me.0.consumer.cleared + capacity }
-    requires whole { to % 8 ≡ 0 }
+    requires scan { consumer.old.me.0.consumer.scan ≡ head }
+    requires ahead { consumer.old.me.0.consumer.cleared ≤ head }
+    requires whole { head % 8 ≡ 0 }
     ensures seat { IsSameSeat consumer.old consumer.new }
-    ensures view { consumer.new.me.0 ≡ with_consumer (cleared_to to consumer.old.me.0.consumer) consumer.old.me.0 }
+    ensures told { StoresHead consumer.old.me.0 consumer.new.me.0 }
 {
-    ring.load::<ClearUp>(consumer, word_index(capacity, to));
+    ring.store::<StoreHead>(consumer, trailer_word(capacity, HEAD_POSITION_WORD), head);
+}
+
+/// Stores the head before the last message that the read has got, which stays in the ring. What is before the message
+/// counts as cleared with this store.
+pub fn pass_marks_before(
+    ring: &SharedRing<InSlots>,
+    consumer: &mut RingSeat,
+    capacity: u32,
+    head: u64,
+)
+    requires seat { IsSeatOf ring.now.table_id ring.now.key capacity consumer.old }
+    requires consumes { consumer.old.me.0.consumes ≡ true }
+    requires last { HasLastAhead head consumer.old.me.0 }
+    requires whole { head % 8 ≡ 0 }
+    ensures seat { IsSameSeat consumer.old consumer.new }
+    ensures told { StoresHeadBefore consumer.old.me.0 consumer.new.me.0 }
+{
+    ring.store::<StoreHeadBefore>(consumer, trailer_word(capacity, HEAD_POSITION_WORD), head);
 }
