@@ -112,7 +112,8 @@ module _ (C tail : ℕ) (slots : List ℕ) (shown : ℕ → ℕ) (e : ℕ) (c : 
             ap shown there ∙ inner j (omega (arith, lt, bounds))
 
     one_record : (w : ℕ) (ms : List PlacedMessage) (k : ℕ) → shown c.place ≡ w
-        → Adds C tail slots c.place w (claim_end c) ms k → shown_at c.stage (placed_message c) ≡ ms → one_if_unsettled c.stage ≡ k
+        → Adds C tail slots c.place w (claim_end c) ms k → shown_at c.stage (placed_message c) ≡ ms
+        → one_if_unsettled c.stage ≡ k
         → Gives C tail slots c.place (c ∷ cs) (headers_in shown size c.place ++ hs)
     one_record w ms k is d sees waits =
         let more : size ≡ suc (size - 1) = omega (arith, bounds) in

@@ -45,7 +45,8 @@ abbrev pub HaveRecords : ℕ → List ℕ → List StagedClaim → Type 0
 HaveRecords C slots [] = ⊤
 HaveRecords C slots (c ∷ cs) = (IsSettled c.stage → HaveRecord C slots c.place c.message) × HaveRecords C slots cs
 
-has_header : (C : ℕ) (slots : List ℕ) (place : ℕ) (m : Message) → C ≤ 2 ^ 24 → IsMessage C m → HaveRecord C slots place m
+has_header : (C : ℕ) (slots : List ℕ) (place : ℕ) (m : Message) → C ≤ 2 ^ 24 → IsMessage C m
+    → HaveRecord C slots place m
     → slice_index slots (index C place) ≡ committed_header m.type_id (length m.body)
 has_header C slots place m most is have =
     let here : place ≡ place + 0 = omega arith in
@@ -97,7 +98,8 @@ inner_word : (c : StagedClaim) (p : ℕ) → c.place ≤ p → p ≢ c.place →
 inner_word c p le ne = staged_word-record elsewhere c p le ∙ ap (masked_record c.stage)
     (cond-false _ _ _ (ne_eqb (p - c.place) 0 (λ none. omega arith))) ∙ masked_zero c.stage
 
-same_padding : (c : StagedClaim) (p : ℕ) → p < c.place → staged_word elsewhere (filled_record c) p ≡ staged_word elsewhere c p
+same_padding : (c : StagedClaim) (p : ℕ) → p < c.place
+    → staged_word elsewhere (filled_record c) p ≡ staged_word elsewhere c p
 unfolding staged_word
 same_padding c p before = cond-true _ _ _ (lt-ltb p c.place before) ∙ sym (cond-true _ _ _ (lt-ltb p c.place before))
 
@@ -163,7 +165,8 @@ module _ (C head : ℕ) (words slots : List ℕ) (cs : List StagedClaim) (cap : 
       let eight = whole_bytes h in
       let few = few_of h in
       let full : 8 ≤ bytes_of h = long_bytes h some near.length_is in
-      let same : mark_of p (decoded p w y) ≡ w = ap (mark_of p) decodes ∙ same_marks C head cs p cap placed ∙ sym mark in
+      let same : mark_of p (decoded p w y) ≡ w =
+      ap (mark_of p) decodes ∙ same_marks C head cs p cap placed ∙ sym mark in
       cond-false _ _ _ (lt-leb w p (omega arith))
       ∙ cond-true _ _ _ (λ i. (le-leb (p + 8) (w - w % 8) (omega arith) i
       && lt-ltb (w - w % 8 - p) (2 ^ 31) (omega arith) i) && eq-eqb (mark_of p (decoded p w y)) w same i)

@@ -85,8 +85,8 @@ module _ (C tail at : ℕ) (words slots : List ℕ) (aligned : (at % 8 ≡ 0) ×
   rest = headers_between C words slots (at + 8) tail
 
   found : (w ≡ 0 → ⊥) → headers_between C words slots at tail ≡ (at, w) ∷ rest
-  found some = finds_header (recovered_header C words slots) ((tail - at) / 8) ((tail - (at + 8)) / 8) at (at + 8) w less
-      refl (sym there_is) some
+  found some = finds_header (recovered_header C words slots) ((tail - at) / 8) ((tail - (at + 8)) / 8) at (at + 8) w
+      less refl (sym there_is) some
 
   pub finds_message : (m : RecoveredMessage) → o ≡ Some m
       → messages_of C slots tail (headers_between C words slots at tail) ≡ m ∷ messages_of C slots tail rest

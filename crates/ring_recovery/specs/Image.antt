@@ -17,8 +17,8 @@ HaveRecord C slots place m = (at : ℕ) → at % 8 ≡ 0 → at < 8 + length m.b
     → slice_index slots (index C (place + at)) ≡ body_word (slot_bytes m) at
 
 -- The slots are those of a ring. A slot at home has its word. A slot that the reader has out to read a message still
--- has the word of this message's record, since a reader stores nothing there. Nothing is said of the slots that producers have
--- out to fill them.
+-- has the word of this message's record, since a reader stores nothing there. Nothing is said of the slots that
+-- producers have out to fill them.
 pub record IsImage (C : ℕ) (homes : List (Option ℕ)) (views : List View) (slots : List ℕ) : Type 0 where
   pub wide : length slots ≡ C / 8
   pub home : (i y : ℕ) → get_elem? homes i ≡ some (some y) → get_elem? slots i ≡ some y

@@ -116,7 +116,8 @@ module _ (C start : ℕ) (s : State ℕ View) (m : KeepsMarks C start s.words s.
       let views' : List View = set s.views id (now q) in
       let kept : Kept elsewhere C start t.headers views' =
       subst (λ z. Kept elsewhere C start t.headers (set s.views id (now z))) is t.kept in
-      let its = ((kept.seated.each id (now q) (set_here s.views id (now q) (at_below s.views id v at))).consumes consumes).1 in
+      let here = set_here s.views id (now q) (at_below s.views id v at) in
+      let its = ((kept.seated.each id (now q) here).consumes consumes).1 in
       let head' : r.consumer.head ≡ kept.consumer.head = sym heads ∙ ap (λ (z : ConsumerView). z.head) its in
       let cleared' : q ≡ kept.consumer.cleared = ap (λ (z : ConsumerView). z.cleared) its in
       let encodes : Encodes C kept.consumer.head kept.consumer.cleared t.headers s.words =
@@ -128,8 +129,8 @@ module _ (C start : ℕ) (s : State ℕ View) (m : KeepsMarks C start s.words s.
       omega arith)) in
       let c = is_cleared C start t.headers views' kept in
       let risen : Encodes C q q t.headers s.words = subst (λ z. Encodes C z z t.headers s.words) (sym cleared')
-      (encodes_risen C start kept.lawful kept.consumer.head kept.consumer.cleared t.headers s.words encodes c.order c.near
-      c.zeros (capacity_aligned C kept.lawful.capacity)) in
+      (encodes_risen C start kept.lawful kept.consumer.head kept.consumer.cleared t.headers s.words encodes c.order
+      c.near c.zeros (capacity_aligned C kept.lawful.capacity)) in
       let w : View = stored q got in
       let same : slice_index t.headers (head_index C) ≡ slice_index s.words (head_index C) =
       t.trailer (head_index C) (omega arith) ∙ sym (m.encodes.trailer (head_index C) (omega arith)) in
@@ -165,7 +166,8 @@ module _ (C start : ℕ) where
             (passes_to C start s m id v at consumes q got bare on (omega arith) q8 (λ headers kept same.
             let u = stores_head elsewhere C start slots id (c, me.1) q consumes scan refl
             (record { words = headers; homes = s.homes; views = set s.views id c }) kept wide
-            (set_here s.views id c (at_below s.views id v at)) (subst (λ z. z < 18446744073709551616) (sym same) small) in
+            (set_here s.views id c (at_below s.views id v at))
+            (subst (λ z. z < 18446744073709551616) (sym same) small) in
             subst (λ z. Kept elsewhere C start (set headers (head_index C) q) (set (set s.views id c) id z))
             (u.4.1 ∙ ap (λ z. with_consumer (stands_at z got v.consumer) v) scan) u.3)),
         (refl, refl),
@@ -187,7 +189,8 @@ module _ (C start : ℕ) where
             (passes_to C start s m id v at consumes q l.front bare l.ahead l.scan q8 (λ headers kept same.
             let u = stores_head_before elsewhere C start slots id (c, me.1) q l.front l.last consumes l.got l.place refl
             (record { words = headers; homes = s.homes; views = set s.views id c }) kept wide
-            (set_here s.views id c (at_below s.views id v at)) (subst (λ z. z < 18446744073709551616) (sym same) small) in
+            (set_here s.views id c (at_below s.views id v at))
+            (subst (λ z. z < 18446744073709551616) (sym same) small) in
             subst (λ z. Kept elsewhere C start (set headers (head_index C) q) (set (set s.views id c) id z))
             (u.4.1 l.front l.last l.got ∙ ap (λ z. with_consumer (stands_at z l.front v.consumer) v) l.place) u.3)),
         (

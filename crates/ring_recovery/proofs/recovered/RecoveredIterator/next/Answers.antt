@@ -16,4 +16,5 @@ pub loop-self-preserved : goal.loop-self-preserved
 loop-self-preserved c =
     let r = c.loop-self.self in
     sym (finds_none r.capacity r.tail r.at r.words.now r.slots.now r.aligned c.loop-self-test.true c.message_at.result
-    c.recovered_header-header.result c.recovered_header-header.ensures (search rules) (search rules)) ∙ c.loop-self.invariant
+    c.recovered_header-header.result c.recovered_header-header.ensures (search rules) (search rules))
+    ∙ c.loop-self.invariant
