@@ -37,7 +37,7 @@ shows_padding C words slots at n most at8 n8 some le is =
     shows C words slots at n padding_kind at8 n8 some (omega arith) is
     ∙ cond-true _ _ _ (lt-ltb n (2 ^ 31) (omega (arith, most, le)))
 
-above_zero : (z : ℤ) → pos 1 ≤ℤ z → int_lt (pos 0) z ≡ true
+pub above_zero : (z : ℤ) → pos 1 ≤ℤ z → int_lt (pos 0) z ≡ true
 above_zero z h = grind (arith, ints)
 
 module _ (C : ℕ) (words slots : List ℕ) (place : ℕ) (c : Claim) (ok : IsCapacity C)

@@ -2,6 +2,7 @@ pub mod Listing
 pub mod RingRecords
 pub mod Marks
 pub mod PlainWords
+pub mod PlainRecords
 pub mod CounterWords
 pub mod CounterRecords
 pub mod BoardRecords
