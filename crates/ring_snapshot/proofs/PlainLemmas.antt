@@ -1,5 +1,5 @@
 -- The words and the slots of a plain ring with a history, joined, are the words of the history.
-use Rattle.std.specs.Prelude.{◌==◌, ◌&&◌, ◌||◌, if◌then◌else◌, All, int_lt, nat_le, nat_lt, replicate, set, take, drop}
+use Rattle.std.specs.Prelude.{◌==◌, ◌&&◌, ◌||◌, if◌then◌else◌, All, int_lt, is_none, min, nat_le, nat_lt, replicate, set, take, drop}
 use Rattle.std.proofs.Common.{◌≡◌, ◌≢◌, ℕ, zero, suc, ◌+◌, ◌-◌, ◌*◌, ◌/◌, ◌%◌, ◌^◌, ◌<◌, ◌≤◌, ◌⊎◌, List, [], ◌∷◌, length, slice_index, refl, ap, sym, ◌∙◌, arith, inl, inr, ℤ, pos, neg_ℤ, nat_abs, ◌≤ℤ◌, FitsSigned, true, false, rules, ⊎_elim}
 use Rattle.std.proofs.lemmas.Bool.{cases_eq, cases_lt, ne_eqb, lt-ltb, le-leb, lt-leb, cond-true, cond-false}
 use Rattle.std.proofs.lemmas.Int.{ints}
@@ -8,23 +8,24 @@ use Rattle.std.proofs.Common.{eq-eqb}
 use Rattle.ring_layout.specs.declared.message.Claim.{Claim}
 use Rattle.std.proofs.Common.{subst}
 use Rattle.std.proofs.lemmas.Nat.{mod_below}
-use Rattle.ring_layout.specs.History.{overwritten, span_of}
+use Rattle.std.proofs.lemmas.List.Elements.{All-cons, All-nil}
+use Rattle.ring_layout.specs.History.{overwritten, span_of, IsMessage}
 use Rattle.ring_layout.specs.Picture.{claim_word, word_at}
 use Rattle.ring_layout.proofs.PictureLemmas.{word_at_padding, word_at_padding_header, word_at_record, word_at_rest}
-use Rattle.ring_layout.proofs.PlaceLemmas.{end_of_le, next_aligned, next_cases, next_le, next_within, span_bounds}
+use Rattle.ring_layout.proofs.PlaceLemmas.{end_of_aligned, end_of_le, next_aligned, next_cases, next_le, next_within, span_bounds}
 use Rattle.ring_words.proofs.HeadLemmas.{state_cases, header_open, header_committed, header_aborted}
 use Rattle.ring_layout.specs.Layout.{ring_words}
 use Rattle.ring_layout.specs.Places.{end_of, index, next_place, room, IsCapacity}
 use Rattle.ring_layout.proofs.CapacityLemmas.{capacity_blocks}
-use Rattle.ring_layout.proofs.Laps.{IsLap, IsInLap, LieInLap, index_outside, index_step}
+use Rattle.ring_layout.proofs.Laps.{mod_aligned, mod_room, IsLap, IsInLap, LieInLap, index_outside, index_step}
 use Rattle.ring_snapshot.specs.Marks.{HasMark, header_at, kind_in, kind_of, padding_kind}
-use Rattle.ring_snapshot.specs.PlainRecords.{HasClaim, HaveClaims}
-use Rattle.ring_snapshot.specs.PlainWords.{body_at, joined_from, span_at, with_record}
+use Rattle.ring_snapshot.specs.PlainRecords.{ArePlain, HasClaim, HaveClaims}
+use Rattle.ring_snapshot.specs.PlainWords.{body_at, joined_between, joined_from, span_at, with_record, with_zeros}
 use Rattle.std.specs.Int.{w32}
 use Rattle.ring_layout.specs.Headers.{header, header_of, padding_header, padding_type}
 use Rattle.ring_layout.proofs.HeaderLemmas.{fits_neg, fits_pos}
 use Rattle.ring_snapshot.specs.Listing.{up_to_eight}
-use Rattle.ring_snapshot.specs.RingRecords.{is_length, is_padding_type}
+use Rattle.ring_snapshot.specs.RingRecords.{is_length, is_padding_type, positions_finding, Lie}
 use Rattle.ring_snapshot.proofs.EntryLemmas.{decoded}
 use Rattle.ring_snapshot.proofs.JoinLemmas.{joined_goes, joined_over}
 use Rattle.ring_snapshot.proofs.ListingLemmas.{abs_neg, length_fits}
@@ -409,3 +410,95 @@ module _ (C : ℕ) (slots : List ℕ) (tail : ℕ) (ok : IsCapacity C) (many : l
             (from_claim c h e e8 ends near rest m words wide (omega (arith, enough, begins)) have.0.mark have.0.body
             have.1)
       ]
+
+-- ---- the whole
+
+-- zeros from the tail on are not among the words before it
+zeros_past : (C : ℕ) (words : List ℕ) (tail n x : ℕ) → IsCapacity C → length words ≡ ring_words C → tail % 8 ≡ 0
+    → 8 * n ≤ C → x % 8 ≡ 0 → x < tail → tail + 8 * n ≤ x + C
+    → slice_index (with_zeros C tail n words) (index C x) ≡ slice_index words (index C x)
+zeros_past C words tail n x ok wide tail8 few x8 below near =
+    let lap : IsLap C = record { some = omega (arith, ok.least); whole = omega (arith, capacity_blocks C ok) } in
+    let i : ℕ = index C tail in
+    let j : ℕ = index C x in
+    let first : ℕ = min n (C / 8 - i) in
+    let under = mod_below tail C lap.some in
+    let low : i < C / 8 = omega (arith, under, lap.whole) in
+    let m8 = mod_aligned C tail lap.whole tail8 in
+    let itself : IsInLap C x x = record { whole = x8; from = omega arith; below = omega (arith, lap.some) } in
+    let least : (first ≤ n) × (first ≤ C / 8 - i) = grind (arith) in
+    let out = index_outside C x tail (8 * first) x lap record {
+      whole = tail8;
+      words = omega arith;
+      within = omega (arith, least.1, low, m8, lap.whole);
+      from = omega (arith, below);
+      to = omega (arith, least.0, near);
+    } itself (inl below) in
+    let rest : n - first ≤ j = elim (cases_lt first n) as (λ _. n - first ≤ j) [
+      | inl more ↦
+          let full : first ≡ C / 8 - i = grind (arith, more) in
+          let z : ℕ = tail + room C tail in
+          let start : z % C ≡ 0 = mod_room C tail lap.some in
+          let long : room C tail ≡ 8 * first = omega (arith, full, under, m8, lap.whole) in
+          let past = index_outside C x z (8 * (n - first)) x lap record {
+            whole = omega (arith, long, tail8);
+            words = omega arith;
+            within = omega (arith, start, few);
+            from = omega (arith, below);
+            to = omega (arith, long, more, near);
+          } itself (inl (omega (arith, below))) in
+          elim past as (λ _. n - first ≤ j) [
+            | inl lt ↦ absurd (omega (arith, lt, start))
+            | inr ge ↦ omega (arith, ge, start)
+          ]
+      | inr all ↦ omega (arith, all)
+    ] in
+    elim out as (λ _. slice_index (with_zeros C tail n words) j ≡ slice_index words j) [
+      | inl lt ↦ grind (arith, places, lt, rest, least, low, wide)
+      | inr ge ↦ let ge' : i + first ≤ j = omega (arith, ge) in grind (arith, places, ge', rest, least, low, wide)
+    ]
+
+zeros_long : (C : ℕ) (words : List ℕ) (tail n : ℕ) → IsCapacity C → length words ≡ ring_words C → 8 * n ≤ C
+    → length (with_zeros C tail n words) ≡ length words
+zeros_long C words tail n ok wide few =
+    let under = mod_below tail C (omega (arith, ok.least)) in
+    let low : index C tail < C / 8 = omega (arith, under, capacity_blocks C ok) in
+    let least : (min n (C / 8 - index C tail) ≤ n) × (min n (C / 8 - index C tail) ≤ C / 8 - index C tail) =
+        grind (arith) in
+    grind (arith, places, low, least, wide, few)
+
+-- the messages of the claims are messages
+lawful_claims : (C : ℕ) (words slots : List ℕ) (h : List Claim) (e : ℕ) → HaveClaims C words slots e h
+    → All (λ c. IsMessage C c.message) h
+lawful_claims C words slots [] e have = All-nil (λ (c : Claim). IsMessage C c.message)
+lawful_claims C words slots (c ∷ h) e have =
+    All-cons (λ (x : Claim). IsMessage C x.message) c h have.0.mark.lawful
+    (lawful_claims C words slots h (next_place C e (span_of c) + span_of c) have.1)
+
+pub joined_lies : (C : ℕ) (words slots : List ℕ) (tail head : ℕ) (h : List Claim) → IsCapacity C
+    → length words ≡ ring_words C → length slots ≡ C / 8 → ArePlain C words slots tail head h
+    → Lie C (joined_between C slots head tail words) tail head h
+joined_lies C words slots tail head h ok wide many plain =
+    let lap : IsLap C = record { some = omega (arith, ok.least); whole = omega (arith, capacity_blocks C ok) } in
+    let head8 = plain.aligned in
+    let ends = plain.ends in
+    let near = plain.near in
+    let le : head ≤ tail = omega (arith, ends, end_of_le C head h) in
+    let tail8 : tail % 8 ≡ 0 = ap (λ t. t % 8) (sym ends) ∙ end_of_aligned C head h lap.some lap.whole head8 in
+    let rest : ℕ = (C - (tail - head)) / 8 in
+    let cleared : List ℕ = with_zeros C tail rest words in
+    let few : 8 * rest ≤ C = omega arith in
+    let whole : tail + 8 * rest ≡ head + C = omega (arith, lap.whole, head8, tail8, le, near) in
+    let long : length cleared ≡ ring_words C = zeros_long C words tail rest ok wide few ∙ wide in
+    let ordered : is_none (positions_finding C head tail) ≡ true = grind (arith, head8, tail8, le, near) in
+    let shows = shows_claims C slots tail ok many h ((tail - head) / 8) head cleared long head8 ends near
+        (omega (arith, le, head8, tail8))
+        (stable C slots words cleared h head lap head8 (λ x x8 from below. zeros_past C words tail rest x ok wide tail8
+        few x8 (omega (arith, below, ends)) (omega (arith, whole, from))) plain.claims) in
+    record {
+      lawful = lawful_claims C words slots h head plain.claims;
+      ends = ends;
+      picture = λ p p8 from below.
+          ap (λ w. slice_index w (index C p)) (cond-true _ (joined_from C slots tail ((tail - head) / 8) head cleared)
+          words ordered) ∙ shows.picture p p8 from below;
+    }
