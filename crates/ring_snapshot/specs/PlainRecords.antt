@@ -3,9 +3,11 @@
 use Rattle.std.specs.Prelude.{◌≡◌, ℕ, ◌+◌, ◌%◌, ◌<◌, ◌≤◌, List, [], ◌∷◌, ⊤, slice_index}
 use Rattle.ring_layout.specs.declared.message.Claim.{Claim}
 use Rattle.ring_layout.specs.History.{span_of}
+use Rattle.ring_layout.specs.Layout.{head_index, tail_index}
 use Rattle.ring_layout.specs.Picture.{claim_word}
 use Rattle.ring_layout.specs.Places.{index, next_place, end_of}
 use Rattle.ring_snapshot.specs.Marks.{HasMark, padding_kind}
+use Rattle.ring_snapshot.specs.RingRecords.{Lie}
 
 -- a plain ring has a claim that comes after e, at this place: the marks of the claim and of the padding before it, and
 -- the words of its body
@@ -27,3 +29,12 @@ pub record ArePlain (C : ℕ) (words slots : List ℕ) (tail head : ℕ) (h : Li
   pub ends : end_of C head h ≡ tail
   pub near : tail ≤ head + C
   pub claims : HaveClaims C words slots head h
+
+-- the words and the slots are those of a plain ring with these claims
+abbrev pub IsPlain : ℕ → List ℕ → List ℕ → List Claim → Type 0
+IsPlain C words slots h =
+    ArePlain C words slots (slice_index words (tail_index C)) (slice_index words (head_index C)) h
+
+-- the new words have these claims between the old head and the old tail
+abbrev pub LiesBetween : ℕ → List ℕ → List ℕ → List Claim → Type 0
+LiesBetween C old new h = Lie C new (slice_index old (tail_index C)) (slice_index old (head_index C)) h

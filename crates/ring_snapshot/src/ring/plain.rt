@@ -1,12 +1,14 @@
 //! The words of a plain ring. Its own words have marks. Slots have the headers and the words of the bodies at the same
 //! indexes.
-ghost use Rattle.std.specs.Prelude.{◌≡◌, ◌≢◌, ℕ, ◌+◌, ◌-◌, ◌/◌, ◌≤◌, ◌==◌, if◌then◌else◌, length, replicate, set, slice_index, Err, IfErr, IfOk, None, Some};
+ghost use Rattle.std.specs.Prelude.{◌≡◌, ◌≢◌, ℕ, ◌+◌, ◌-◌, ◌/◌, ◌≤◌, ◌==◌, if◌then◌else◌, List, length, replicate, set, slice_index, Err, IfErr, IfOk, None, Some};
+ghost use Rattle.ring_layout.specs.declared.message.Claim.{Claim};
 ghost use Rattle.ring_layout.specs.History.{overwritten};
 ghost use Rattle.ring_layout.specs.Places.{index, IsCapacity};
 ghost use Rattle.ring_layout.specs.Layout.{ring_words};
 ghost use Rattle.ring_layout.specs.Refusals.{IsRefusedBy};
 ghost use Rattle.ring_snapshot.specs.declared.ring_finding.RingFinding.TheVariants.{BadBodies, BadSize};
 ghost use Rattle.ring_snapshot.specs.Marks.{header_at};
+ghost use Rattle.ring_snapshot.specs.PlainRecords.{IsPlain, LiesBetween};
 ghost use Rattle.ring_snapshot.specs.PlainWords.{joined, joined_from, span_at, with_body, with_record, with_zeros};
 
 use crate::ring::RingSnapshot;
@@ -147,6 +149,8 @@ pub fn join_bodies(words: &mut [u64], slots: &[u64]) -> Result<(), RingFinding>
     ensures same { IfErr result (λ _. words.new ≡ words.old) }
     ensures joined { (C : ℕ) → IsCapacity C → length words.old ≡ ring_words C
         → IfOk result (λ _. words.new ≡ joined C slots.now words.old) }
+    ensures history { (C : ℕ) (h : List Claim) → IsCapacity C → length words.old ≡ ring_words C
+        → IsPlain C words.old slots.now h → IfOk result (λ _. LiesBetween C words.old words.new h) }
     ensures length { length words.new ≡ length words.old }
     ensures trailer { (i : ℕ) → length words.old ≤ i + 96 → slice_index words.new i ≡ slice_index words.old i }
 {
