@@ -4,6 +4,7 @@ pub mod StepLemmas
 pub mod ListingLemmas
 pub mod JoinLemmas
 pub mod MarkLemmas
+pub mod PlainSteps
 pub mod PlainLemmas
 pub mod CounterLemmas
 pub mod WriteLemmas

@@ -1,231 +1,27 @@
 -- The words and the slots of a plain ring with a history, joined, are the words of the history.
-use Rattle.std.specs.Prelude.{◌==◌, ◌&&◌, ◌||◌, if◌then◌else◌, All, int_lt, is_none, min, nat_le, nat_lt, replicate, set, take, drop}
-use Rattle.std.proofs.Common.{◌≡◌, ◌≢◌, ℕ, zero, suc, ◌+◌, ◌-◌, ◌*◌, ◌/◌, ◌%◌, ◌^◌, ◌<◌, ◌≤◌, ◌⊎◌, List, [], ◌∷◌, length, slice_index, refl, ap, sym, ◌∙◌, arith, inl, inr, ℤ, pos, neg_ℤ, nat_abs, ◌≤ℤ◌, FitsSigned, true, false, rules, ⊎_elim}
-use Rattle.std.proofs.lemmas.Bool.{cases_eq, cases_lt, ne_eqb, lt-ltb, le-leb, lt-leb, cond-true, cond-false}
-use Rattle.std.proofs.lemmas.Int.{ints}
-use Rattle.std.proofs.lemmas.List.{get_or-set_same, length-set, places}
-use Rattle.std.proofs.Common.{eq-eqb}
+use Rattle.std.specs.Prelude.{All, is_none, min}
+use Rattle.std.proofs.Common.{◌≡◌, ℕ, zero, suc, ◌+◌, ◌-◌, ◌*◌, ◌/◌, ◌%◌, ◌<◌, ◌≤◌, List, [], ◌∷◌, length, slice_index, ap, sym, ◌∙◌, arith, inl, inr, true}
+use Rattle.std.proofs.lemmas.Bool.{cases_eq, cases_lt, cond-true}
+use Rattle.std.proofs.lemmas.List.{places}
 use Rattle.ring_layout.specs.declared.message.Claim.{Claim}
 use Rattle.std.proofs.Common.{subst}
 use Rattle.std.proofs.lemmas.Nat.{mod_below}
 use Rattle.std.proofs.lemmas.List.Elements.{All-cons, All-nil}
-use Rattle.ring_layout.specs.History.{overwritten, span_of, IsMessage}
+use Rattle.ring_layout.specs.History.{span_of, IsMessage}
 use Rattle.ring_layout.specs.Picture.{claim_word, word_at}
 use Rattle.ring_layout.proofs.PictureLemmas.{word_at_padding, word_at_padding_header, word_at_record, word_at_rest}
 use Rattle.ring_layout.proofs.PlaceLemmas.{end_of_aligned, end_of_le, next_aligned, next_cases, next_le, next_within, span_bounds}
-use Rattle.ring_words.proofs.HeadLemmas.{state_cases, header_open, header_committed, header_aborted}
 use Rattle.ring_layout.specs.Layout.{ring_words}
 use Rattle.ring_layout.specs.Places.{end_of, index, next_place, room, IsCapacity}
 use Rattle.ring_layout.proofs.CapacityLemmas.{capacity_blocks}
-use Rattle.ring_layout.proofs.Laps.{mod_aligned, mod_room, IsLap, IsInLap, LieInLap, index_outside, index_step}
-use Rattle.ring_snapshot.specs.Marks.{HasMark, header_at, kind_in, kind_of, padding_kind}
+use Rattle.ring_layout.proofs.Laps.{mod_aligned, mod_room, IsLap, IsInLap, index_outside}
+use Rattle.ring_snapshot.specs.Marks.{HasMark, padding_kind}
 use Rattle.ring_snapshot.specs.PlainRecords.{ArePlain, HasClaim, HaveClaims}
-use Rattle.ring_snapshot.specs.PlainWords.{body_at, joined_between, joined_from, span_at, with_record, with_zeros}
-use Rattle.std.specs.Int.{w32}
-use Rattle.ring_layout.specs.Headers.{header, header_of, padding_header, padding_type}
-use Rattle.ring_layout.proofs.HeaderLemmas.{fits_neg, fits_pos}
-use Rattle.ring_snapshot.specs.Listing.{up_to_eight}
-use Rattle.ring_snapshot.specs.RingRecords.{is_length, is_padding_type, positions_finding, Lie}
-use Rattle.ring_snapshot.proofs.EntryLemmas.{decoded}
-use Rattle.ring_snapshot.proofs.JoinLemmas.{joined_goes, joined_over}
-use Rattle.ring_snapshot.proofs.ListingLemmas.{abs_neg, length_fits}
-use Rattle.ring_snapshot.proofs.MarkLemmas.{above_zero, shows_claim, shows_padding}
-
--- ---- the words of one record
-
--- the words are those before, with a header at an index, and other words after it up to n words in all
-record Laid (word : ℕ → ℕ) (old new : List ℕ) (i n header : ℕ) : Type 0 where
-  wide : length new ≡ length old
-  first : slice_index new i ≡ header
-  body : (k : ℕ) → 0 < k → k < n → slice_index new (i + k) ≡ word (i + k)
-  same : (j : ℕ) → (j < i) ⊎ (i + n ≤ j) → slice_index new j ≡ slice_index old j
-
-module _ (old : List ℕ) (i n header : ℕ) (some : 0 < n) (fits : i + n ≤ length old) where
-  -- a header, and these words after it
-  laid : (after : List ℕ) → length after ≡ n - 1
-      → Laid (λ j. slice_index after (j - (i + 1))) old (set (overwritten (i + 1) after old) i header) i n header
-  laid after long =
-      let over : length (overwritten (i + 1) after old) ≡ length old = grind (arith, places, some, fits, long) in
-      record {
-        wide = length-set (overwritten (i + 1) after old) i header ∙ over;
-        first = get_or-set_same (overwritten (i + 1) after old) i header 0 (omega (arith, over, some, fits));
-        body = λ k a b. grind (arith, places, some, fits, long);
-        same = λ j out. elim out as (λ _. slice_index (set (overwritten (i + 1) after old) i header) j
-            ≡ slice_index old j) [
-          | inl lt ↦ grind (arith, places, some, fits, long)
-          | inr ge ↦ grind (arith, places, some, fits, long)
-        ];
-      }
-
--- ---- the number of bytes that a header gives
-
-span_decoded : (C tail at w : ℕ) (len type_id : ℤ) → w ≡ header len type_id → FitsSigned w32 len
-    → FitsSigned w32 type_id → is_length C tail at (nat_abs len) ≡ true
-    → (int_lt (pos 0) type_id || int_lt (pos 0) len && is_padding_type type_id) ≡ true
-    → span_at C tail at w ≡ up_to_eight (nat_abs len)
-span_decoded C tail at w len type_id is f g fits kind =
-    decoded (λ l t. if is_length C tail at (nat_abs l)
-    && (int_lt (pos 0) t || int_lt (pos 0) l && is_padding_type t) then up_to_eight (nat_abs l) else 0)
-    w len type_id is f g
-    ∙ cond-true _ _ _ (λ i. fits i && kind i)
-
--- ---- one step of the walk
-
--- a record of n bytes with this header was written at a position, and the walk goes on after it
-record Steps (C : ℕ) (slots : List ℕ) (tail at n header : ℕ) (word : ℕ → ℕ) (old new : List ℕ) : Type 0 where
-  goes : (m : ℕ) → joined_from C slots tail (suc m) at old ≡ joined_from C slots tail m (at + n) new
-  wide : length new ≡ length old
-  first : slice_index new (index C at) ≡ header
-  body : (k : ℕ) → k % 8 ≡ 0 → 0 < k → k < n → slice_index new (index C (at + k)) ≡ word k
-  same : (x : ℕ) → x % 8 ≡ 0 → ((x < at) × (at + n ≤ x + C)) ⊎ ((at + n ≤ x) × (x < at + C))
-      → slice_index new (index C x) ≡ slice_index old (index C x)
-
-module _ (C : ℕ) (slots : List ℕ) (tail : ℕ) (ok : IsCapacity C) (many : length slots ≡ C / 8) where
-  lap : IsLap C
-  lap = record { some = omega (arith, ok.least); whole = omega (arith, capacity_blocks C ok) }
-
-  module _ (at n : ℕ) (old : List ℕ) (wide : length old ≡ ring_words C) (at8 : at % 8 ≡ 0) (n8 : n % 8 ≡ 0)
-      (some : 8 ≤ n) (within : at % C + n ≤ C) (inside : at + n ≤ tail)
-      (spans : span_at C tail at (header_at C old slots at) ≡ n) where
-    abbrev i : ℕ
-    i = index C at
-
-    steps : (after : List ℕ) → body_at old slots i (n / 8 - 1) ≡ after → length after ≡ n / 8 - 1
-        → Steps C slots tail at n (header_at C old slots at) (λ k. slice_index after (k / 8 - 1)) old
-        (with_record C slots at n old)
-    steps after is long =
-        let new : List ℕ = with_record C slots at n old in
-        let low : i + n / 8 ≤ C / 8 = omega (arith, within, n8, capacity_blocks C ok) in
-        let put = laid old i (n / 8) (header_at C old slots at) (omega (arith, some)) (omega (arith, low, wide))
-            after long in
-        let told : new ≡ set (overwritten (i + 1) after old) i (header_at C old slots at) =
-            ap (λ b. set (overwritten (i + 1) b old) i (header_at C old slots at)) is in
-        record {
-          goes = λ m. joined_goes C slots tail (suc m) m at n old new (omega arith) (omega (arith, inside, some))
-              (sym spans) (λ z. omega (arith, z, some))
-              (sym (cond-false _ _ _ (ne_eqb n 0 (λ z. omega (arith, z, some)))));
-          wide = ap length told ∙ put.wide;
-          first = ap (λ w. slice_index w i) told ∙ put.first;
-          body = λ k k8 above below.
-              let step = index_step C at (k / 8) lap.whole at8 (omega (arith, k8, below, within)) in
-              let there : index C (at + k) ≡ i + k / 8 =
-                  ap (index C) (let e : at + k ≡ at + 8 * (k / 8) = omega (arith, k8) in e) ∙ step in
-              let less : i + k / 8 - (i + 1) ≡ k / 8 - 1 = omega arith in
-              ap (λ w. slice_index w (index C (at + k))) told
-              ∙ ap (slice_index (set (overwritten (i + 1) after old) i (header_at C old slots at))) there
-              ∙ put.body (k / 8) (omega (arith, k8, above)) (omega (arith, k8, n8, below))
-              ∙ ap (slice_index after) less;
-          same = λ x x8 out.
-              ap (λ w. slice_index w (index C x)) told ∙ put.same (index C x) (elim out as (λ _.
-              (index C x < i) ⊎ (i + n / 8 ≤ index C x)) [
-                | inl b ↦ index_outside C x at n x lap
-                    record { whole = at8; words = n8; within = within; from = omega (arith, b.0); to = b.1 }
-                    record { whole = x8; from = omega arith; below = omega (arith, lap.some) } (inl b.0)
-                | inr b ↦ index_outside C at at n x lap
-                    record { whole = at8; words = n8; within = within; from = omega arith; to = omega (arith, within) }
-                    record { whole = x8; from = omega (arith, b.0); below = b.1 } (inr b.0)
-              ]);
-        }
-
-  -- the words of padding, and those of a claim
-  steps_padding : (e pad : ℕ) (old : List ℕ) → length old ≡ ring_words C → e % 8 ≡ 0 → pad % 8 ≡ 0 → 8 ≤ pad
-      → pad ≤ 8 + C / 8 → e % C + pad ≤ C → e + pad ≤ tail
-      → slice_index old (index C e) ≡ e + pad + padding_kind
-      → Steps C slots tail e pad (padding_header pad) (λ _. 0) old (with_record C slots e pad old)
-  steps_padding e pad old wide e8 pad8 some few within inside is =
-      let small : pad ≤ C = omega (arith, within) in
-      let head : header_at C old slots e ≡ padding_header pad =
-          shows_padding C old slots e pad ok.most e8 pad8 (omega (arith, some)) small is in
-      let kind : kind_in (slice_index old (index C e)) ≡ padding_kind = omega (arith, is, e8, pad8) in
-      let whole : up_to_eight pad ≡ pad = omega (arith, pad8) in
-      let fits = length_fits C tail e pad some few (omega (arith, whole, within)) (omega (arith, whole, inside)) in
-      let spans : span_at C tail e (header_at C old slots e) ≡ pad =
-          ap (span_at C tail e) head
-          ∙ span_decoded C tail e (padding_header pad) (pos pad) padding_type refl
-          (fits_pos pad (omega (arith, small, ok.most))) record { sfits = omega arith } fits
-          (let above : int_lt (pos 0) (pos pad) ≡ true = grind (arith, some) in
-          ap (λ b. b && is_padding_type padding_type) above) ∙ whole in
-      let s = steps e pad old wide e8 pad8 some within inside spans (replicate (pad / 8 - 1) 0)
-          (cond-true _ _ _ (eq-eqb _ padding_kind kind)) (grind (arith, places)) in
-      record {
-        goes = s.goes;
-        wide = s.wide;
-        first = s.first ∙ head;
-        body = λ k k8 above below. s.body k k8 above below ∙ grind (arith, places);
-        same = s.same;
-      }
-
-  module _ (place : ℕ) (c : Claim) (old : List ℕ) (wide : length old ≡ ring_words C)
-      (has : HasMark C old slots place c) (within : place % C + span_of c ≤ C) (inside : place + span_of c ≤ tail) where
-    abbrev n : ℕ
-    n = length c.message.body
-
-    small : 8 + n < 2 ^ 31
-    small = let short = has.lawful.short in omega (arith, short, ok.most)
-
-    fits : is_length C tail place (8 + n) ≡ true
-    fits = let short = has.lawful.short in
-        length_fits C tail place (8 + n) (omega arith) (omega (arith, short)) (omega (arith, within)) inside
-
-    -- the header of a message gives its span
-    spans_message : (len : ℤ) → header_of c ≡ header len c.message.type_id → FitsSigned w32 len → nat_abs len ≡ 8 + n
-        → span_at C tail place (header_of c) ≡ span_of c
-    spans_message len head f long =
-        span_decoded C tail place (header_of c) len c.message.type_id head f has.lawful.type_fits
-        (ap (is_length C tail place) long ∙ fits)
-        (ap (λ b. b || int_lt (pos 0) len && is_padding_type c.message.type_id)
-        (above_zero c.message.type_id has.lawful.type_id))
-        ∙ ap up_to_eight long
-
-    spans_claim : span_at C tail place (header_of c) ≡ span_of c
-    spans_claim = elim (state_cases c.state) as (λ _. span_at C tail place (header_of c) ≡ span_of c) [
-      | inl e ↦ spans_message (neg_ℤ (pos (8 + n))) (header_open c e) (fits_neg (8 + n) small) (abs_neg (8 + n))
-      | inr other ↦ elim other as (λ _. span_at C tail place (header_of c) ≡ span_of c) [
-        | inl e ↦ spans_message (pos (8 + n)) (header_committed c e) (fits_pos (8 + n) small) refl
-        | inr e ↦ span_decoded C tail place (header_of c) (pos (8 + n)) padding_type (header_aborted c e)
-            (fits_pos (8 + n) small) record { sfits = omega arith } fits
-            (let above : int_lt (pos 0) (pos (8 + n)) ≡ true = grind (arith) in
-            ap (λ b. b && is_padding_type padding_type) above)
-      ]
-    ]
-
-    kinds : (kind_of c ≢ padding_kind) × (kind_of c < 8)
-    kinds = elim (state_cases c.state) as (λ _. (kind_of c ≢ padding_kind) × (kind_of c < 8)) [
-      | inl e ↦ rw e ((λ z. omega (arith, z)), omega arith)
-      | inr other ↦ elim other as (λ _. (kind_of c ≢ padding_kind) × (kind_of c < 8)) [
-        | inl e ↦ rw e ((λ z. omega (arith, z)), omega arith)
-        | inr e ↦ rw e ((λ z. omega (arith, z)), omega arith)
-      ]
-    ]
-
-    steps_claim : Steps C slots tail place (span_of c) (header_of c) (λ k. slice_index slots (index C (place + k))) old
-        (with_record C slots place (span_of c) old)
-    steps_claim =
-        let b = span_bounds n in
-        let i : ℕ = index C place in
-        let head = shows_claim C old slots place c ok has in
-        let kind : kind_in (slice_index old i) ≡ kind_of c = omega (arith, has.mark, has.aligned, b, kinds.1) in
-        let low : i + span_of c / 8 ≤ C / 8 = omega (arith, within, b, capacity_blocks C ok) in
-        let s = steps place (span_of c) old wide has.aligned b.0 (omega (arith, b)) within inside
-            (ap (span_at C tail place) head ∙ spans_claim) (take (span_of c / 8 - 1) (drop (i + 1) slots))
-            (cond-false _ _ _ (ne_eqb _ padding_kind (λ z. kinds.0 (sym kind ∙ z))))
-            (grind (arith, places, low, many)) in
-        record {
-          goes = s.goes;
-          wide = s.wide;
-          first = s.first ∙ head;
-          body = λ k k8 above below.
-              let step = index_step C place (k / 8) lap.whole has.aligned (omega (arith, k8, below, within)) in
-              let there : index C (place + k) ≡ i + k / 8 =
-                  ap (index C) (let e : place + k ≡ place + 8 * (k / 8) = omega (arith, k8) in e) ∙ step in
-              let less : i + 1 + (k / 8 - 1) ≡ i + k / 8 = omega (arith, k8, above) in
-              let under : k / 8 - 1 < span_of c / 8 - 1 = omega (arith, k8, above, below, b) in
-              s.body k k8 above below
-              ∙ (let told : slice_index (take (span_of c / 8 - 1) (drop (i + 1) slots)) (k / 8 - 1)
-                  ≡ slice_index slots (i + 1 + (k / 8 - 1)) = grind (arith, places, under) in told)
-              ∙ ap (slice_index slots) (less ∙ sym there);
-          same = s.same;
-        }
+use Rattle.ring_snapshot.specs.PlainWords.{joined_between, joined_from, with_record, with_zeros}
+use Rattle.ring_layout.specs.Headers.{header, header_of, padding_header}
+use Rattle.ring_snapshot.specs.RingRecords.{positions_finding, Lie}
+use Rattle.ring_snapshot.proofs.JoinLemmas.{joined_over}
+use Rattle.ring_snapshot.proofs.PlainSteps.{Steps, lap, steps_claim, steps_padding}
 
 -- ---- claims
 
@@ -240,18 +36,20 @@ stable C slots old new (c ∷ h) e lap e8 agree have =
     let le = next_le C e (span_of c) in
     let place8 = next_aligned C e (span_of c) lap.some lap.whole e8 in
     let far = end_of_le C (place + span_of c) h in
-    let claim = have.0 in
-    (record {
-      padding = λ before. agree e e8 (omega arith) (omega (arith, le, b, far)) ∙ claim.padding before;
-      mark = record {
-        lawful = claim.mark.lawful;
-        aligned = claim.mark.aligned;
-        mark = agree place place8 le (omega (arith, b, far)) ∙ claim.mark.mark;
-        header = claim.mark.header;
-      };
-      body = claim.body;
-    }, stable C slots old new h (place + span_of c) lap (omega (arith, place8, b))
-    (λ x x8 from below. agree x x8 (omega (arith, le, b, from)) below) have.1)
+    let claim = have.0 in (
+      record {
+        padding = λ before. agree e e8 (omega arith) (omega (arith, le, b, far)) ∙ claim.padding before;
+        mark = record {
+          lawful = claim.mark.lawful;
+          aligned = claim.mark.aligned;
+          mark = agree place place8 le (omega (arith, b, far)) ∙ claim.mark.mark;
+          header = claim.mark.header;
+        };
+        body = claim.body;
+      },
+      stable C slots old new h (place + span_of c) lap (omega (arith, place8, b))
+          (λ x x8 from below. agree x x8 (omega (arith, le, b, from)) below) have.1,
+    )
 
 -- what the walk makes of words: from e on the words of the claims, and the others as they were
 record Shows (C : ℕ) (slots : List ℕ) (tail m e : ℕ) (words : List ℕ) (word : ℕ → ℕ) : Type 0 where
@@ -332,9 +130,12 @@ module _ (C : ℕ) (slots : List ℕ) (tail : ℕ) (ok : IsCapacity C) (many : l
         let s = steps_claim C slots tail ok many place c words wide mark within inside in
         let end8 : end % 8 ≡ 0 = omega (arith, place8, bounds) in
         let next = rest m new (s.wide ∙ wide) (omega (arith, enough, bounds))
-            (stable C slots words new h end (lap C slots tail ok many) end8
-            (λ x x8 from below. s.same x x8 (inr (from, let z : end_of C end h ≡ tail = ends in
-            omega (arith, below, z, near, begins)))) claims) in
+        (stable C slots words new h end (lap C slots tail ok many) end8
+        (λ x x8 from below. s.same x x8 (inr (
+          from,
+          let z : end_of C end h ≡ tail = ends in
+              omega (arith, below, z, near, begins),
+        ))) claims) in
         after_step m place (span_of c) (header_of c) (λ k. slice_index slots (index C (place + k)))
         (word_at C e (c ∷ h)) words new place8 bounds.0 (omega (arith, bounds)) inside (omega (arith, near, begins)) s
         (record {
@@ -354,30 +155,30 @@ module _ (C : ℕ) (slots : List ℕ) (tail : ℕ) (ok : IsCapacity C) (many : l
         let pad : ℕ = place - e in
         let is : e + pad ≡ place = omega (arith, begins) in
         let room : (pad ≡ room C e) × (room C e < span_of c) =
-            elim (next_cases C e (span_of c)) as (λ _. (place - e ≡ room C e) × (room C e < span_of c)) [
-              | inl here ↦ absurd (omega (arith, here.1, before))
-              | inr next ↦ (omega (arith, next.1), next.0)
-            ] in
+        elim (next_cases C e (span_of c)) as (λ _. (place - e ≡ room C e) × (room C e < span_of c)) [
+          | inl here ↦ absurd (omega (arith, here.1, before))
+          | inr next ↦ (omega (arith, next.1), next.0)
+        ] in
         let pad8 : pad % 8 ≡ 0 = omega (arith, e8, place8, begins) in
         let short = claim.mark.lawful.short in
         let below = mod_below e C (omega (arith, ok.least)) in
         let new : List ℕ = with_record C slots e pad words in
         let s = steps_padding C slots tail ok many e pad words wide e8 pad8 (omega (arith, pad8, before))
-            (omega (arith, pad8, room, short, bounds, capacity_blocks C ok)) (omega (arith, room.0, below))
-            (omega (arith, is, inside)) (claim.padding before ∙ ap (λ q. q + padding_kind) (sym is)) in
+        (omega (arith, pad8, room, short, bounds, capacity_blocks C ok)) (omega (arith, room.0, below))
+        (omega (arith, is, inside)) (claim.padding before ∙ ap (λ q. q + padding_kind) (sym is)) in
         let kept : (x : ℕ) → x % 8 ≡ 0 → place ≤ x → x < tail
-            → slice_index new (index C x) ≡ slice_index words (index C x) =
-            λ x x8 from under. s.same x x8 (inr (omega (arith, is, from), omega (arith, under, near))) in
+        → slice_index new (index C x) ≡ slice_index words (index C x) =
+        λ x x8 from under. s.same x x8 (inr (omega (arith, is, from), omega (arith, under, near))) in
         let first = from_claim m new (s.wide ∙ wide) (omega (arith, enough, before, e8, place8))
-            (record {
-              lawful = claim.mark.lawful;
-              aligned = claim.mark.aligned;
-              mark = kept place place8 (omega arith) (omega (arith, inside, bounds)) ∙ claim.mark.mark;
-              header = claim.mark.header;
-            }) claim.body
-            (stable C slots words new h end (lap C slots tail ok many) (omega (arith, place8, bounds))
-            (λ x x8 from under. kept x x8 (omega (arith, from)) (let z : end_of C end h ≡ tail = ends in
-            omega (arith, under, z))) claims) in
+        (record {
+          lawful = claim.mark.lawful;
+          aligned = claim.mark.aligned;
+          mark = kept place place8 (omega arith) (omega (arith, inside, bounds)) ∙ claim.mark.mark;
+          header = claim.mark.header;
+        }) claim.body
+        (stable C slots words new h end (lap C slots tail ok many) (omega (arith, place8, bounds))
+        (λ x x8 from under. kept x x8 (omega (arith, from)) (let z : end_of C end h ≡ tail = ends in
+        omega (arith, under, z))) claims) in
         after_step m e pad (padding_header pad) (λ _. 0) (word_at C e (c ∷ h)) words new e8 pad8 (omega (arith, before))
         (omega (arith, is, inside)) near s (rw is first) (word_at_padding_header C e c h before)
         (λ k k8 above under. word_at_padding C e (e + k) c h (omega (arith, is, under)) (λ z. omega (arith, z, above)))
@@ -388,7 +189,7 @@ module _ (C : ℕ) (slots : List ℕ) (tail : ℕ) (ok : IsCapacity C) (many : l
       → Shows C slots tail m e words (word_at C e h)
   shows_claims [] m e words wide e8 ends near enough have =
       let over : joined_from C slots tail m e words ≡ words =
-          joined_over C slots tail m e words (let z : e ≡ tail = ends in omega (arith, z)) in
+      joined_over C slots tail m e words (let z : e ≡ tail = ends in omega (arith, z)) in
       record {
         picture = λ p p8 from below. let z : e ≡ tail = ends in absurd (omega (arith, z, from, below));
         same = λ x x8 lt far. ap (λ w. slice_index w (index C x)) over;
@@ -399,9 +200,9 @@ module _ (C : ℕ) (slots : List ℕ) (tail : ℕ) (ok : IsCapacity C) (many : l
       let begins = next_le C e (span_of c) in
       let place8 = next_aligned C e (span_of c) (omega (arith, ok.least)) (omega (arith, capacity_blocks C ok)) e8 in
       let rest : (k : ℕ) (w : List ℕ) → length w ≡ ring_words C → tail ≤ end + 8 * k → HaveClaims C w slots end h
-          → Shows C slots tail k end w (word_at C end h) =
-          λ k w wide' much claims. shows_claims h k end w wide' (omega (arith, place8, b)) ends
-          (omega (arith, near, begins)) much claims in
+      → Shows C slots tail k end w (word_at C end h) =
+      λ k w wide' much claims. shows_claims h k end w wide' (omega (arith, place8, b)) ends
+      (omega (arith, near, begins)) much claims in
       elim (cases_lt e (next_place C e (span_of c))) as (λ _. Shows C slots tail m e words (word_at C e (c ∷ h))) [
         | inl before ↦ from_padding c h e e8 ends near rest before m words wide enough have.0 have.1
         | inr here ↦
@@ -464,7 +265,7 @@ zeros_long C words tail n ok wide few =
     let under = mod_below tail C (omega (arith, ok.least)) in
     let low : index C tail < C / 8 = omega (arith, under, capacity_blocks C ok) in
     let least : (min n (C / 8 - index C tail) ≤ n) × (min n (C / 8 - index C tail) ≤ C / 8 - index C tail) =
-        grind (arith) in
+    grind (arith) in
     grind (arith, places, low, least, wide, few)
 
 -- the messages of the claims are messages
@@ -492,9 +293,9 @@ joined_lies C words slots tail head h ok wide many plain =
     let long : length cleared ≡ ring_words C = zeros_long C words tail rest ok wide few ∙ wide in
     let ordered : is_none (positions_finding C head tail) ≡ true = grind (arith, head8, tail8, le, near) in
     let shows = shows_claims C slots tail ok many h ((tail - head) / 8) head cleared long head8 ends near
-        (omega (arith, le, head8, tail8))
-        (stable C slots words cleared h head lap head8 (λ x x8 from below. zeros_past C words tail rest x ok wide tail8
-        few x8 (omega (arith, below, ends)) (omega (arith, whole, from))) plain.claims) in
+    (omega (arith, le, head8, tail8))
+    (stable C slots words cleared h head lap head8 (λ x x8 from below. zeros_past C words tail rest x ok wide tail8
+    few x8 (omega (arith, below, ends)) (omega (arith, whole, from))) plain.claims) in
     record {
       lawful = lawful_claims C words slots h head plain.claims;
       ends = ends;

@@ -137,7 +137,8 @@ fn clear_words(words: &mut [u64], capacity: u32, at: u64, count: usize)
 /// and at a mark that makes no sense. [`header_at`] says which marks these are, and what they become. A mark also makes
 /// no sense if its record would cross the end of the buffer or the tail. The words after these two stay as they are. All
 /// words of the buffer that are not between the head and the tail become 0. No word is changed if the positions make no
-/// sense.
+/// sense. If the words and the slots have a history between the head and the tail, the result has the words of the
+/// history.
 ///
 /// Returns `BadSize` if no ring has this many words. Otherwise returns `BadBodies` if there are not as many slots as
 /// words of the buffer. After an error no word is changed.
