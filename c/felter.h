@@ -3,9 +3,9 @@
  * The library of this header is proved, except the functions of the last part, "Memory of the caller". This header is
  * not proved. Callers must keep the rules below.
  *
- * Layouts. The bodies of messages are stored separately from the words of headers and positions. Padding has the type
- * id -2. So the memory of these rings does not have the layout of Agrona's rings. Boards and the metadata of counters
- * have Agrona's layout.
+ * Layouts. The headers and the bodies of messages are stored separately from the words that threads share. So the
+ * memory of these rings does not have the layout of Agrona's rings. Boards and the metadata of counters have Agrona's
+ * layout.
  *
  * Handles. A handle owns an endpoint (a producer, a consumer, ..) together with its ring. The ring lives as long as one
  * of its handles does. Handles may be freed in any order. These are the rules for callers:

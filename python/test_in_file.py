@@ -42,11 +42,12 @@ def messages(path: str) -> "list[bytes]":
     (at,) = struct.unpack_from("<Q", image, words + capacity + 384)
     found = []
     while at < tail:
-        length, type_id = struct.unpack_from("<ii", image, words + at % capacity)
-        if length > 0 and type_id > 0:
-            begin = bodies + at % capacity + 8
-            found.append(image[begin : begin + length - 8])
-        at += max(8, (abs(length) + 7) // 8 * 8)
+        (mark,) = struct.unpack_from("<Q", image, words + at % capacity)
+        if mark > at and mark % 8 == 0:
+            begin = bodies + at % capacity
+            (length,) = struct.unpack_from("<i", image, begin)
+            found.append(image[begin + 8 : begin + length])
+        at = max(at + 8, mark // 8 * 8)
     return found
 
 
@@ -161,8 +162,9 @@ class InFile(unittest.TestCase):
             claim.put(0, b"half")
             self.assertEqual(os.path.getsize(self.path), 896 + 2 * 1024)
             self.assertEqual([word(self.path, at) for at in (16, 24, 32, 48)], [kind, 1024, 128, 1920])
-            self.assertEqual(word(self.path, 128), header(13, 7))
-            self.assertEqual(word(self.path, 144), header(-12, 9))
+            # (the ends of the records, with the kinds of a committed and of an open one, and their headers)
+            self.assertEqual([word(self.path, at) for at in (128, 144)], [16, 32 + 2])
+            self.assertEqual([word(self.path, at) for at in (1920, 1936)], [header(13, 7), header(12, 9)])
             self.assertEqual(messages(self.path), [b"hello"])
             message = consumer.read()
             assert message is not None
@@ -172,7 +174,7 @@ class InFile(unittest.TestCase):
             consumer.free()
             self.assertFalse(is_mapped(self.path))
             # the claim was aborted, and the file stays
-            self.assertEqual(word(self.path, 144), header(12, -1))
+            self.assertEqual(word(self.path, 144), 32 + 3)
             os.unlink(self.path)
 
     def test_handles_that_nothing_refers_to(self) -> None:

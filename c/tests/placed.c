@@ -81,12 +81,12 @@ static uint64_t word(size_t at) {
 /* The header of an image, as docs/FORMATS.md has it. */
 static void expect_header(uint64_t kind, uint64_t capacity, uint64_t words, uint64_t bodies_at, uint64_t bodies) {
     CHECK(memcmp(memory, "FELTERIM", 8) == 0);
-    CHECK(word(8) == 1 && word(16) == kind && word(24) == capacity && word(32) == 128 && word(40) == words);
+    CHECK(word(8) == 2 && word(16) == kind && word(24) == capacity && word(32) == 128 && word(40) == words);
     CHECK(word(48) == bodies_at && word(56) == bodies);
     for (size_t at = 64; at < 128; at += 8) CHECK(word(at) == 0);
 }
 
-/* The word of the first header of a record: its length and its type id. */
+/* The header of a record: its length and its type id. */
 static uint64_t header_word(int32_t length, int32_t type_id) {
     return (uint64_t)(uint32_t)type_id << 32 | (uint32_t)length;
 }
@@ -110,17 +110,20 @@ static void ring(int is_one, uint32_t capacity) {
     EXPECT(FELTER_OK, felter_claim(&producer, 9, 4, &claim));
     EXPECT(FELTER_OK, felter_put(&producer, claim, 0, "half", 4));
     EXPECT(FELTER_OK, felter_set_heartbeat(&consumer, 1234));
-    CHECK(word(128) == header_word(8 + 5, 7) && memcmp(memory + bodies + 8, "first\0\0", 8) == 0);
-    CHECK(word(128 + 16) == header_word(-8 - 4, 9) && memcmp(memory + bodies + 24, "half\0\0\0", 8) == 0);
+    /* (a mark is the end of a record and its kind, which is 0 for a committed one, 2 for an open and 3 for an aborted) */
+    CHECK(word(128) == 16 && word(128 + 16) == 32 + 2);
+    CHECK(word(bodies) == header_word(8 + 5, 7) && memcmp(memory + bodies + 8, "first\0\0", 8) == 0);
+    CHECK(word(bodies + 16) == header_word(8 + 4, 9) && memcmp(memory + bodies + 24, "half\0\0\0", 8) == 0);
     CHECK(word(trailer + 128) == 32 && word(trailer + 384) == 0 && word(trailer + 640) == 1234);
     EXPECT(FELTER_OK, felter_read(&consumer, &type_id, &len, buffer, sizeof buffer));
     CHECK(type_id == 7 && len == 5 && memcmp(buffer, "first", 5) == 0);
-    CHECK(word(128) == 0 && word(trailer + 384) == 16);
+    /* A read clears no word. */
+    CHECK(word(128) == 16 && word(trailer + 384) == 16);
     /* A producer that is freed aborts its claims. A ring that is freed leaves the rest in the memory. */
     felter_free(&producer.handle);
-    CHECK(word(128 + 16) == header_word(8 + 4, -1));
+    CHECK(word(128 + 16) == 32 + 3 && word(bodies + 16) == header_word(8 + 4, 9));
     felter_free(&consumer.handle);
-    CHECK(memcmp(memory, "FELTERIM", 8) == 0 && word(128 + 16) == header_word(8 + 4, -1));
+    CHECK(memcmp(memory, "FELTERIM", 8) == 0 && word(128 + 16) == 32 + 3);
     CHECK(word(trailer + 128) == 32 && word(trailer + 384) == 16);
     end();
 }

@@ -8,6 +8,7 @@ ghost use Rattle.ring_layout.specs.Places.{max_position};
 ghost use Rattle.ring_table.specs.declared.claim.PlacedMessage.{PlacedMessage};
 ghost use Rattle.ring_table.specs.declared.claim.StagedClaim.{StagedClaim};
 ghost use Rattle.ring_table.specs.Changes.{blank, recorded, with_header};
+ghost use Rattle.ring_table.specs.ConsumerSteps.{HasLastAhead, StoresHead, StoresHeadBefore};
 ghost use Rattle.ring_table.specs.declared.view.Key.{Key as TheKey};
 ghost use Rattle.ring_table.specs.declared.view.View.{View};
 ghost use Rattle.ring_table.specs.Closed.{IsClosed, IsLeft, LeavesRest};
@@ -18,16 +19,16 @@ ghost use Rattle.ring_table.specs.Rule.{IsLawful};
 ghost use Rattle.ring_table.specs.Seats.{IsSameSeat, IsSeatOf};
 ghost use Rattle.ring_table.specs.SlotSteps.{IsOpenOf};
 ghost use Rattle.ring_table.specs.Staged.{AreRising};
-ghost use Rattle.ring_table.specs.Views.{cleared_to, first_view, with_claims, with_consumer};
+ghost use Rattle.ring_table.specs.Views.{first_view, with_claims};
 ghost use Rattle.ring_rings.specs.Bodies.{HasPaddedLast, IsPaddedLast, PutsBytes};
 ghost use Rattle.ring_rings.specs.ReadingSteps.{CopiesBody, HasBodyAt, HasGotLast, HasLastAt, IsInBlock, IsReaderSeatOf, LoadsWholeBody, OnlyLoads};
 
 use atomic_table::Closed;
-use ring_table::{Key, Mode, RingSeat, RingTable, SharedRing, Unsettled, Wanted};
+use ring_table::{Headers, Key, RingSeat, RingTable, SharedRing, Unsettled, Wanted};
 use std::alloc::{AllocError, Global};
 
 /// The memory of the bodies of messages, which is words (`InWords`) or slots (`InSlots`).
-pub trait Bodies: Mode {
+pub trait Bodies: Headers {
     /// Returns the number of slots of a table of this many bytes.
     ghost slots_for: { ℕ → ℕ };
 
@@ -129,15 +130,25 @@ pub trait Bodies: Mode {
         ensures loads { (m : PlacedMessage) → HasGotLast m seat.old.me.0 → m.place ≡ place
             → length m.message.body ≡ len → LoadsWholeBody capacity m seat.old.me.0 seat.new.me.0 };
 
-    /// Clears the words that the read has passed, from the head up to the position `to`.
-    fn clear_up(words: &SharedRing<Self>, seat: &mut RingSeat, capacity: u32, head: u64, to: u64)
+    /// Clears what the read has passed, which is up to the position `to`, and stores the head there.
+    fn pass_all(words: &SharedRing<Self>, seat: &mut RingSeat, capacity: u32, head: u64, to: u64)
         requires seat { IsReaderSeatOf words.now.table_id words.now.key capacity seat.old }
         requires cleared { seat.old.me.0.consumer.cleared ≡ head }
-        requires passed { (head ≤ to) × (to ≤ seat.old.me.0.consumer.scan) }
+        requires passed { (head ≤ to) × (seat.old.me.0.consumer.scan ≡ to) }
         requires whole { (head % 8 ≡ 0) × (to % 8 ≡ 0) }
         requires inside { IsInBlock capacity head to }
         ensures seat { IsSameSeat seat.old seat.new }
-        ensures view { seat.new.me.0 ≡ with_consumer (cleared_to to seat.old.me.0.consumer) seat.old.me.0 };
+        ensures told { StoresHead seat.old.me.0 seat.new.me.0 };
+
+    /// Does the same up to the last message that the read has got, which is at `to` and stays in the ring.
+    fn pass_before(words: &SharedRing<Self>, seat: &mut RingSeat, capacity: u32, head: u64, to: u64)
+        requires seat { IsReaderSeatOf words.now.table_id words.now.key capacity seat.old }
+        requires cleared { seat.old.me.0.consumer.cleared ≡ head }
+        requires last { (head ≤ to) × HasLastAhead to seat.old.me.0 }
+        requires whole { (head % 8 ≡ 0) × (to % 8 ≡ 0) }
+        requires inside { IsInBlock capacity head to }
+        ensures seat { IsSameSeat seat.old seat.new }
+        ensures told { StoresHeadBefore seat.old.me.0 seat.new.me.0 };
 
     /// Writes the words of a ring into `room`, in the ring's format, and returns them. They are made from what the
     /// ring's table left.

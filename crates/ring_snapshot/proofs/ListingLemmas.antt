@@ -26,7 +26,7 @@ use Rattle.ring_snapshot.proofs.StepLemmas.{listing_ends, IsThere, from_before}
 
 -- ---- numbers
 
-abs_neg : (n : ℕ) → nat_abs (neg_ℤ (pos n)) ≡ n
+pub abs_neg : (n : ℕ) → nat_abs (neg_ℤ (pos n)) ≡ n
 abs_neg zero = refl
 abs_neg (suc n) = refl
 
@@ -39,7 +39,7 @@ not_negative k = grind (arith)
 
 -- ---- an entry
 
-length_fits : (C tail at n : ℕ) → 8 ≤ n → n ≤ 8 + C / 8 → up_to_eight n ≤ room C at → at + up_to_eight n ≤ tail
+pub length_fits : (C tail at n : ℕ) → 8 ≤ n → n ≤ 8 + C / 8 → up_to_eight n ≤ room C at → at + up_to_eight n ≤ tail
     → is_length C tail at n ≡ true
 length_fits C tail at n a b c d = grind (arith, a, b, c, d)
 

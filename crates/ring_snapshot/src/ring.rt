@@ -3,6 +3,7 @@ ghost use Rattle.std.specs.Prelude.{◌≡◌, length};
 ghost use Rattle.ring_layout.specs.Places.{IsCapacity};
 ghost use Rattle.ring_layout.specs.Layout.{ring_words};
 
+pub(crate) mod mark;
 pub(crate) mod plain;
 pub(crate) mod search;
 

@@ -1,6 +1,6 @@
 -- A header of positive length leads a read on.
 use Rattle.ring_table.specs.Staged.{Bodies, in_words, elsewhere, padding_mark, padding_word, shown_header}
-use Rattle.std.proofs.Common.{◌≡◌, ◌≢◌, ℕ, zero, suc, ◌+◌, ◌-◌, ◌*◌, ◌/◌, ◌%◌, ◌^◌, ◌≤◌, ◌<◌, ℤ, ◌≤ℤ◌, pos, negsuc, neg_ℤ, FitsSigned, List, [], ◌∷◌, ◌++◌, cond, sym, refl, ap, ◌∙◌, subst, inl, inr, ⊎_elim, length, lt-ltb, le-ltb, append_assoc, eq-eqb, ne_eqb, arith}
+use Rattle.std.proofs.Common.{◌≡◌, ◌≢◌, ℕ, zero, suc, ◌+◌, ◌-◌, ◌/◌, ◌%◌, ◌^◌, ◌≤◌, ◌<◌, ℤ, ◌≤ℤ◌, pos, negsuc, neg_ℤ, FitsSigned, List, [], ◌∷◌, ◌++◌, cond, sym, refl, ap, ◌∙◌, subst, inl, inr, ⊎_elim, length, lt-ltb, le-ltb, append_assoc, eq-eqb, ne_eqb, arith}
 use Rattle.std.specs.Int.{cast_unsigned, w32}
 use Rattle.std.proofs.lemmas.Bool.{cond-true, cond-false}
 use mathlib.Core.Logic.{dite}
@@ -10,7 +10,7 @@ use Rattle.std.proofs.lemmas.Nat.{mod_low, shr_high, mod_below}
 use Rattle.ring_layout.specs.declared.message.Message.{Message}
 use Rattle.ring_layout.specs.declared.message.ClaimState.TheVariants.{Open, Committed, Aborted}
 use Rattle.ring_layout.specs.History.{IsMessage}
-use Rattle.ring_layout.specs.Places.{IsCapacity, next_place, room}
+use Rattle.ring_layout.specs.Places.{IsCapacity, next_place}
 use Rattle.ring_layout.specs.Headers.{header, header_of, padding_header, padding_type}
 use Rattle.ring_layout.proofs.Laps.{mod_aligned}
 use Rattle.ring_layout.proofs.PlaceLemmas.{next_cases, next_within}

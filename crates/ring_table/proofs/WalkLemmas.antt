@@ -16,7 +16,7 @@ use Rattle.ring_table.specs.Owners.{OwnedHistory, all_of}
 use Rattle.ring_table.specs.Passing.{IsSettled, AreSettled, Reaches}
 use Rattle.ring_table.specs.ConsumerSteps.{rounded}
 use Rattle.ring_table.specs.Walk.{IsCopied, Parts, Stands, Walked}
-use Rattle.ring_table.proofs.BodyPlaces.{BodyIn, body_index}
+use Rattle.ring_table.proofs.BodyPlaces.{BodyIn, behind_header}
 use Rattle.ring_table.proofs.HeaderReads.{high_half, halves, type_below, shown_other, shown_padding}
 use Rattle.ring_table.proofs.MemoryLemmas.{head_bounds, index_inside, one_position}
 use Rattle.ring_table.proofs.RangeLemmas.{Outside}
@@ -301,7 +301,7 @@ module _ (C : ℕ) (words slots : List ℕ) (t : Parts C words slots) where
             (λ (behind : s < p).
             let k : ℕ = (p - s - 8) / 8 in
             let p_is : p ≡ s + 8 + 8 * k = omega arith in
-            let slot : index C p ≡ i + 1 + k = ap (index C) p_is ∙ body_index C head s len k b (omega arith) in
+            let slot : index C p ≡ i + 1 + k = ap (index C) p_is ∙ behind_header C head s len k b (omega arith) in
             let claim_p : p ≡ c.place + 8 + 8 * k = omega arith in
             copied.inside (index C p) (omega arith) (omega arith)
             ∙ ap (λ q. slice_index slots (index C q)) claim_p

@@ -1,9 +1,9 @@
 -- What the consumer learns by its steps: v is its view before, w after, n the number found.
-use Rattle.std.specs.Prelude.{if◌then◌else◌, ◌==◌, ◌≡◌, ◌≢◌, ℕ, ◌+◌, ◌*◌, ◌/◌, ◌%◌, ◌^◌, ◌≤◌, ◌<◌, ℤ, pos, ◌≤ℤ◌, FitsSigned, List, [], ◌∷◌, ◌++◌, length}
+use Rattle.std.specs.Prelude.{◌≡◌, ◌≢◌, ℕ, ◌+◌, ◌*◌, ◌/◌, ◌%◌, ◌^◌, ◌≤◌, ◌<◌, ℤ, pos, ◌≤ℤ◌, FitsSigned, List, [], ◌∷◌, ◌++◌, length}
 use Rattle.std.specs.Int.{w32}
 use mathlib.Core.Option.{some}
 use lib.ListN.{get_elem?}
-use Rattle.ring_layout.specs.History.{IsMessage, span}
+use Rattle.ring_layout.specs.History.{IsMessage}
 use Rattle.ring_layout.specs.Places.{index, max_position}
 use Rattle.ring_layout.specs.Headers.{header, padding_type}
 use Rattle.ring_table.specs.Staged.{PlacedMessage, body_word}
@@ -69,26 +69,6 @@ pub record LoadsPassed (v : View) (n : ℕ) (w : View) : Type 0 where
   pub zero : n ≡ 0 → ClearsWord v w
   pub other : n ≢ 0 → w ≡ v
 
--- the end of the record at the position p, of a message that was got, otherwise of the word there
-unfoldable pub record_end : ℕ → List PlacedMessage → ℕ
-record_end p [] = p + 8
-record_end p (m ∷ ms) = if m.place == p then p + span (length m.message.body) else record_end p ms
-
--- the next record to clear has this many bytes
-pub record HasSpan (v : View) (bytes : ℕ) : Type 0 where
-  pub some : 8 ≤ bytes
-  pub ends : record_end v.consumer.cleared v.consumer.got ≡ v.consumer.cleared + bytes
-
--- if bodies are elsewhere, the header of a message at the next word to clear has that record's length
-pub record LoadsRecord (v : View) (n : ℕ) (w : View) : Type 0 where
-  pub zero : n ≡ 0 → ClearsWord v w
-  pub other : n ≢ 0 → w ≡ v
-  pub message : n ≢ 0 → n < 2 ^ 63 → HasSpan v (rounded (n % 2 ^ 32))
-
--- so only the header is cleared: the words after it are 0
-abbrev pub ClearsRecord : View → View → Type 0
-ClearsRecord v w = w ≡ with_consumer (cleared_to (record_end v.consumer.cleared v.consumer.got) v.consumer) v
-
 abbrev pub StoresHead : View → View → Type 0
 StoresHead v w = w ≡ with_consumer (stands_at v.consumer.scan v.consumer.got v.consumer) v
 
@@ -96,6 +76,15 @@ StoresHead v w = w ≡ with_consumer (stands_at v.consumer.scan v.consumer.got v
 abbrev pub StoresHeadBefore : View → View → Type 0
 StoresHeadBefore v w = (got : List PlacedMessage) (m : PlacedMessage) → v.consumer.got ≡ got ++ m ∷ []
     → w ≡ with_consumer (stands_at m.place got v.consumer) v
+
+-- m is the last message that the read has got, which is here
+pub record HasLastAhead (head : ℕ) (v : View) : Type 0 where
+  pub front : List PlacedMessage
+  pub last : PlacedMessage
+  pub got : v.consumer.got ≡ front ++ last ∷ []
+  pub place : last.place ≡ head
+  pub ahead : v.consumer.cleared ≤ head
+  pub scan : head ≤ v.consumer.scan
 
 -- m is the last message that the read has got, and all words before it are cleared
 pub record StandsBefore (head : ℕ) (v : View) : Type 0 where

@@ -1,5 +1,4 @@
-//! The end of a read, which gives the producers room. It clears the words that the read has passed, and then stores the
-//! head.
+//! The end of a read, which gives the producers room. It clears what the read has passed, and stores the head.
 ghost use Rattle.std.specs.Prelude.{List};
 ghost use Rattle.ring_table.specs.declared.claim.PlacedMessage.{PlacedMessage};
 ghost use Rattle.ring_rings.specs.Seats.{IsConsumerOf, capacity_of, head_of, seat_view, IsSameConsumer};
@@ -8,7 +7,6 @@ ghost use Rattle.ring_rings.specs.ReadingSteps.{SettlesAll, SettlesBefore};
 
 use crate::bodies::Bodies;
 use crate::ring::{Consumer, Ring};
-use ring_table::{store_head, store_head_before};
 
 impl<K, B: Bodies> Ring<K, B> {
     /// Clears all words that the read has passed, up to `scan`, and stores the head there. Does nothing if the head is
@@ -24,8 +22,7 @@ impl<K, B: Bodies> Ring<K, B> {
     {
         if consumer.head < scan {
             let (words, seat) = (&self.table.shared, &mut consumer.seat);
-            B::clear_up(words, seat, self.capacity, consumer.head, scan);
-            store_head(words, seat, self.capacity, scan);
+            B::pass_all(words, seat, self.capacity, consumer.head, scan);
             consumer.head = scan;
         }
     }
@@ -42,8 +39,7 @@ impl<K, B: Bodies> Ring<K, B> {
     {
         if consumer.head < place {
             let (words, seat) = (&self.table.shared, &mut consumer.seat);
-            B::clear_up(words, seat, self.capacity, consumer.head, place);
-            store_head_before(words, seat, self.capacity, place);
+            B::pass_before(words, seat, self.capacity, consumer.head, place);
             consumer.head = place;
         }
     }

@@ -15,8 +15,8 @@ use ring_layout::ring_buffer_descriptor::HEAD_POSITION_WORD;
 use ring_layout::word_index;
 
 /// Loads the header at the head, as a read begins. What an earlier read got beyond the head is forgotten.
-pub fn load_first_header<M: Mode>(
-    ring: &SharedRing<M>,
+pub(crate) fn load_first_word(
+    ring: &SharedRing<InWords>,
     consumer: &mut RingSeat,
     capacity: u32,
     head: u64,
@@ -29,12 +29,12 @@ pub fn load_first_header<M: Mode>(
     ensures told { LoadsHeader capacity head consumer.old.me.0.consumer.taken
         consumer.old.me.0 result consumer.new.me.0 }
 {
-    M::formatted(ring.load::<LoadFirstHeader<M>>(consumer, word_index(capacity, head)))
+    ring.load::<LoadFirstHeader>(consumer, word_index(capacity, head))
 }
 
 /// Loads the header that the running read has reached.
-pub fn load_next_header<M: Mode>(
-    ring: &SharedRing<M>,
+pub(crate) fn load_next_word(
+    ring: &SharedRing<InWords>,
     consumer: &mut RingSeat,
     capacity: u32,
     scan: u64,
@@ -46,7 +46,7 @@ pub fn load_next_header<M: Mode>(
     ensures seat { IsSameSeat consumer.old consumer.new }
     ensures told { LoadsHeader capacity scan consumer.old.me.0.consumer.got consumer.old.me.0 result consumer.new.me.0 }
 {
-    M::formatted(ring.load::<LoadNextHeader<M>>(consumer, word_index(capacity, scan)))
+    ring.load::<LoadNextHeader>(consumer, word_index(capacity, scan))
 }
 
 /// Loads the word at a position, which says what a message that the running read has got has there. Its index in the
@@ -70,8 +70,8 @@ pub fn load_body_word(
 
 /// Loads the next word that the read has passed and not yet cleared. If it is 0 it counts as cleared, since no other
 /// thread stores to it. Its index in the buffer is `target`.
-pub fn load_passed_word<M: Mode>(
-    ring: &SharedRing<M>,
+pub fn load_passed_word(
+    ring: &SharedRing<InWords>,
     consumer: &mut RingSeat,
     capacity: u32,
     cleared: u64,
@@ -89,8 +89,8 @@ pub fn load_passed_word<M: Mode>(
 }
 
 /// Sets the next word that the read has passed to 0. Its index in the buffer is `target`.
-pub fn clear_word<M: Mode>(
-    ring: &SharedRing<M>,
+pub fn clear_word(
+    ring: &SharedRing<InWords>,
     consumer: &mut RingSeat,
     capacity: u32,
     cleared: u64,

@@ -1,4 +1,4 @@
-use Rattle.std.proofs.Common.{◌≡◌, ℕ, ◌+◌, ◌-◌, ◌*◌, ◌/◌, ◌%◌, ◌^◌, ◌≤◌, ◌<◌, List, length, refl, slice_index, sym, ap, ◌∙◌, subst, inl, inr, arith}
+use Rattle.std.proofs.Common.{◌≡◌, ℕ, ◌+◌, ◌-◌, ◌/◌, ◌%◌, ◌^◌, ◌≤◌, ◌<◌, List, length, slice_index, sym, ap, ◌∙◌, subst, inr, arith}
 use Rattle.std.specs.Prelude.{vec_len}
 use Rattle.std.specs.Slots.{slots_items, slots_len}
 use Rattle.std.proofs.lemmas.Nat.{mod_below}

@@ -1,7 +1,6 @@
-use Rattle.std.proofs.Common.{◌≡◌, ap, arith, refl}
-use Rattle.ring_table.specs.Views.{View}
+use Rattle.std.proofs.Common.{◌≡◌, arith, refl}
 use Rattle.ring_table.specs.ConsumerSteps.{StoresHead}
-use Rattle.ring_table.proofs.Calls.{same_seat, trailer_step, head_rises, leaves_as, of_as}
+use Rattle.ring_table.proofs.Calls.{same_seat, trailer_step, head_rests, head_rises, leaves_as, of_as}
 use Rattle.ring_table.proofs.ClearLemmas.{stores_head}
 use Rattle.ring_table.proofs.steps.consumer.store_head.Goals as goal
 
@@ -14,7 +13,8 @@ store-requires g c =
     (λ _ _ t s r at. (
       t.0,
       leaves_as g.M.Mode.bodies t.1 refl (head_rises g.M.Mode.bodies _ _ _ c.args.consumer.now.me.0 s r at c.requires.consumes
-          c.args.consumer.now.me.0.consumer.scan c.args.consumer.now.me.0.consumer.got (omega arith)),
+          c.args.consumer.now.me.0.consumer.scan c.args.consumer.now.me.0.consumer.got (omega arith))
+          (head_rests c.args.consumer.now.me.0 c.args.consumer.now.me.0.consumer.scan c.args.consumer.now.me.0.consumer.got (omega arith)),
     ))
     (stores_head g.M.Mode.bodies c.args.capacity c.args.ring.now.key.start _ _ c.args.consumer.now.me c.args.head
     c.requires.consumes c.requires.scan c.requires.cleared)

@@ -1,7 +1,6 @@
-use Rattle.std.proofs.Common.{◌≡◌, ap, arith, refl}
-use Rattle.ring_table.specs.Views.{View}
+use Rattle.std.proofs.Common.{◌≡◌, arith, refl}
 use Rattle.ring_table.specs.ConsumerSteps.{StoresHeadBefore}
-use Rattle.ring_table.proofs.Calls.{same_seat, trailer_step, leaves_as, head_rises, of_as}
+use Rattle.ring_table.proofs.Calls.{same_seat, trailer_step, leaves_as, head_rests, head_rises, of_as}
 use Rattle.ring_table.proofs.ClearLemmas.{stores_head_before}
 use Rattle.ring_table.proofs.steps.consumer.store_head_before.Goals as goal
 
@@ -14,7 +13,8 @@ store-requires g c = let l = c.requires.last in
     (λ _ _ t s r at. (
       t.0,
       leaves_as g.M.Mode.bodies (t.1 l.front l.last l.got) refl (head_rises g.M.Mode.bodies _ _ _ c.args.consumer.now.me.0 s r at
-          c.requires.consumes l.last.place l.front (omega arith)),
+          c.requires.consumes l.last.place l.front (omega arith))
+          (head_rests c.args.consumer.now.me.0 l.last.place l.front (omega arith)),
     ))
     (stores_head_before g.M.Mode.bodies c.args.capacity c.args.ring.now.key.start _ _ c.args.consumer.now.me c.args.head l.front l.last
     c.requires.consumes l.got l.place l.cleared)

@@ -1,0 +1,17 @@
+use Rattle.std.proofs.Common.{◌≡◌, arith, refl}
+use Rattle.ring_table.specs.ConsumerSteps.{StoresHead}
+use Rattle.ring_table.proofs.Calls.{same_seat, of_as}
+use Rattle.ring_table.proofs.ClearMarks.{passes_all}
+use Rattle.ring_table.proofs.SlotCalls.{trailer_mark_step}
+use Rattle.ring_table.proofs.steps.marks.pass_marks.Goals as goal
+
+pub store-requires : goal.store-requires
+store-requires c =
+    let s = c.requires.seat in
+    trailer_mark_step s.table_is s.words_are s.key_is s.lawful _ 48 (omega arith) c.trailer_word.ensures (λ _. c.args.head)
+    (λ _ me'. (me'.1 ≡ c.args.consumer.now.me.1) × StoresHead c.args.consumer.now.me.0 me'.0)
+    (passes_all c.args.capacity c.args.ring.now.key.start _ _ c.args.head c.args.consumer.now.me c.requires.consumes
+    s.home c.requires.scan c.requires.ahead c.requires.whole)
+
+pub returns-clause-seat : goal.returns-clause-seat
+returns-clause-seat c = let h = c.store.ensures in same_seat h.0 h.1 h.2.0 (of_as h.2.1 refl refl)
