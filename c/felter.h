@@ -634,10 +634,10 @@ int32_t felter_poll(felter_client *client, uint64_t correlation, int32_t *kind, 
  * are the `word_count` words of the ring, and `slots` are the `slot_count` words of its bodies. If the ring was in
  * memory of the caller, felter_recover below finds both by itself.
  *
- * The messages are those that were committed, from the point on up to which the consumer had cleared. Each message
- * comes whole, once, and in the order of the claims. What the consumer was shown and had not cleared comes again,
- * before the other messages. A claim that was open has no message. All this is proved for the memory of any ring,
- * whatever step each of its threads had come to.
+ * The messages are those that were committed, from the head on. Each message comes whole, once, and in the order of
+ * the claims. What the consumer was shown, and after which it had not moved the head, comes again, before the other
+ * messages. A claim that was open has no message. All this is proved for the memory of any ring, whatever step each of
+ * its threads had come to.
  *
  * Writes how many claims were open, how many messages were recovered, and how many bytes of the buffer they take. A
  * buffer of twice the capacity of the ring is always long enough. Codes, in this order:
