@@ -1,25 +1,28 @@
--- The consumer clears what it has passed in one step, which changes no word: the headers go away.
-use Rattle.std.proofs.Common.{◌≡◌, ℕ, zero, suc, ◌+◌, ◌-◌, ◌*◌, ◌/◌, ◌%◌, ◌≤◌, ◌<◌, List, [], true, set, slice_index, sym, refl, ap, ◌∙◌, subst, length, length-set, get_or-set_other, arith}
+-- The consumer stores the head in one step, which clears the headers that it has passed: their marks stay.
+use Rattle.std.proofs.Common.{◌≡◌, ℕ, zero, suc, ◌+◌, ◌-◌, ◌*◌, ◌/◌, ◌%◌, ◌≤◌, ◌<◌, List, [], ◌∷◌, ◌++◌, cond, true, set, slice_index, lt-ltb, sym, refl, ap, ◌∙◌, subst, length, length-set, get_or-set_other, arith}
 use mathlib.Core.Option.{some}
 use lib.ListN.{get_elem?}
-use Rattle.std.proofs.lemmas.List.{set-get_or}
 use Rattle.atomic_table.specs.Table.{State, keeps, Allows}
 use Rattle.atomic_table.proofs.Lists.{set_here, set_again}
 use Rattle.ring_layout.specs.Places.{index}
+use Rattle.ring_layout.specs.Layout.{head_index}
 use Rattle.ring_layout.proofs.ListLemmas.{at_below}
-use Rattle.ring_table.specs.Staged.{elsewhere}
-use Rattle.ring_table.specs.Owners.{all_of}
-use Rattle.ring_table.specs.Views.{ConsumerView, View, cleared_to, with_consumer}
+use Rattle.ring_table.specs.Staged.{PlacedMessage, elsewhere, staged_word_at}
+use Rattle.ring_table.specs.Owners.{OwnedHistory, all_of}
+use Rattle.ring_table.specs.Passing.{Reaches}
+use Rattle.ring_table.specs.Views.{ConsumerView, View, cleared_to, stands_at, with_consumer}
 use Rattle.ring_table.specs.Rule.{Kept}
 use Rattle.ring_table.specs.ProducerSteps.{Mine}
-use Rattle.ring_table.specs.Marks.{ClearsUp, Encodes, KeepsMarks}
-use Rattle.ring_table.proofs.ReachLemmas.{reach_bounds}
+use Rattle.ring_table.specs.ConsumerSteps.{StoresHead, StoresHeadBefore}
+use Rattle.ring_table.specs.Marks.{Encodes, KeepsMarks}
+use Rattle.ring_table.proofs.StagedPlaces.{capacity_aligned, start_aligned}
+use Rattle.ring_table.proofs.ReachLemmas.{reach_bounds, reach_aligned, back_before_last}
 use Rattle.ring_table.proofs.MemoryLemmas.{not_inside, one_position}
-use Rattle.ring_table.proofs.ClearLemmas.{clears_at}
+use Rattle.ring_table.proofs.ClearLemmas.{clears_at, one_end, stores_head_at}
 use Rattle.ring_table.proofs.ShelfLemmas.{stepped_shelf}
-use Rattle.ring_table.proofs.CarryLemmas.{carries_same}
+use Rattle.ring_table.proofs.CarryLemmas.{carries_on}
 use Rattle.ring_table.proofs.OutLemmas.{set_twice}
-use Rattle.ring_table.proofs.EncodeLemmas.{encodes_cleared}
+use Rattle.ring_table.proofs.EncodeLemmas.{encodes_risen, encodes_trailer}
 use Rattle.ring_table.proofs.MarkSteps.{Marked, header_near}
 
 module _ (C start : ℕ) (s : State ℕ View) (m : KeepsMarks C start s.words s.homes s.views) (id : ℕ) (v : View)
@@ -86,69 +89,107 @@ module _ (C start : ℕ) (s : State ℕ View) (m : KeepsMarks C start s.words s.
             ∙ t.later p p8 (omega arith) hi;
       }
 
-  pub clears_to : (to j : ℕ) → v.out ≡ [] → v.consumer.cleared ≤ to → to ≤ v.consumer.scan → to % 8 ≡ 0
-      → KeepsMarks C start (set s.words j (slice_index s.words j)) s.homes (set s.views id (now to))
-  clears_to to j bare on le to8 =
+  -- the head goes to q, which was reached with the messages got, as the headers before q are cleared
+  pub raises_to : (q : ℕ) (got : List PlacedMessage) → v.out ≡ [] → v.consumer.head ≤ q → q ≤ v.consumer.scan
+      → ((h : OwnedHistory) → Reaches v.consumer.scan start (all_of h) v.consumer.got → Reaches q start (all_of h) got)
+      → KeepsMarks C start (set s.words (head_index C) q) s.homes
+      (set s.views id (with_consumer (stands_at q got v.consumer) v))
+  raises_to q got bare on le reaches =
       let r = m.kept in
+      let law = r.lawful in
       let mem = r.memory in
+      let least = law.capacity.least in
+      let c8 = capacity_aligned C law.capacity in
       let whole = mem.clears_words in
       let room = mem.room in
+      let none = m.none_cleared in
       let cleared : v.consumer.cleared ≡ r.consumer.cleared = ap (λ (z : ConsumerView). z.cleared) mine in
       let scan : v.consumer.scan ≡ r.consumer.scan = ap (λ (z : ConsumerView). z.scan) mine in
       let heads : v.consumer.head ≡ r.consumer.head = ap (λ (z : ConsumerView). z.head) mine in
-      let bounds = reach_bounds C r.consumer.scan start (all_of r.hist) r.consumer.got mem.placed mem.passed in
-      let top = bounds.1 in
-      let k : ℕ = (to - v.consumer.cleared) / 8 in
-      let is : v.consumer.cleared + 8 * k ≡ to = omega arith in
+      let top = (reach_bounds C r.consumer.scan start (all_of r.hist) r.consumer.got mem.placed mem.passed).1 in
+      let comes = reaches r.hist (subst (λ (z : ConsumerView). Reaches z.scan start (all_of r.hist) z.got) (sym mine) mem.passed) in
+      let q8 : q % 8 ≡ 0 = reach_aligned C q start (all_of r.hist) got (omega arith) c8 (start_aligned C start law) mem.placed
+      comes in
+      let k : ℕ = (q - v.consumer.cleared) / 8 in
+      let is : v.consumer.cleared + 8 * k ≡ q = omega arith in
       let t = clear_words k (omega arith) in
-      let kept : Kept elsewhere C start t.headers (set s.views id (now to)) =
+      let kept : Kept elsewhere C start t.headers (set s.views id (now q)) =
       subst (λ z. Kept elsewhere C start t.headers (set s.views id (now z))) is t.kept in
-      let its = ((kept.seated.each id (now to) (set_here s.views id (now to) (at_below s.views id v at))).consumes consumes).1 in
-      let head' : r.consumer.head ≡ kept.consumer.head = sym heads ∙ ap (λ (z : ConsumerView). z.head) its in
-      let cleared' : to ≡ kept.consumer.cleared = ap (λ (z : ConsumerView). z.cleared) its in
+      let km = kept.memory in
+      let here = set_here s.views id (now q) (at_below s.views id v at) in
+      let its = ((kept.seated.each id (now q) here).consumes consumes).1 in
+      let head' : v.consumer.head ≡ kept.consumer.head = ap (λ (z : ConsumerView). z.head) its in
+      let cleared' : q ≡ kept.consumer.cleared = ap (λ (z : ConsumerView). z.cleared) its in
+      let w : View = with_consumer (stands_at q got v.consumer) v in
+      let stored : Kept elsewhere C start (set t.headers (head_index C) q) (set s.views id w) =
+      subst (Kept elsewhere C start (set t.headers (head_index C) q)) (set_twice s.views id (now q) w)
+      (stores_head_at elsewhere C start q got
+      (record { words = t.headers; homes = s.homes; views = set s.views id (now q) }) kept id (now q) here consumes
+      (reaches kept.hist (subst (λ (z : ConsumerView). Reaches z.scan start (all_of kept.hist) z.got) (sym its) km.passed))
+      (sym cleared')) in
+      let last = ((stored.seated.each id w (set_here s.views id w (at_below s.views id v at))).consumes consumes).1 in
+      let wide = t.wide in
+      let long = mem.wide in
       record {
-        headers = t.headers;
-        kept = kept;
-        shelf = stepped_shelf C s.homes s.views m.shelf id v at bare (now to) bare (carries_same refl refl refl);
-        encodes = subst (Encodes C kept.consumer.head kept.consumer.cleared t.headers) (sym (set-get_or s.words j 0))
-            (subst (λ (z : ℕ × ℕ). Encodes C z.0 z.1 t.headers s.words) (λ i. (head' i, cleared' i))
-            (encodes_cleared C start r.lawful r.consumer.head r.consumer.cleared m.headers s.words m.encodes to t.headers
-            mem.clears_from (omega arith) (omega arith) t.wide t.trailer
+        headers = set t.headers (head_index C) q;
+        kept = stored;
+        shelf = stepped_shelf C s.homes s.views m.shelf id v at bare w bare (carries_on refl refl (omega arith));
+        none_cleared = subst (λ (z : ConsumerView). z.cleared ≡ z.head) last refl;
+        encodes = subst (λ (z : ConsumerView). Encodes C z.head (set t.headers (head_index C) q) (set s.words (head_index C) q))
+            last
+            (encodes_trailer C start law q t.headers s.words
+            (encodes_risen C start law r.consumer.head m.headers s.words m.encodes q t.headers (omega arith) (omega arith)
+            t.wide t.trailer
             (λ p p8 lo hi. t.later p p8 (omega arith) hi)
+            (λ p p8 lo hi. km.shows p p8 (omega arith) (omega arith)
+            ∙ ap (λ b. cond b 0 (staged_word_at elsewhere (all_of kept.hist) p)) (lt-ltb p kept.consumer.cleared (omega arith)))
             (λ p p8 lo hi.
-            let from = mem.clears_from in
-            let near = (header_near C start m.headers s.views r p p8 (omega arith) (omega arith)).below in
-            omega arith)));
+            let near = (header_near C start m.headers s.views r p p8 lo (omega arith)).below in
+            omega arith) c8)
+            (head_index C) q (omega arith) (omega arith));
       }
 
 module _ (C start : ℕ) where
-  -- the load of the word at `to`
-  pub clears_up : (slots id to : ℕ) (me : Mine) → me.0.capacity ≡ C → me.0.consumes ≡ true → me.0.out ≡ []
-      → me.0.consumer.cleared < to → to ≤ me.0.consumer.scan → to % 8 ≡ 0
-      → Allows (Marked C start) slots id me (index C to) (λ n. n)
-      (λ _ me'. (me'.1 ≡ me.1) × ClearsUp (index C to) me.0 me'.0)
-  clears_up slots id to me cap consumes bare on le to8 s m wide at small =
+  -- the head is stored after all that was passed
+  pub raises_head : (slots id : ℕ) (me : Mine) (head : ℕ) → me.0.consumes ≡ true → me.0.out ≡ []
+      → me.0.consumer.scan ≡ head
+      → Allows (Marked C start) slots id me (head_index C) (λ _. head) (λ _ me'. (me'.1 ≡ me.1) × StoresHead me.0 me'.0)
+  raises_head slots id me head consumes bare scan s m wide at small =
       let v : View = me.0 in
-      let r = m.kept in
-      let mem = r.memory in
-      let room = mem.room in
-      let mine' = ((r.seated.each id v at).consumes consumes).1 in
+      let mem = m.kept.memory in
+      let mine' = ((m.kept.seated.each id v at).consumes consumes).1 in
+      let scan' : v.consumer.scan ≡ m.kept.consumer.scan = ap (λ (z : ConsumerView). z.scan) mine' in
+      let head' : v.consumer.head ≡ m.kept.consumer.head = ap (λ (z : ConsumerView). z.head) mine' in
       let from = mem.clears_from in
-      let cleared : v.consumer.cleared ≡ r.consumer.cleared = ap (λ (z : ConsumerView). z.cleared) mine' in
-      let scan : v.consumer.scan ≡ r.consumer.scan = ap (λ (z : ConsumerView). z.scan) mine' in
-      let bounds = reach_bounds C r.consumer.scan start (all_of r.hist) r.consumer.got mem.placed mem.passed in
-      let top = bounds.1 in (
-        with_consumer (cleared_to to v.consumer) v,
+      let to = mem.clears_to in
+      let w : View = with_consumer (stands_at v.consumer.scan v.consumer.got v.consumer) v in (
+        w,
         keeps,
         tt,
-        clears_to C start s m id v at consumes to (index C to) bare (omega arith) le to8,
+        subst (λ q. KeepsMarks C start (set s.words (head_index C) q) s.homes (set s.views id w)) scan
+            (raises_to C start s m id v at consumes v.consumer.scan v.consumer.got bare (omega arith) (omega arith) (λ h p. p)),
+        (refl, refl),
+      )
+
+  -- the head is stored before the last message that was got
+  pub raises_head_before : (slots id : ℕ) (me : Mine) (head : ℕ) (front : List PlacedMessage) (last : PlacedMessage)
+      → me.0.consumes ≡ true → me.0.out ≡ [] → me.0.consumer.got ≡ front ++ last ∷ [] → last.place ≡ head
+      → me.0.consumer.head ≤ head → head ≤ me.0.consumer.scan
+      → Allows (Marked C start) slots id me (head_index C) (λ _. head)
+      (λ _ me'. (me'.1 ≡ me.1) × StoresHeadBefore me.0 me'.0)
+  raises_head_before slots id me head front last consumes bare got place on le s m wide at small =
+      let v : View = me.0 in
+      let w : View = with_consumer (stands_at last.place front v.consumer) v in (
+        w,
+        keeps,
+        tt,
+        subst (λ q. KeepsMarks C start (set s.words (head_index C) q) s.homes (set s.views id w)) place
+            (raises_to C start s m id v at consumes last.place front bare (omega arith) (omega arith)
+            (λ h p. back_before_last v.consumer.scan start (all_of h) front last
+            (subst (Reaches v.consumer.scan start (all_of h)) got p))),
         (
           refl,
-          λ to' to8' above below same.
-              let same' : index C to' ≡ index C to = ap (λ c. index c to') (sym cap) ∙ same in
-              let one : to ≡ to' = one_position elsewhere C start r.lawful (v.consumer.cleared + 1) to to'
-              (record { whole = to8; from = omega arith; below = omega arith })
-              (record { whole = to8'; from = omega arith; below = omega arith }) (sym same') in
-              ap (λ z. with_consumer (cleared_to z v.consumer) v) one,
+          λ front' last' got'. let same = one_end front front' last last' (sym got ∙ got') in λ i. with_consumer
+              (stands_at (same.1 i).place (same.0 i) v.consumer) v,
         ),
       )

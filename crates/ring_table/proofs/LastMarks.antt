@@ -28,13 +28,13 @@ heads_all p y [] each = tt
 heads_all p y (x ∷ h) each = (each 0 x refl, heads_all p y h (λ k z e. each (suc k) z e))
 
 module _ (C start : ℕ) (words : List ℕ) (homes : List (Option ℕ)) (views : List View)
-    (m : KeepsMarks C start words homes views) (rests : m.kept.consumer.cleared ≡ m.kept.consumer.head) where
+    (m : KeepsMarks C start words homes views) where
   -- what is at the position p, from the head on
   pub marks_at : (p : ℕ) → p % 8 ≡ 0 → m.kept.consumer.head ≤ p → p < m.kept.consumer.head + C
       → Marks p (slice_index words (index C p)) (slice_index m.headers (index C p))
   marks_at p p8 lo hi = record {
-    none = m.encodes.none p p8 (omega arith) hi;
-    mark = m.encodes.marks p p8 (omega arith) hi;
+    none = m.encodes.none p p8 lo hi;
+    mark = m.encodes.marks p p8 lo hi;
   }
 
   pub may_decode : (p : ℕ) → p % 8 ≡ 0 → m.kept.consumer.head ≤ p → p < m.kept.consumer.head + C
@@ -83,6 +83,7 @@ module _ (C start : ℕ) (words : List ℕ) (homes : List (Option ℕ)) (views :
       let start8 = start_aligned C start law in
       let mem = r.memory in
       let head_is = head_there in
+      let none_cleared = m.none_cleared in
       let bounds = head_bounds elsewhere C start law m.headers r.consumer (all_of r.hist) mem in
       ext_get_or 0 new m.headers (wide ∙ m.encodes.wide) (λ i lt. ⊎_elim
       (λ (low : i < C / 8).

@@ -34,7 +34,7 @@ use Rattle.ring_table.proofs.ShelfLemmas.{stepped_shelf}
 use Rattle.ring_table.proofs.CarryLemmas.{carries_same}
 use Rattle.ring_table.proofs.OutLemmas.{lends_body, set_twice}
 use Rattle.ring_table.proofs.MarkWords.{bytes_plain, whole_bytes, kind_aborted, kind_committed, kind_open, kind_padding}
-use Rattle.ring_table.proofs.MarkSteps.{Marked, Rests, encodes_after, header_near, rests_after, with_headers}
+use Rattle.ring_table.proofs.MarkSteps.{Marked, Rests, header_near, rests_after, with_headers}
 
 -- a header of padding as the formats have it
 padding_shown : (h : ℕ) → h / 2 ^ 32 ≡ 2 ^ 32 - 2 → shown_header elsewhere h / 2 ^ 32 ≡ 2 ^ 32 - 1
@@ -126,7 +126,7 @@ module _ (C start : ℕ) (s : State ℕ View) (m : KeepsMarks C start s.words s.
     (at : get_elem? s.views id ≡ some v) (consumes : v.consumes ≡ true) (bare : v.out ≡ []) where
   rests : (w : View) → w.consumes ≡ v.consumes → w.consumer.cleared ≡ v.consumer.cleared
       → w.consumer.head ≡ v.consumer.head → Rests v w
-  rests w kind cleared head = record { stays = λ c. kind ∙ c; cleared = λ _. cleared; head = λ _. inl head }
+  rests w kind cleared head = record { stays = λ c. kind ∙ c; cleared = λ _. cleared; head = λ _. head }
 
   -- the words stay as the seat gets the view w
   kept_words : (w : View) (homes : List (Option ℕ)) (j : ℕ) → Rests v w → Kept elsewhere C start m.headers (set s.views id w)
@@ -138,9 +138,9 @@ module _ (C start : ℕ) (s : State ℕ View) (m : KeepsMarks C start s.words s.
         headers = m.headers;
         kept = kept;
         shelf = shelf;
-        encodes = subst (Encodes C kept.consumer.head kept.consumer.cleared m.headers) (sym (set-get_or s.words j 0))
-            (encodes_after C start m.headers s.words s.views m.kept kept.consumer.head kept.consumer.cleared m.encodes
-            after.0 after.1);
+        none_cleared = after.0 ∙ m.none_cleared ∙ sym after.1;
+        encodes = subst (λ (z : ℕ × List ℕ). Encodes C z.0 m.headers z.1)
+            (λ k. (sym after.1 k, sym (set-get_or s.words j 0) k)) m.encodes;
       }
 
   -- the read comes to a position
@@ -307,9 +307,9 @@ module _ (C start slots : ℕ) (q : ℕ) (got : List PlacedMessage) (id : ℕ) (
       sym (mem.shows q q8 (omega arith) near ∙ ap (λ b. cond b 0 (staged_word_at elsewhere (all_of r.hist) q))
       (le-ltb q r.consumer.cleared le)) in
       let seen = header_near C start m.headers s.views r q q8 (omega arith) near in
-      let some_mark = λ (some : h ≢ 0). m.encodes.marks q q8 le near some in
+      let some_mark = λ (some : h ≢ 0). m.encodes.marks q q8 (omega arith) near some in
       ⊎_elim
-      (λ (zero : h ≡ 0). reads_none n refl (inl (m.encodes.none q q8 le near zero)))
+      (λ (zero : h ≡ 0). reads_none n refl (inl (m.encodes.none q q8 (omega arith) near zero)))
       (λ t. ⊎_elim
       (λ (plus : (0 < h % 2 ^ 32) × (h % 2 ^ 32 < 2 ^ 31)).
       let low : ℕ = h % 2 ^ 32 in

@@ -6,7 +6,7 @@ use Rattle.atomic_table.specs.Seated.{TableId}
 use Rattle.atomic_table.specs.Table.{State, Allows}
 use Rattle.atomic_table.specs.declared.shared.Seat.{Seat}
 use Rattle.ring_layout.specs.Places.{IsCapacity, index}
-use Rattle.ring_layout.specs.Layout.{ring_words}
+use Rattle.ring_layout.specs.Layout.{head_index, ring_words}
 use Rattle.ring_layout.proofs.PlaceLemmas.{next_cases}
 use Rattle.ring_table.specs.Staged.{elsewhere, padding_word, StagedClaim, Moved, claim_end, staged_span}
 use Rattle.ring_table.specs.Passing.{IsSettled}
@@ -63,6 +63,18 @@ module _ {id : TableId} {key : Key} {capacity : ℕ} {seat : Seat ℕ View} (tab
             (lift_load capacity key.start id.slots seat.id seat.me (index capacity q) (index capacity q)
             (told (index capacity q)) (omega arith) rests allows),
       )
+
+  -- the head is stored
+  pub head_step : (i : ℕ) → i ≡ capacity / 8 + 48 → (value : ℕ) (told : ℕ → Mine → Type 0)
+      → Allows (Marked capacity key.start) id.slots seat.id seat.me (head_index capacity) (λ _. value) told
+      → (seat.table_id ≡ id) × (i < id.words)
+      × Allows (Marked key.capacity key.start) id.slots seat.id seat.me i (λ _. value) told
+  head_step i is value told allows = (
+    table,
+    omega arith,
+    subst (λ (z : ℕ × ℕ). Allows (Marked z.0 key.start) id.slots seat.id seat.me z.1 (λ _. value) told)
+        (λ k. (sym key_is k, sym is k)) allows,
+  )
 
   -- a step of the rule with marks at the word of a record
   pub mark_step : (i p q : ℕ) → i ≡ index capacity p → q ≡ p → (f : ℕ → ℕ) (told : ℕ → ℕ → Mine → Type 0)

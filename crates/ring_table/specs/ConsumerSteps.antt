@@ -77,10 +77,9 @@ abbrev pub StoresHeadBefore : View → View → Type 0
 StoresHeadBefore v w = (got : List PlacedMessage) (m : PlacedMessage) → v.consumer.got ≡ got ++ m ∷ []
     → w ≡ with_consumer (stands_at m.place got v.consumer) v
 
--- m is the last message that the read has got, and all words before it are cleared
+-- the last message that the read has got is at the position `head`
 pub record StandsBefore (head : ℕ) (v : View) : Type 0 where
   pub front : List PlacedMessage
   pub last : PlacedMessage
   pub got : v.consumer.got ≡ front ++ last ∷ []
   pub place : last.place ≡ head
-  pub cleared : v.consumer.cleared ≡ head

@@ -9,7 +9,7 @@ use Rattle.ring_table.specs.Shelf.{HasShelf, IsShelf}
 use Rattle.ring_table.specs.Rule.{Kept}
 use Rattle.ring_layout.specs.Headers.{committed_header, open_header, padding_header}
 use Rattle.ring_table.specs.Staged.{PlacedMessage}
-use Rattle.ring_table.specs.Views.{Logs, cleared_to, with_consumer}
+use Rattle.ring_table.specs.Views.{Logs}
 use Rattle.ring_table.specs.ProducerSteps.{Mine}
 use Rattle.ring_table.specs.SlotSteps.{with_out, IsLent}
 use Rattle.ring_table.specs.ConsumerSteps.{rounded, LoadsHeader}
@@ -45,23 +45,23 @@ mark_of p h = p + bytes_of h + kind_of h
 
 -- ---- the rule
 
--- The words have the marks of what the headers show, from `cleared` on. Where the headers show nothing, they are no
--- marks, nor are they a lap later below `cleared`
-pub record Encodes (C head cleared : ℕ) (headers words : List ℕ) : Type 0 where
+-- The words have the marks of what the headers show, from the head on. Where the headers show nothing, they are no marks
+pub record Encodes (C head : ℕ) (headers words : List ℕ) : Type 0 where
   pub wide : length words ≡ length headers
   pub trailer : (i : ℕ) → C / 8 ≤ i → slice_index words i ≡ slice_index headers i
-  pub marks : (p : ℕ) → p % 8 ≡ 0 → cleared ≤ p → p < head + C → slice_index headers (index C p) ≢ 0
+  pub marks : (p : ℕ) → p % 8 ≡ 0 → head ≤ p → p < head + C → slice_index headers (index C p) ≢ 0
       → slice_index words (index C p) ≡ mark_of p (slice_index headers (index C p))
-  pub none : (p : ℕ) → p % 8 ≡ 0 → cleared ≤ p → p < head + C → slice_index headers (index C p) ≡ 0
+  pub none : (p : ℕ) → p % 8 ≡ 0 → head ≤ p → p < head + C → slice_index headers (index C p) ≡ 0
       → slice_index words (index C p) ≤ p
-  pub passed : (p : ℕ) → p % 8 ≡ 0 → head ≤ p → p < cleared → slice_index words (index C p) ≤ p + C
 
--- The rule of a ring whose bodies lie in slots: there are headers that keep the rule, and that the words encode
+-- The rule of a ring whose bodies lie in slots: there are headers that keep the rule, and that the words encode. The
+-- headers that a read has passed are cleared as the head is stored, and none before
 pub record KeepsMarks (C start : ℕ) (words : List ℕ) (homes : List (Option ℕ)) (views : List View) : Type 0 where
   pub headers : List ℕ
   pub kept : Kept elsewhere C start headers views
   pub shelf : IsShelf C homes views
-  pub encodes : Encodes C kept.consumer.head kept.consumer.cleared headers words
+  pub none_cleared : kept.consumer.cleared ≡ kept.consumer.head
+  pub encodes : Encodes C kept.consumer.head headers words
 
 -- the rule
 abbrev pub KeepsIn : Bodies → ℕ → ℕ → List ℕ → List (Option ℕ) → List View → Type 0
@@ -89,11 +89,6 @@ pub record LoadsMark (C scan : ℕ) (got : List PlacedMessage) (me : Mine) (n : 
   pub message : scan < n → n % 8 ≡ committed_kind → (lent : IsLent C scan me')
       × (header ≡ committed_header lent.last.message.message.type_id (length lent.last.message.message.body))
       × (header < 18446744073709551616)
-
--- what was passed up to the position whose index this is counts as cleared, without a store
-abbrev pub ClearsUp : ℕ → View → View → Type 0
-ClearsUp word v w = (to : ℕ) → to % 8 ≡ 0 → v.consumer.cleared < to → to ≤ v.consumer.cleared + v.capacity
-    → index v.capacity to ≡ word → w ≡ with_consumer (cleared_to to v.consumer) v
 
 -- ---- the headers of a table that was closed
 

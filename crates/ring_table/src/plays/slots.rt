@@ -2,7 +2,7 @@
 ghost use Rattle.std.specs.Prelude.{◌≡◌};
 ghost use Rattle.ring_table.specs.Staged.{AreRising};
 ghost use Rattle.ring_layout.specs.declared.message.ClaimState.TheVariants.{Committed, Open};
-ghost use Rattle.ring_table.specs.Marks.{ClearsUp, LoadsMark};
+ghost use Rattle.ring_table.specs.Marks.{LoadsMark};
 ghost use Rattle.ring_table.specs.SlotSteps.{GivesBody, LendsBody, ReservesAt, ReservesBody, ReturnsBody};
 ghost use Rattle.ring_table.specs.SlotSteps.{ReturnsSlots, StoresRecord, TakesBody};
 
@@ -73,10 +73,4 @@ pub struct LoadNextMark;
 
 impl Play<u64, View> for LoadNextMark {
     ghost then = { λ st me n me'. LoadsMark me.0.capacity me.0.consumer.scan me.0.consumer.got me n me' };
-}
-
-pub struct ClearUp;
-
-impl Play<u64, View> for ClearUp {
-    ghost then = { λ st me n me'. (me'.1 ≡ me.1) × ClearsUp st.word me.0 me'.0 };
 }

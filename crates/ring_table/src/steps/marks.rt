@@ -3,21 +3,22 @@ ghost use Rattle.std.specs.Prelude.{◌≡◌, ◌+◌, ◌-◌, ◌%◌, ◌^�
 ghost use Rattle.ring_layout.specs.declared.message.ClaimState.TheVariants.{Aborted, Committed};
 ghost use Rattle.ring_layout.specs.History.{IsMessage, span};
 ghost use Rattle.ring_table.specs.Changes.{blank, staged};
-ghost use Rattle.ring_table.specs.ConsumerSteps.{LoadsHeader};
+ghost use Rattle.ring_table.specs.ConsumerSteps.{LoadsHeader, StandsBefore, StoresHead, StoresHeadBefore};
 ghost use Rattle.ring_table.specs.Filling.{IsSameTable};
 ghost use Rattle.ring_table.specs.Marks.{LoadsMark};
 ghost use Rattle.ring_table.specs.ProducerSteps.{HasClaimAt, IsStagedOpen, Mine, NeedsPadding, with_changed};
 ghost use Rattle.ring_table.specs.Seats.{IsSameSeat, IsSeatOf};
 ghost use Rattle.ring_table.specs.SlotSteps.{IsHolderOf, IsSameHolder};
 ghost use Rattle.ring_table.specs.Staged.{AreRising, PlacedMessage, Padded, Stored};
-ghost use Rattle.ring_table.specs.Views.{cleared_to, with_consumer};
 
 use crate::mode::InSlots;
+use crate::plays::consumer::{StoreHead, StoreHeadBefore};
 use crate::plays::producer::{StoreAborted, StoreCommitted, StorePadding};
-use crate::plays::slots::{ClearUp, LoadFirstMark, LoadNextMark};
+use crate::plays::slots::{LoadFirstMark, LoadNextMark};
 use crate::steps::slots::return_slots;
-use crate::steps::{RingSeat, SharedRing};
+use crate::steps::{RingSeat, SharedRing, trailer_word};
 use crate::view::Wanted;
+use ring_layout::ring_buffer_descriptor::HEAD_POSITION_WORD;
 use ring_layout::{align8, padding_header, word_index};
 
 /// The kinds of marks, in their low three bits.
@@ -179,16 +180,36 @@ pub(crate) fn load_next_mark(
     read_mark(ring, consumer, capacity, scan, mark)
 }
 
-/// What the read has passed up to the position `to` counts as cleared. No word is stored: the marks there are below the
-/// positions of the next lap.
-pub fn clear_marks(ring: &SharedRing<InSlots>, consumer: &mut RingSeat, capacity: u32, to: u64)
+/// Stores the head after all that the read has passed. No mark is cleared: those that were passed are not above the
+/// positions of the next lap, so that they say nothing there.
+pub fn store_head_past_marks(
+    ring: &SharedRing<InSlots>,
+    consumer: &mut RingSeat,
+    capacity: u32,
+    head: u64,
+)
     requires seat { IsSeatOf ring.now.table_id ring.now.key capacity consumer.old }
     requires consumes { consumer.old.me.0.consumes ≡ true }
-    requires passed { (consumer.old.me.0.consumer.cleared < to) × (to ≤ consumer.old.me.0.consumer.scan) }
-    requires near { to ≤ consumer.old.me.0.consumer.cleared + capacity }
-    requires whole { to % 8 ≡ 0 }
+    requires scan { consumer.old.me.0.consumer.scan ≡ head }
     ensures seat { IsSameSeat consumer.old consumer.new }
-    ensures view { consumer.new.me.0 ≡ with_consumer (cleared_to to consumer.old.me.0.consumer) consumer.old.me.0 }
+    ensures told { StoresHead consumer.old.me.0 consumer.new.me.0 }
 {
-    ring.load::<ClearUp>(consumer, word_index(capacity, to));
+    ring.store::<StoreHead>(consumer, trailer_word(capacity, HEAD_POSITION_WORD), head);
+}
+
+/// Stores the head before the last message that the read has got, which stays in the ring. No mark is cleared.
+pub fn store_head_before_mark(
+    ring: &SharedRing<InSlots>,
+    consumer: &mut RingSeat,
+    capacity: u32,
+    head: u64,
+)
+    requires seat { IsSeatOf ring.now.table_id ring.now.key capacity consumer.old }
+    requires consumes { consumer.old.me.0.consumes ≡ true }
+    requires last { StandsBefore head consumer.old.me.0 }
+    requires passed { (consumer.old.me.0.consumer.head ≤ head) × (head ≤ consumer.old.me.0.consumer.scan) }
+    ensures seat { IsSameSeat consumer.old consumer.new }
+    ensures told { StoresHeadBefore consumer.old.me.0 consumer.new.me.0 }
+{
+    ring.store::<StoreHeadBefore>(consumer, trailer_word(capacity, HEAD_POSITION_WORD), head);
 }
