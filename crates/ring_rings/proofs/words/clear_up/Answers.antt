@@ -1,7 +1,7 @@
 use Rattle.std.proofs.Common.{◌≡◌, ℕ, ◌+◌, ◌*◌, ap, ◌∙◌, arith}
 use Rattle.ring_layout.specs.Places.{index}
 use Rattle.ring_rings.proofs.IndexLemmas.{index_on, index_in_four}
-use Rattle.ring_rings.proofs.words.InWordsBodies.clear_up.Goals as goal
+use Rattle.ring_rings.proofs.words.clear_up.Goals as goal
 
 pub pass_word-requires-clause-target : goal.pass_word-requires-clause-target
 pass_word-requires-clause-target c =

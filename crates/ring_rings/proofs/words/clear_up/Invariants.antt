@@ -1,7 +1,7 @@
 use Rattle.std.proofs.Common.{◌≡◌, ◌+◌, ◌*◌}
 use Rattle.ring_table.specs.Seats.{IsSameSeat}
 use Rattle.ring_table.specs.Views.{cleared_to, with_consumer}
-use Rattle.ring_rings.proofs.words.InWordsBodies.clear_up.Given as goal
+use Rattle.ring_rings.proofs.words.clear_up.Given as goal
 
 abbrev pub invariant-loop-k : goal.invariant-loop-k
 invariant-loop-k l = record {
