@@ -10,8 +10,8 @@ ghost use Rattle.ring_rings.specs.ReadingSteps.{IsReaderSeatOf, LoadsWholeBody};
 use crate::bodies::Bodies;
 use atomic_table::Closed;
 use ring_table::{
-    InSlots, Key, RingSeat, RingTable, SharedRing, Unsettled, Wanted, lend_body,
-    open_slots, put_slots, read_slots, rescue_slots, return_body, show_slots, store_claimed_slots,
+    InSlots, Key, RingSeat, RingTable, SharedRing, Unsettled, Wanted, lend_body, open_slots,
+    put_slots, read_slots, rescue_slots, return_body, show_slots, store_claimed_slots,
     store_head_before_mark, store_head_past_marks, write_slots,
 };
 use std::alloc::{AllocError, Global};

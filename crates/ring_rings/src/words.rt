@@ -13,9 +13,9 @@ use atomic_table::Closed;
 use ring_layout::record_descriptor::HEADER_LENGTH;
 use ring_layout::{first_word, put_bytes_word, put_word, word_index};
 use ring_table::{
-    Headers, InWords, Key, RingSeat, RingTable, SharedRing, Unsettled, Wanted, clear_word, copy_words,
-    load_body_word, load_own_word, load_passed_word, open, rescue_words, store_body_word,
-    store_claimed_header, store_head, store_head_before,
+    Headers, InWords, Key, RingSeat, RingTable, SharedRing, Unsettled, Wanted, clear_word,
+    copy_words, load_body_word, load_own_word, load_passed_word, open, rescue_words,
+    store_body_word, store_claimed_header, store_head, store_head_before,
 };
 use std::alloc::{AllocError, Global};
 
@@ -272,7 +272,13 @@ impl Bodies for InWords {
     }
 
     #[inline(always)]
-    fn store_head(words: &SharedRing<Self>, seat: &mut RingSeat, capacity: u32, head: u64, to: u64) {
+    fn store_head(
+        words: &SharedRing<Self>,
+        seat: &mut RingSeat,
+        capacity: u32,
+        head: u64,
+        to: u64,
+    ) {
         clear_up(words, seat, capacity, head, to);
         store_head(words, seat, capacity, to);
     }
