@@ -130,7 +130,7 @@ pub trait Bodies: Headers {
         ensures loads { (m : PlacedMessage) → HasGotLast m seat.old.me.0 → m.place ≡ place
             → length m.message.body ≡ len → LoadsWholeBody capacity m seat.old.me.0 seat.new.me.0 };
 
-    /// Stores the head after all that the read has passed, from the head up to the position `to`. Where bodies are in
+    /// Stores the head after all that the read has passed, from the head up to the position `to`. If bodies are in
     /// words, these words are cleared first.
     fn store_head(words: &SharedRing<Self>, seat: &mut RingSeat, capacity: u32, head: u64, to: u64)
         requires seat { IsReaderSeatOf words.now.table_id words.now.key capacity seat.old }

@@ -1,4 +1,4 @@
-//! The end of a read, which gives the producers room: it stores the head. Where bodies are in words, it clears the words
+//! The end of a read, which gives the producers room: it stores the head. If bodies are in words, it clears the words
 //! that the read has passed first.
 ghost use Rattle.std.specs.Prelude.{List};
 ghost use Rattle.ring_table.specs.declared.claim.PlacedMessage.{PlacedMessage};
