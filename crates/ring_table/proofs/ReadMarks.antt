@@ -286,14 +286,13 @@ module _ (C start slots : ℕ) (q : ℕ) (got : List PlacedMessage) (id : ℕ) (
 module _ (C start : ℕ) where
   -- at the head, as a read begins
   pub reads_first : (slots id : ℕ) (me : Mine) → me.0.capacity ≡ C → me.0.consumes ≡ true → me.0.out ≡ [] → me.1 ≡ []
-      → me.0.consumer.cleared ≡ me.0.consumer.head
       → Allows (Marked C start) slots id me (index C me.0.consumer.head) (λ n. n)
       (λ n me'. LoadsMark me.0.capacity me.0.consumer.head me.0.consumer.taken me n me')
-  reads_first slots id me cap consumes bare empty none_cleared s m wide at small =
+  reads_first slots id me cap consumes bare empty s m wide at small =
       let r = m.kept in
       let mine = ((r.seated.each id me.0 at).consumes consumes).1 in
       let heads : me.0.consumer.head ≡ r.consumer.head = ap (λ (z : ConsumerView). z.head) mine in
-      let cleared : me.0.consumer.cleared ≡ r.consumer.cleared = ap (λ (z : ConsumerView). z.cleared) mine in
+      let none_cleared = m.none_cleared in
       let least = r.lawful.capacity.least in
       subst (λ c. MayReadAs C start c s me.0.consumer.head me.0.consumer.taken id me) (sym cap)
       (reads_mark C start slots me.0.consumer.head me.0.consumer.taken id me cap consumes bare empty s m wide at

@@ -153,7 +153,6 @@ pub(crate) fn load_first_mark(
     requires seat { IsSeatOf ring.now.table_id ring.now.key capacity consumer.old }
     requires consumes { consumer.old.me.0.consumes ≡ true }
     requires head { consumer.old.me.0.consumer.head ≡ head }
-    requires nothing_cleared { consumer.old.me.0.consumer.cleared ≡ head }
     ensures seat { IsSameSeat consumer.old consumer.new }
     ensures told { LoadsHeader capacity head consumer.old.me.0.consumer.taken
         consumer.old.me.0 result consumer.new.me.0 }
