@@ -107,9 +107,10 @@ module _ (C start : ℕ) (s : State ℕ View) (m : KeepsMarks C start s.words s.
       let scan : v.consumer.scan ≡ r.consumer.scan = ap (λ (z : ConsumerView). z.scan) mine in
       let heads : v.consumer.head ≡ r.consumer.head = ap (λ (z : ConsumerView). z.head) mine in
       let top = (reach_bounds C r.consumer.scan start (all_of r.hist) r.consumer.got mem.placed mem.passed).1 in
-      let comes = reaches r.hist (subst (λ (z : ConsumerView). Reaches z.scan start (all_of r.hist) z.got) (sym mine) mem.passed) in
-      let q8 : q % 8 ≡ 0 = reach_aligned C q start (all_of r.hist) got (omega arith) c8 (start_aligned C start law) mem.placed
-      comes in
+      let comes = reaches r.hist
+      (subst (λ (z : ConsumerView). Reaches z.scan start (all_of r.hist) z.got) (sym mine) mem.passed) in
+      let q8 : q % 8 ≡ 0 = reach_aligned C q start (all_of r.hist) got (omega arith) c8 (start_aligned C start law)
+      mem.placed comes in
       let k : ℕ = (q - v.consumer.cleared) / 8 in
       let is : v.consumer.cleared + 8 * k ≡ q = omega arith in
       let t = clear_words k (omega arith) in
@@ -125,7 +126,8 @@ module _ (C start : ℕ) (s : State ℕ View) (m : KeepsMarks C start s.words s.
       subst (Kept elsewhere C start (set t.headers (head_index C) q)) (set_twice s.views id (now q) w)
       (stores_head_at elsewhere C start q got
       (record { words = t.headers; homes = s.homes; views = set s.views id (now q) }) kept id (now q) here consumes
-      (reaches kept.hist (subst (λ (z : ConsumerView). Reaches z.scan start (all_of kept.hist) z.got) (sym its) km.passed))
+      (reaches kept.hist
+      (subst (λ (z : ConsumerView). Reaches z.scan start (all_of kept.hist) z.got) (sym its) km.passed))
       (sym cleared')) in
       let last = ((stored.seated.each id w (set_here s.views id w (at_below s.views id v at))).consumes consumes).1 in
       let wide = t.wide in
@@ -135,14 +137,15 @@ module _ (C start : ℕ) (s : State ℕ View) (m : KeepsMarks C start s.words s.
         kept = stored;
         shelf = stepped_shelf C s.homes s.views m.shelf id v at bare w bare (carries_on refl refl (omega arith));
         none_cleared = subst (λ (z : ConsumerView). z.cleared ≡ z.head) last refl;
-        encodes = subst (λ (z : ConsumerView). Encodes C z.head (set t.headers (head_index C) q) (set s.words (head_index C) q))
-            last
+        encodes = subst
+            (λ (z : ConsumerView). Encodes C z.head (set t.headers (head_index C) q) (set s.words (head_index C) q)) last
             (encodes_trailer C start law q t.headers s.words
-            (encodes_risen C start law r.consumer.head m.headers s.words m.encodes q t.headers (omega arith) (omega arith)
-            t.wide t.trailer
+            (encodes_risen C start law r.consumer.head m.headers s.words m.encodes q t.headers (omega arith)
+            (omega arith) t.wide t.trailer
             (λ p p8 lo hi. t.later p p8 (omega arith) hi)
             (λ p p8 lo hi. km.shows p p8 (omega arith) (omega arith)
-            ∙ ap (λ b. cond b 0 (staged_word_at elsewhere (all_of kept.hist) p)) (lt-ltb p kept.consumer.cleared (omega arith)))
+            ∙ ap (λ b. cond b 0 (staged_word_at elsewhere (all_of kept.hist) p))
+            (lt-ltb p kept.consumer.cleared (omega arith)))
             (λ p p8 lo hi.
             let near = (header_near C start m.headers s.views r p p8 lo (omega arith)).below in
             omega arith) c8)
@@ -167,7 +170,8 @@ module _ (C start : ℕ) where
         keeps,
         tt,
         subst (λ q. KeepsMarks C start (set s.words (head_index C) q) s.homes (set s.views id w)) scan
-            (raises_to C start s m id v at consumes v.consumer.scan v.consumer.got bare (omega arith) (omega arith) (λ h p. p)),
+            (raises_to C start s m id v at consumes v.consumer.scan v.consumer.got bare (omega arith) (omega arith)
+            (λ h p. p)),
         (refl, refl),
       )
 

@@ -195,7 +195,8 @@ module _ (C start : ℕ) where
           kept = r';
           shelf = t.3.1;
           none_cleared = after.0 ∙ m.none_cleared ∙ sym after.1;
-          encodes = subst (λ (z : ℕ × List ℕ). Encodes C z.0 m.headers z.1) (λ k. (sym after.1 k, sym words_are k)) m.encodes;
+          encodes = subst (λ (z : ℕ × List ℕ). Encodes C z.0 m.headers z.1)
+              (λ k. (sym after.1 k, sym words_are k)) m.encodes;
         },
         t.4,
       )
@@ -230,8 +231,8 @@ module _ (C start : ℕ) where
           shelf = t.3.1;
           none_cleared = after.0 ∙ m.none_cleared ∙ sym after.1;
           encodes = subst (λ z. Encodes C z (set m.headers i h) (set s.words i mark)) (sym after.1)
-              (encodes_mark C start r.lawful r.consumer.head m.headers s.words m.encodes q h mark there.0 (omega arith) near
-              (omega arith) full there.3);
+              (encodes_mark C start r.lawful r.consumer.head m.headers s.words m.encodes q h mark there.0 (omega arith)
+              near (omega arith) full there.3);
         },
         t.4,
       )

@@ -45,7 +45,8 @@ mark_of p h = p + bytes_of h + kind_of h
 
 -- ---- the rule
 
--- The words have the marks of what the headers show, from the head on. Where the headers show nothing, they are no marks
+-- The words have the marks of what the headers show, from the head on. Words for which the headers show nothing are no
+-- marks
 pub record Encodes (C head : ℕ) (headers words : List ℕ) : Type 0 where
   pub wide : length words ≡ length headers
   pub trailer : (i : ℕ) → C / 8 ≤ i → slice_index words i ≡ slice_index headers i

@@ -11,8 +11,8 @@ store-requires c =
     trailer_step in_words c.requires.seat _ 48 (omega arith) c.trailer_word.ensures (λ _. c.args.head)
     (λ _ me _ me'. (me'.1 ≡ me.1) × StoresHeadBefore me.0 me'.0)
     (λ _ _ t s r at. (t.0, leaves_words (t.1 l.front l.last l.got) refl))
-    (stores_head_before in_words c.args.capacity c.args.ring.now.key.start _ _ c.args.consumer.now.me c.args.head l.front l.last
-    c.requires.consumes l.got l.place c.requires.cleared)
+    (stores_head_before in_words c.args.capacity c.args.ring.now.key.start _ _ c.args.consumer.now.me c.args.head l.front
+    l.last c.requires.consumes l.got l.place c.requires.cleared)
 
 pub returns-clause-seat : goal.returns-clause-seat
 returns-clause-seat c =
