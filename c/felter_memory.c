@@ -214,7 +214,7 @@ static size_t lay_out(enum kind kind, uint32_t capacity, uint64_t header[HEADER_
     size_t bodies = kind == COUNTERS ? (size_t)METADATA_WORDS * capacity : kind == BOARD ? 0 : capacity / 8;
     size_t end = HEADER_LENGTH + aligned(8 * words);
     memset(header, 0, HEADER_LENGTH);
-    header[VERSION] = 1;
+    header[VERSION] = 2;
     header[KIND] = kind;
     header[CAPACITY] = capacity;
     header[WORDS_AT] = HEADER_LENGTH;

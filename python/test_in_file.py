@@ -42,11 +42,12 @@ def messages(path: str) -> "list[bytes]":
     (at,) = struct.unpack_from("<Q", image, words + capacity + 384)
     found = []
     while at < tail:
-        length, type_id = struct.unpack_from("<ii", image, words + at % capacity)
-        if length > 0 and type_id > 0:
-            begin = bodies + at % capacity + 8
-            found.append(image[begin : begin + length - 8])
-        at += max(8, (abs(length) + 7) // 8 * 8)
+        (mark,) = struct.unpack_from("<Q", image, words + at % capacity)
+        if mark > at and mark % 8 == 0:
+            begin = bodies + at % capacity
+            (length,) = struct.unpack_from("<i", image, begin)
+            found.append(image[begin + 8 : begin + length])
+        at = max(at + 8, mark // 8 * 8)
     return found
 
 
@@ -129,9 +130,12 @@ class InFile(unittest.TestCase):
             image = file.read()
         cases = [
             (0, 0, felter.Number.NO_IMAGE, "the memory is not the image of a ring"),
-            (128, header(7, 7), felter.Number.BAD_HEADER_LENGTH,
-             "a header has a length that no record has there: byte 0 of the buffer, length 7"),
-            (128, header(13, -5), felter.Number.BAD_HEADER_TYPE,
+            # (the kind of the mark, and the length and the type id in the slot)
+            (128, 16 + 4, felter.Number.BAD_HEADER_LENGTH,
+             "a header has a length that no record has there: byte 0 of the buffer, length 1"),
+            (896 + 256, header(17, 7), felter.Number.BAD_HEADER_LENGTH,
+             "a header has a length that no record has there: byte 0 of the buffer, length 1"),
+            (896 + 256, header(13, -5), felter.Number.BAD_HEADER_TYPE,
              "a header has a type id that no record has: byte 0 of the buffer, type id -5"),
             (128 + 256 + 384, 24, felter.Number.TAIL_BEFORE_HEAD, "the tail is before the head: head 24, tail 16"),
             (128 + 256 + 128, 264, felter.Number.TAIL_TOO_FAR,
@@ -161,8 +165,9 @@ class InFile(unittest.TestCase):
             claim.put(0, b"half")
             self.assertEqual(os.path.getsize(self.path), 896 + 2 * 1024)
             self.assertEqual([word(self.path, at) for at in (16, 24, 32, 48)], [kind, 1024, 128, 1920])
-            self.assertEqual(word(self.path, 128), header(13, 7))
-            self.assertEqual(word(self.path, 144), header(-12, 9))
+            # (the ends of the records, with the kinds of a committed and of an open one, and their headers)
+            self.assertEqual([word(self.path, at) for at in (128, 144)], [16, 32 + 2])
+            self.assertEqual([word(self.path, at) for at in (1920, 1936)], [header(13, 7), header(12, 9)])
             self.assertEqual(messages(self.path), [b"hello"])
             message = consumer.read()
             assert message is not None
@@ -172,7 +177,7 @@ class InFile(unittest.TestCase):
             consumer.free()
             self.assertFalse(is_mapped(self.path))
             # the claim was aborted, and the file stays
-            self.assertEqual(word(self.path, 144), header(12, -1))
+            self.assertEqual(word(self.path, 144), 32 + 3)
             os.unlink(self.path)
 
     def test_handles_that_nothing_refers_to(self) -> None:

@@ -5,15 +5,13 @@ import os
 import struct
 import subprocess
 
-from shown import Checks, stored
+from shown import Checks, header_of, stored
 
 HEADER, TRAILER = 128, 96
+# (the kinds of marks, after that of a committed record, which is 0)
+PADDING, OPEN, ABORTED = 1, 2, 3
 # (numbers at the edges of what a header or a trailer may say)
 EDGES = (0, 1, 7, 8, 2**31 - 1, 2**31, 2**32 - 1, 2**32, 2**62, 2**63, 2**64 - 8, 2**64 - 1)
-
-
-def header_of(length, type_id):
-    return struct.unpack("<Q", struct.pack("<ii", length, type_id))[0]
 
 
 def words_in(data):
@@ -25,26 +23,26 @@ def bytes_of(words):
 
 
 def ring(rng):
-    """The words and the slots of a ring that was killed: records of all states from the head on, of which some are
-    cleared or have no header yet."""
+    """The words and the slots of a ring that was killed: records of all states from the head on, of which some have no
+    mark yet. Words that are no marks are any numbers up to their positions."""
     capacity = rng.choice((128, 256, 512))
     size = capacity // 8
     words, slots = [0] * (size + TRAILER), [rng.getrandbits(64) for _ in range(size)]
     head = at = 8 * rng.randrange(4 * size)
-    cleared = head + 8 * rng.choice((0, 0, rng.randrange(size)))
+    for position in range(head, head + capacity, 8):
+        words[position % capacity // 8] = rng.choice((0, position, rng.randrange(position + 1)))
     while rng.random() < 0.9:
         length = 8 + rng.randrange(size + 1)
         span, room = -(-length // 8) * 8, capacity - at % capacity
         place = at if span <= room else at + room
         if place + span > head + capacity:
             break
-        is_low, state = place < cleared, rng.choice(("open", "committed", "committed", "aborted", "padded", "moved"))
-        if place > at >= cleared and (is_low or state != "moved"):
-            words[at % capacity // 8] = header_of(room, -2)
-        if not is_low and state not in ("padded", "moved"):
-            type_id = rng.choice((1, rng.randrange(1, 2**31)))
-            kinds = {"open": (-length, type_id), "committed": (length, type_id), "aborted": (length, -1)}
-            words[place % capacity // 8] = header_of(*kinds[state])
+        state = rng.choice((0, 0, OPEN, ABORTED, "padded", "moved"))
+        if place > at and state != "moved":
+            words[at % capacity // 8] = place + PADDING
+        if state not in ("padded", "moved"):
+            words[place % capacity // 8] = place + span + state
+            slots[place % capacity // 8] = header_of(length, rng.choice((1, rng.randrange(1, 2**31))))
         at = place + span
     words[size + 16], words[size + 48] = at, head
     return words, slots
@@ -53,24 +51,42 @@ def ring(rng):
 def image(words, slots, kind=2):
     """The image of a ring."""
     size = len(slots)
-    fields = (1, kind, 8 * size, HEADER, len(words), HEADER + 8 * len(words), size)
+    fields = (2, kind, 8 * size, HEADER, len(words), HEADER + 8 * len(words), size)
     return b"FELTERIM" + struct.pack("<7Q", *fields) + bytes(64) + bytes_of(words) + bytes_of(slots)
 
 
 def killed():
     """The stored image, examples/snapshots/killed.image: a ring of 128 bytes whose process was killed."""
     words, slots = [0] * (16 + TRAILER), [0] * 16
-    words[16 + 16], words[16 + 48] = 168, 48
-    # (the record at 48 was read and cleared. That at 64 was shown and not cleared. Of the claim at 80 no header was
-    # stored. The record at 96 is committed. The claim at 128, after padding, is open. The record at 152 was aborted)
-    for place, length, type_id, body, rest in (
-            (48, 0, 0, b"read", b"\xee"), (64, 13, 3, b"shown", b"\xaa"), (80, 0, 0, b"gone", b"\0"),
-            (96, 12, 4, b"sent", b"\0"), (112, 16, -2, b"", b"\0"), (128, -24, 5, b"half", b"\0"),
-            (152, 16, -1, b"aborted!", b"\0")):
-        words[place % 128 // 8] = header_of(length, type_id)
+    words[16 + 16], words[16 + 48] = 168, 64
+    # (the record at 48 was read, and its mark is left. That at 64 was shown, and the head did not move. Of the claim at
+    # 80 no mark was stored. The record at 96 is committed. The claim at 128, after padding, is open. The record at 152
+    # was aborted)
+    for place, mark, length, type_id, body, rest in (
+            (48, 64, 12, 2, b"read", b"\xee"), (64, 80, 13, 3, b"shown", b"\xaa"), (80, 0, 12, 9, b"gone", b"\0"),
+            (96, 112, 12, 4, b"sent", b"\0"), (112, 128 + PADDING, 0, 0, b"", b"\0"),
+            (128, 152 + OPEN, 24, 5, b"half", b"\0"), (152, 168 + ABORTED, 16, 6, b"aborted!", b"\0")):
+        words[place % 128 // 8], slots[place % 128 // 8] = mark, header_of(length, type_id)
         for k in range(0, len(body), 8):
             slots[place % 128 // 8 + 1 + k // 8] = int.from_bytes(body[k:k + 8].ljust(8, rest), "little")
     return image(words, slots)
+
+
+def shown_at(at, mark, slot):
+    """The length and the type id of the header that a mark at a position shows. That of an open record has the type id
+    1, and its body fills the record. One that makes no sense shows 1 and 0."""
+    kind, (length, type_id) = mark % 8, struct.unpack("<ii", struct.pack("<Q", slot))
+    span = mark - kind - at
+    has_end = length > 0 and -(-length // 8) * 8 == span
+    if not 8 <= span < 2**31:
+        return 1, 0
+    if kind == PADDING:
+        return span, -2
+    if kind == OPEN:
+        return -span, 1
+    if kind == ABORTED and has_end:
+        return length, -1
+    return (length, type_id) if kind == 0 and has_end and type_id not in (-1, -2) else (1, 0)
 
 
 def recovered(words, slots):
@@ -89,14 +105,14 @@ def recovered(words, slots):
     data, end, messages, is_open = bytes_of(slots), head, [], 0
     for at in range(head, tail, 8):
         index = at % capacity
-        length, type_id = struct.unpack("<ii", struct.pack("<Q", words[index // 8]))
-        if words[index // 8] == 0:
+        if words[index // 8] <= at:
             continue
+        length, type_id = shown_at(at, words[index // 8], slots[index // 8])
         count = abs(length)
         span = -(-count // 8) * 8
         if at < end or not 8 <= count <= 8 + size or index + span > capacity or at + span > tail:
             return f"BadLength at {index}: length {length}", [], 0
-        if not (type_id > 0 or (length > 0 and type_id in (-1, -2))):
+        if type_id < -2 or type_id == 0 and length > 1:
             return f"BadType at {index}: type id {type_id}", [], 0
         end = at + span
         is_open += length < 0
@@ -110,7 +126,7 @@ def expected(data):
     if len(data) < HEADER or data[:8] != b"FELTERIM":
         return None
     version, kind, capacity, words_at, words, slots_at, slots = struct.unpack("<7Q", data[8:64])
-    if version != 1 or kind not in (1, 2) or words != capacity // 8 + TRAILER or slots != capacity // 8:
+    if version != 2 or kind not in (1, 2) or words != capacity // 8 + TRAILER or slots != capacity // 8:
         return None
     if words_at + 8 * words > len(data) or slots_at + 8 * slots > len(data):
         return None
@@ -118,18 +134,34 @@ def expected(data):
     return recovered(*parts)
 
 
+def place_in(data, capacity, rng):
+    """A byte of an image. Half of them are in a mark or in its slot, and some are in the head or the tail."""
+    positions = [HEADER + capacity + at for at in (384, 128)]
+    head, tail = (struct.unpack_from("<Q", data, at)[0] for at in positions)
+    marks = [at % capacity for at in range(head, min(tail, head + capacity), 8)
+             if struct.unpack_from("<Q", data, HEADER + at % capacity // 8 * 8)[0] > at]
+    part = rng.random()
+    if part < 0.05:
+        return rng.choice(positions) + rng.randrange(8)
+    if part < 0.55 and marks:
+        return rng.choice((HEADER, len(data) - capacity)) + rng.choice(marks) // 8 * 8 + rng.randrange(8)
+    return rng.randrange(rng.choice((0, HEADER)), len(data))
+
+
 def changed(data, rng):
-    """The image with some of its bytes and words changed, and sometimes cut off."""
-    data, places = bytearray(data), (0, HEADER, HEADER, len(data))
+    """The image with some of its bytes, lengths, type ids and words changed, and sometimes cut off."""
+    data, capacity = bytearray(data), int.from_bytes(data[24:32], "little")
     for _ in range(rng.choice((0, 1, 1, 2, 6))):
-        low = rng.choice(places[:3])
-        at = rng.randrange(low, len(data))
-        if rng.random() < 0.4:
+        at, kind = place_in(data, capacity, rng), rng.random()
+        if kind < 0.3:
             data[at] = rng.randrange(256)
+        elif kind < 0.6:
+            at += rng.choice((0, 4, 4)) - at % 8
+            data[at:at + 4] = struct.pack("<i", rng.choice((0, -1, -2, -3, 1, 8, -8, 2**31 - 1, -2**31)))
         else:
             at -= at % 8
             lengths = header_of(rng.choice((8, 9, 16, -8, -16, 7, 0)), rng.choice((1, -1, -2, -3, 0)))
-            word = rng.choice((rng.choice(EDGES), lengths, lengths, rng.randrange(0, 4096, 8)))
+            word = rng.choice((rng.choice(EDGES), lengths, rng.randrange(4096), rng.randrange(4096)))
             data[at:at + 8] = word.to_bytes(8, "little")
     if rng.random() < 0.03:
         del data[rng.randrange(len(data) + 1):]

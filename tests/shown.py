@@ -18,34 +18,52 @@ def stored(name):
         return file.read()
 
 
+def header_of(length, type_id):
+    """The header with this length and type id."""
+    return struct.unpack("<Q", struct.pack("<ii", length, type_id))[0]
+
+
+def senseless(at, rng):
+    """A mark at a position that makes no sense, and its slot: the kind is above 3, the end is another one than that of
+    the header, or the slot has no header of a message."""
+    end, kind = at + 8 * rng.randrange(1, 4), rng.choice((0, 2, 3))
+    return rng.choice(((end + rng.randrange(4, 8), header_of(end - at, 5)), (end + kind, header_of(end - at + 8, 5)),
+                       (end + kind, header_of(at - end, 5)), (end + kind, header_of(end - at, rng.choice((0, -1))))))
+
+
 def split(image, rng):
-    """The words of a ring without its bodies, and the bodies; None if a header has the type id that only padding has
-    there. From the head on each record's body moves, up to the first header that no record has; any bytes lie between
-    the bodies."""
+    """The words and the slots of a plain ring, and the image of a ring that is listed as this plain ring is. That image
+    is the given one, but the first header that no record has is one with the length 1: no mark shows another one. Words
+    that are no marks, and slots that no record has, have any contents."""
     words = [int.from_bytes(image[at:at + 8], "little") for at in range(0, len(image), 8)]
     size = len(words) - 96
-    slots = [rng.getrandbits(64) for _ in range(size)]
+    slots, marks = [rng.getrandbits(64) for _ in range(size)], words[:]
     head, tail = words[size + 48], words[size + 16]
-    if any(it >> 32 == 0xfffffffe for it in words[:size]):
-        return None
-    at = head if head % 8 == 0 and tail % 8 == 0 and head <= tail <= head + 8 * size else tail
+    if head % 8 == 0 and tail % 8 == 0 and head <= tail <= head + 8 * size:
+        for position in range(head, head + 8 * size, 8):
+            marks[position // 8 % size] = rng.choice((0, position, rng.randrange(position + 1)))
+        at = head
+    else:
+        at = tail
     while at < tail:
         index = at // 8 % size
-        length, type_id = (int.from_bytes(words[index].to_bytes(8, "little")[k:k + 4], "little", signed=True)
-                           for k in (0, 4))
+        length, type_id = struct.unpack("<ii", struct.pack("<Q", words[index]))
         span = (abs(length) + 7) // 8
         is_passed = length > 0 and type_id == -1
-        if not 8 <= abs(length) <= 8 + size or index + span > size or at + 8 * span > tail:
+        if words[index] == 0:
             break
-        if not is_passed and type_id < 1:
+        if (not 8 <= abs(length) <= 8 + size or index + span > size or at + 8 * span > tail
+                or not is_passed and type_id < 1):
+            words[index] = 1
+            marks[index], slots[index] = senseless(at, rng)
             break
-        if is_passed and index + span == size and rng.random() < 0.5:
-            words[index] -= 1 << 32
-        else:
-            slots[index + 1:index + span] = words[index + 1:index + span]
-            words[index + 1:index + span] = [0] * (span - 1)
+        kind = rng.choice((1, 3)) if is_passed else 2 if length < 0 else 0
+        marks[index] = at + 8 * span + kind
+        if kind != 1:
+            slots[index:index + span] = words[index:index + span]
+            slots[index] = header_of(abs(length), rng.randrange(1, 2**31) if is_passed else type_id)
         at += 8 * span
-    return tuple(b"".join(it.to_bytes(8, "little") for it in part) for part in (words, slots))
+    return tuple(b"".join(it.to_bytes(8, "little") for it in part) for part in (marks, slots, words))
 
 
 def prometheus_fault(text):
@@ -110,6 +128,8 @@ class Apart(Checks):
         status, text = self.run("find", path)
         command = f"  ring-show ring {path} --at 0x1000 --length 896 --bodies-at 0x2000"
         self.check("the bodies are found", status == 0 and text.splitlines()[2:] == [command], text)
+        summary = text.splitlines()[1].strip()
+        self.check("its summary is that of the list", summary == stored("wrapped.out").decode().splitlines()[-1], text)
         status, text = self.run(*command.split()[1:], "--bodies", "text")
         self.check("the command lists them", status == 0 and text == stored("wrapped.out").decode(), text)
         for what, table in (("other words", (self.RING + 8, self.BODIES, 112, 16)),
@@ -118,9 +138,7 @@ class Apart(Checks):
                             ("bodies beyond the memory", (self.RING, 0x3ff0, 112, 16)),
                             ("bodies at no word", (self.RING, self.BODIES + 4, 112, 16))):
             status, text = self.run("find", self.memory(*table))
-            self.check(f"{what} are none", status == 0 and "--bodies-at" not in text and text.count("\n") == 3, text)
-        summary = text.splitlines()[1].strip()
-        self.check("padding is listed as such", summary == stored("wrapped.out").decode().splitlines()[-1], text)
+            self.check(f"{what} are none", status == 1 and "nothing found" in text, text)
         status, text = self.run("ring", "-", "--bodies-at", "896")
         self.check("standard input is refused", status == 2 and "--bodies-at" in text, text)
         status, text = self.run("board", path, "--bodies-at", "896")

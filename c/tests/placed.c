@@ -81,12 +81,12 @@ static uint64_t word(size_t at) {
 /* The header of an image, as docs/FORMATS.md has it. */
 static void expect_header(uint64_t kind, uint64_t capacity, uint64_t words, uint64_t bodies_at, uint64_t bodies) {
     CHECK(memcmp(memory, "FELTERIM", 8) == 0);
-    CHECK(word(8) == 1 && word(16) == kind && word(24) == capacity && word(32) == 128 && word(40) == words);
+    CHECK(word(8) == 2 && word(16) == kind && word(24) == capacity && word(32) == 128 && word(40) == words);
     CHECK(word(48) == bodies_at && word(56) == bodies);
     for (size_t at = 64; at < 128; at += 8) CHECK(word(at) == 0);
 }
 
-/* The word of the first header of a record: its length and its type id. */
+/* The header of a record: its length and its type id. */
 static uint64_t header_word(int32_t length, int32_t type_id) {
     return (uint64_t)(uint32_t)type_id << 32 | (uint32_t)length;
 }
@@ -110,17 +110,20 @@ static void ring(int is_one, uint32_t capacity) {
     EXPECT(FELTER_OK, felter_claim(&producer, 9, 4, &claim));
     EXPECT(FELTER_OK, felter_put(&producer, claim, 0, "half", 4));
     EXPECT(FELTER_OK, felter_set_heartbeat(&consumer, 1234));
-    CHECK(word(128) == header_word(8 + 5, 7) && memcmp(memory + bodies + 8, "first\0\0", 8) == 0);
-    CHECK(word(128 + 16) == header_word(-8 - 4, 9) && memcmp(memory + bodies + 24, "half\0\0\0", 8) == 0);
+    /* (a mark is the end of a record and its kind: 0 if it is committed, 2 if it is open, and 3 if it is aborted) */
+    CHECK(word(128) == 16 && word(128 + 16) == 32 + 2);
+    CHECK(word(bodies) == header_word(8 + 5, 7) && memcmp(memory + bodies + 8, "first\0\0", 8) == 0);
+    CHECK(word(bodies + 16) == header_word(8 + 4, 9) && memcmp(memory + bodies + 24, "half\0\0\0", 8) == 0);
     CHECK(word(trailer + 128) == 32 && word(trailer + 384) == 0 && word(trailer + 640) == 1234);
     EXPECT(FELTER_OK, felter_read(&consumer, &type_id, &len, buffer, sizeof buffer));
     CHECK(type_id == 7 && len == 5 && memcmp(buffer, "first", 5) == 0);
-    CHECK(word(128) == 0 && word(trailer + 384) == 16);
+    /* A read clears no word. */
+    CHECK(word(128) == 16 && word(trailer + 384) == 16);
     /* A producer that is freed aborts its claims. A ring that is freed leaves the rest in the memory. */
     felter_free(&producer.handle);
-    CHECK(word(128 + 16) == header_word(8 + 4, -1));
+    CHECK(word(128 + 16) == 32 + 3 && word(bodies + 16) == header_word(8 + 4, 9));
     felter_free(&consumer.handle);
-    CHECK(memcmp(memory, "FELTERIM", 8) == 0 && word(128 + 16) == header_word(8 + 4, -1));
+    CHECK(memcmp(memory, "FELTERIM", 8) == 0 && word(128 + 16) == 32 + 3);
     CHECK(word(trailer + 128) == 32 && word(trailer + 384) == 16);
     end();
 }
@@ -346,11 +349,13 @@ static void *make_many_in(void *of_thread) {
     felter_producer producer = FELTER_EMPTY;
     felter_consumer consumer = FELTER_EMPTY;
     for (int k = 0; k < ROUNDS; k++) {
-        uint64_t header = 0;
+        const unsigned char *slots = its + 128 + 1024 + 768;
+        uint64_t mark = 0, header = 0;
         EXPECT(FELTER_OK, felter_many_to_one_new_in(its, 4096, 1024, &producer, &consumer));
         EXPECT(FELTER_OK, felter_write(&producer, 7, &k, sizeof k));
-        memcpy(&header, its + 128, 8);
-        CHECK(header == header_word(8 + 4, 7) && memcmp(its + 128 + 1024 + 768 + 8, &k, sizeof k) == 0);
+        memcpy(&mark, its + 128, 8);
+        memcpy(&header, slots, 8);
+        CHECK(mark == 16 && header == header_word(8 + 4, 7) && memcmp(slots + 8, &k, sizeof k) == 0);
         felter_free(&consumer.handle);
         felter_free(&producer.handle);
     }

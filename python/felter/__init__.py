@@ -15,8 +15,8 @@ Files. `many_to_one_in_file`, `one_to_one_in_file`, `Transmitter.in_file` and `C
 new file. Its words and bodies survive the death of the process. Another process may look at the file, and must not
 write to it. After the process of a ring died, `recover` returns the messages that are left in the file.
 
-Layouts. The bodies of messages are stored separately from the words of headers and positions. So rings do not have the
-memory layout of Agrona's rings.
+Layouts. The headers and the bodies of messages are stored separately from the words that threads share. So rings do not
+have the memory layout of Agrona's rings.
 
 Handles. A handle is a producer, a consumer, or another object with calls. Any thread may use a handle, but only one
 call at a time uses it. Handles are context managers, and free what they own at the end of the `with` block. The rules

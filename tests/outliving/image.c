@@ -13,8 +13,8 @@ static uint64_t word_at(const unsigned char *image, uint64_t at) {
 #define TRAILER 768
 #define TAIL 128
 #define HEAD 384
-#define ABORTED (-1)
-#define PADDING (-2)
+/* The kinds of marks. */
+enum kind { COMMITTED, PADDING, OPEN, ABORTED };
 
 /* The image as its header describes it. */
 struct view {
@@ -37,20 +37,24 @@ static bool view_of(const unsigned char *image, size_t length, struct view *view
 
 /* Adds the record at a position to the listing. Returns its span, or 0 if no record can be there. */
 static uint64_t list_record(const struct view *view, uint64_t position, struct listing *listing) {
-    uint64_t index = position % view->capacity, header = word_at(view->image, view->words + index);
-    int32_t length = (int32_t)(uint32_t)header, type_id = (int32_t)(uint32_t)(header >> 32);
-    uint64_t size = length < 0 ? (uint64_t)-(int64_t)length : (uint64_t)length, span = (size + 7) / 8 * 8;
-    if (header == 0) {
+    uint64_t index = position % view->capacity, mark = word_at(view->image, view->words + index);
+    uint64_t kind = mark % 8, end = mark - kind, span = end - position;
+    if (mark <= position) {
         listing->gaps++;
         return 8;
     }
-    if (size < 8 || index + span > view->capacity || position + span > view->tail) return 0;
-    if (length < 0) listing->open++;
-    else if (type_id == ABORTED || type_id == PADDING) listing->settled++;
-    else if (type_id < 1 || size - 8 > view->capacity / 8 || listing->count == MAX_MESSAGES) return 0;
-    if (length < 0 || type_id < 0) return span;
+    if (end <= position || end > view->tail || index + span > view->capacity || kind > ABORTED) return 0;
+    if (kind == PADDING || kind == ABORTED) listing->settled++;
+    if (kind == PADDING) return span;
+    uint64_t header = word_at(view->image, view->bodies + index), size = (uint32_t)header;
+    int32_t type_id = (int32_t)(uint32_t)(header >> 32);
+    if (size < 8 || (size + 7) / 8 * 8 != span || size - 8 > view->capacity / 8 || type_id < 1) return 0;
+    if (kind == OPEN) listing->open++;
+    if (kind != COMMITTED) return span;
+    if (listing->count == MAX_MESSAGES) return 0;
     struct found *it = &listing->of[listing->count++];
-    it->header = view->words + index;
+    it->mark = view->words + index;
+    it->header = view->bodies + index;
     it->body = view->bodies + index + 8;
     it->len = (uint32_t)size - 8;
     it->type_id = type_id;
@@ -184,8 +188,7 @@ bool plant(enum fault fault, unsigned char *image, const struct listing *listing
     if (!find_two(fault, listing, book, from, &it, &other) && !find_two(fault, listing, book, 0, &it, &other))
         return false;
     if (fault == DROPPED) {
-        const int32_t aborted = ABORTED;
-        memcpy(image + other->header + 4, &aborted, 4);
+        image[other->mark] += ABORTED - COMMITTED;
         return true;
     }
     unsigned char *copy = malloc(it->body > other->body ? it->body + it->len : other->body + other->len);

@@ -50,7 +50,7 @@ struct found {
     unsigned who;
     int32_t type_id;
     uint64_t number, place;
-    size_t header, body; /* the bytes of the image at which its header and its body begin */
+    size_t mark, header, body; /* the bytes of the image at which its mark, its header and its body begin */
     uint32_t len;
     bool is_whole;
 };
@@ -58,7 +58,7 @@ struct found {
 /* What an image has between head and tail. */
 struct listing {
     bool is_image, is_wrong;
-    uint64_t count, gaps, open, settled; /* messages, words that are 0, open claims, padding and aborted claims */
+    uint64_t count, gaps, open, settled; /* messages, words without a mark, open claims, padding and aborted claims */
     struct found of[MAX_MESSAGES];
 };
 /* Lists an image as docs/FORMATS.md describes it. This is written without a look at the library. */

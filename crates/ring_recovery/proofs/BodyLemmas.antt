@@ -1,4 +1,5 @@
--- The slots that a ring left have the bodies of the claims that were settled and are not cleared.
+-- The slots that a ring left have the records of the claims from the head on that were settled.
+use Rattle.std.specs.Prelude.{⊤}
 use Rattle.std.proofs.Common.{◌≡◌, ◌≢◌, ℕ, zero, suc, ◌+◌, ◌*◌, ◌/◌, ◌≤◌, ◌<◌, ◌⊎◌, List, [], ◌∷◌, ◌++◌, cond, true, length, sym, refl, ap, ◌∙◌, subst, ⊎_elim, eq-eqb, ne_eqb, arith}
 use mathlib.Core.Logic.{dite}
 use mathlib.Core.Option.{Option, some, some-injective, some-ne-none}
@@ -22,8 +23,9 @@ use Rattle.ring_table.proofs.PictureWords.{read_at}
 use Rattle.ring_table.proofs.ReachLemmas.{stored_of}
 use Rattle.ring_table.proofs.StagedPlaces.{one_at_place}
 use Rattle.ring_table.proofs.StepLemmas.{one_view}
-use Rattle.ring_recovery.specs.Image.{HaveBody, IsImage}
-use Rattle.ring_recovery.proofs.GivenLemmas.{HaveAll}
+use Rattle.ring_recovery.specs.Image.{HaveRecord, IsImage}
+use Rattle.ring_recovery.specs.Recovered.{AreFrom}
+use Rattle.ring_recovery.proofs.MarkLemmas.{HaveRecords}
 
 -- a claim of the history is one of its owner's
 owned_in : (id : ℕ) (h : OwnedHistory) (k : ℕ) (x : ℕ × StagedClaim) → get_elem? h k ≡ some x → x.0 ≡ id
@@ -48,21 +50,32 @@ owned_in id (y ∷ ys) (suc k) x e own =
       ap (λ b. get_elem? (cond b (y.1 ∷ owned_by id ys) (owned_by id ys)) t.0) (ne_eqb y.0 id other) ∙ t.1,
     ))
 
-have_all : (C k : ℕ) (slots : List ℕ) (h : OwnedHistory)
-    → ((j : ℕ) (x : ℕ × StagedClaim) → get_elem? h j ≡ some x → IsSettled x.1.stage → k ≤ x.1.place
-    → HaveBody C slots x.1.place x.1.message.body) → HaveAll C k slots (all_of h)
-have_all C k slots [] each = tt
-have_all C k slots (x ∷ h) each = (each 0 x refl, have_all C k slots h (λ j y e. each (suc j) y e))
+-- the slots have the records of the settled claims that begin at k or above
+abbrev pub HaveFrom : ℕ → ℕ → List ℕ → List StagedClaim → Type 0
+HaveFrom C k slots [] = ⊤
+HaveFrom C k slots (c ∷ cs) = (IsSettled c.stage → k ≤ c.place → HaveRecord C slots c.place c.message)
+    × HaveFrom C k slots cs
 
-pub have_rest : (C k : ℕ) (slots : List ℕ) (front rest : List StagedClaim) → HaveAll C k slots (front ++ rest)
-    → HaveAll C k slots rest
+have_from : (C k : ℕ) (slots : List ℕ) (h : OwnedHistory)
+    → ((j : ℕ) (x : ℕ × StagedClaim) → get_elem? h j ≡ some x → IsSettled x.1.stage → k ≤ x.1.place
+    → HaveRecord C slots x.1.place x.1.message) → HaveFrom C k slots (all_of h)
+have_from C k slots [] each = tt
+have_from C k slots (x ∷ h) each = (each 0 x refl, have_from C k slots h (λ j y e. each (suc j) y e))
+
+pub have_rest : (C k : ℕ) (slots : List ℕ) (front rest : List StagedClaim) → HaveFrom C k slots (front ++ rest)
+    → HaveFrom C k slots rest
 have_rest C k slots [] rest all = all
 have_rest C k slots (c ∷ front) rest all = have_rest C k slots front rest all.1
 
-pub have_restarted : (C k : ℕ) (slots : List ℕ) (s : ℕ) (rest : List StagedClaim) → HaveAll C k slots rest
-    → HaveAll C k slots (restarted s rest)
+pub have_restarted : (C k : ℕ) (slots : List ℕ) (s : ℕ) (rest : List StagedClaim) → HaveFrom C k slots rest
+    → HaveFrom C k slots (restarted s rest)
 have_restarted C k slots s [] all = tt
 have_restarted C k slots s (c ∷ rest) all = all
+
+pub have_records : (C k : ℕ) (slots : List ℕ) (cs : List StagedClaim) → AreFrom k cs → HaveFrom C k slots cs
+    → HaveRecords C slots cs
+have_records C k slots [] from all = tt
+have_records C k slots (c ∷ cs) from all = (λ done. all.0 done from.0, have_records C k slots cs from.1 all.1)
 
 module _ (C start : ℕ) (words : List ℕ) (homes : List (Option ℕ)) (views : List View)
     (r : Kept elsewhere C start words views) (s : IsShelf C homes views) (slots : List ℕ)
@@ -85,28 +98,25 @@ module _ (C start : ℕ) (words : List ℕ) (homes : List (Option ℕ)) (views :
       (there_or_past views x.0)
 
   module _ (k : ℕ) (x : ℕ × StagedClaim) (there : get_elem? r.hist k ≡ some x) (done : IsSettled x.1.stage)
-      (above : r.consumer.cleared ≤ x.1.place) where
-    from_head : r.consumer.head ≤ x.1.place
-    from_head = let from = r.memory.clears_from in omega arith
-
+      (from_head : r.consumer.head ≤ x.1.place) where
     passed : WasPassed r.hist (placed_message x.1)
     passed = record { nth = k; owned = x; there = there; settled = done; is = refl }
 
-    -- a body that no seat has out is at home
-    if_home : NoneAt C start words homes views r s x.1.place → HaveBody C slots x.1.place x.1.message.body
+    -- a record that no seat has out is at home
+    if_home : NoneAt C start words homes views r s x.1.place → HaveRecord C slots x.1.place x.1.message
     if_home none off off8 less =
         let n : ℕ = length x.1.message.body in
         let place : ℕ = x.1.place in
         let i : ℕ = off / 8 in
         let lies = claim_lies elsewhere C start words views r k x there from_head in
-        let inside : i < words_of n = omega arith in
+        let inside : i < words_of (8 + n) = omega arith in
         let home = all_home C start words homes views r s place n lies none i inside in
-        let off_is : place + 8 + off ≡ place + 8 + 8 * i = omega arith in
-        let slot : index C (place + 8 + off) ≡ index C place + 1 + i =
+        let off_is : place + off ≡ place + 8 * i = omega arith in
+        let slot : index C (place + off) ≡ index C place + i =
         ap (index C) off_is ∙ body_index C r.consumer.head place n i lies.body inside in
-        let at_home : get_elem? homes (index C (place + 8 + off)) ≡ some (some home.0) =
+        let at_home : get_elem? homes (index C (place + off)) ≡ some (some home.0) =
         ap (get_elem? homes) slot ∙ home.1 in
-        read_at slots (index C (place + 8 + off)) home.0 (image.home (index C (place + 8 + off)) home.0 at_home)
+        read_at slots (index C (place + off)) home.0 (image.home (index C (place + off)) home.0 at_home)
         ∙ s.exact x.1 (claim_of_view k x there done) (reads_from C start words homes views r s place from_head) off
         home.0 off8 less at_home
 
@@ -139,7 +149,7 @@ module _ (C start : ℕ) (words : List ℕ) (homes : List (Option ℕ)) (views :
 
     -- what the reader has out to read it is as it was
     if_read : (id : ℕ) (v : View) (m : PlacedMessage) → get_elem? views id ≡ some v → v.out ≡ m ∷ [] → IsGotOut v m
-        → m.place ≡ x.1.place → HaveBody C slots x.1.place x.1.message.body
+        → m.place ≡ x.1.place → HaveRecord C slots x.1.place x.1.message
     if_read id v m at out o same =
         let g = got_lies C start words homes views r s id v o.front m at o.consumes o.got o.ahead in
         let place : g.passed.owned.1.place ≡ m.place = ap (λ (z : PlacedMessage). z.place) g.passed.is in
@@ -148,10 +158,10 @@ module _ (C start : ℕ) (words : List ℕ) (homes : List (Option ℕ)) (views :
         (place ∙ same) in
         let is : m ≡ placed_message x.1 =
         sym g.passed.is ∙ ap (λ (z : ℕ × StagedClaim). placed_message z.1) one in
-        subst (λ (z : PlacedMessage). HaveBody C slots z.place z.message.body) is (image.read id v m at out o)
+        subst (λ (z : PlacedMessage). HaveRecord C slots z.place z.message) is (image.read id v m at out o)
 
-    has_body : HaveBody C slots x.1.place x.1.message.body
-    has_body =
+    has_record : HaveRecord C slots x.1.place x.1.message
+    has_record =
         let d = s.reader in
         ⊎_elim
         (λ (bare : d.view.out ≡ []). if_home (none_at_got C start words homes views r s d.seat d.view
@@ -165,5 +175,5 @@ module _ (C start : ℕ) (words : List ℕ) (homes : List (Option ℕ)) (views :
         t.2)
         (s.outs d.seat d.view d.there)
 
-  pub have_bodies : HaveAll C r.consumer.cleared slots (all_of r.hist)
-  have_bodies = have_all C r.consumer.cleared slots r.hist has_body
+  pub have_all : HaveFrom C r.consumer.head slots (all_of r.hist)
+  have_all = have_from C r.consumer.head slots r.hist has_record

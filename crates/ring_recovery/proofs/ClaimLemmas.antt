@@ -1,37 +1,36 @@
--- The headers among the words of one claim, and what they give.
+-- The headers of one claim, and what they give.
 use Rattle.std.specs.Prelude.{int_lt, ◌&&◌, ◌||◌}
-use Rattle.std.proofs.Common.{◌≡◌, ℕ, zero, suc, ◌+◌, ◌-◌, ◌*◌, ◌/◌, ◌%◌, ◌^◌, ◌<◌, ◌≤◌, true, false, cond, List, [], ◌∷◌, ◌++◌, length, slice_index, refl, sym, ap, ◌∙◌, subst, arith, ⊎_elim, lt-ltb, le-ltb, ltb, ℤ, pos, negsuc, neg_ℤ, nat_abs, FitsSigned}
+use Rattle.std.proofs.Common.{◌≡◌, ℕ, zero, suc, ◌+◌, ◌-◌, ◌*◌, ◌/◌, ◌%◌, ◌^◌, ◌<◌, ◌≤◌, true, false, cond, List, [], ◌∷◌, ◌++◌, length, slice_index, refl, sym, ap, ◌∙◌, subst, arith, ⊎_elim, lt-ltb, le-ltb, ℤ, pos, negsuc, neg_ℤ, nat_abs, FitsSigned}
 use Rattle.std.specs.Int.{w32}
 use Rattle.std.proofs.lemmas.Bool.{cases_lt, cond-true, cond-false}
 use Rattle.ring_layout.specs.declared.message.ClaimState.TheVariants.{Open, Committed, Aborted}
 use Rattle.ring_layout.specs.Headers.{header, header_of, padding_type}
 use Rattle.ring_layout.specs.History.{span}
-use Rattle.ring_layout.specs.Places.{index, next_place, room}
+use Rattle.ring_layout.specs.Places.{index, next_place, room, rounded}
 use Rattle.ring_layout.proofs.CapacityLemmas.{capacity_blocks}
 use Rattle.ring_layout.proofs.HeaderLemmas.{fits_neg, fits_pos}
 use Rattle.ring_layout.proofs.Laps.{index_step, mod_aligned}
 use Rattle.ring_layout.proofs.PlaceLemmas.{next_aligned, next_cases, next_le, next_within, span_bounds}
-use Rattle.ring_snapshot.specs.Listing.{up_to_eight}
 use Rattle.ring_snapshot.specs.RingRecords.{is_length}
 use Rattle.ring_counters.specs.Records.{bytes_at}
 use Rattle.ring_snapshot.proofs.EntryLemmas.{body_told}
-use Rattle.ring_table.specs.Passing.{IsSettled, placed_message, shown_at}
-use Rattle.ring_table.specs.Rescued.{one_if_unsettled}
+use Rattle.ring_table.specs.Passing.{IsSettled, placed_committed_of, placed_message, shown_at}
+use Rattle.ring_table.specs.Rescued.{one_if_unsettled, unsettled_count}
 use Rattle.ring_table.specs.Staged.{elsewhere, LiesAfter, body_word, claim_end, masked_padding, masked_record, padding_mark, padding_word, staged_span, staged_word, stage_state}
 use Rattle.ring_table.specs.declared.claim.PlacedMessage.{PlacedMessage}
 use Rattle.ring_table.specs.declared.claim.Stage.{Stage}
 use Rattle.ring_table.specs.declared.claim.Stage.TheVariants.{Moved, Padded, Stored}
 use Rattle.ring_table.specs.declared.claim.StagedClaim.{StagedClaim}
+use Rattle.ring_table.proofs.DecodeLemmas.{masked_zero}
 use Rattle.ring_table.proofs.StagedWords.{staged_word-body, staged_word-header, staged_word-padding, staged_word-padding_behind}
 use Rattle.ring_recovery.specs.Headers.{bytes_in, headers_in, is_type, message_at}
-use Rattle.ring_recovery.specs.Image.{HaveBody}
 use Rattle.ring_recovery.specs.Recovered.{all_placed}
 use Rattle.ring_recovery.proofs.HeaderLemmas.{IsHeader, abs_neg, bytes_are, committed_is, length_fits, neg_below, neg_not_above, not_negative, not_zero, open_is, pos_above, type_above, type_is}
-use Rattle.ring_recovery.proofs.ScanLemmas.{one, word, zeros}
-use Rattle.ring_recovery.proofs.GivenLemmas.{Adds, AreShown, Gives, adds, far, gives_below, masked_zero, seen, seen_of, waiting, waits_of}
+use Rattle.ring_recovery.proofs.ScanLemmas.{one, zeros}
+use Rattle.ring_recovery.proofs.GivenLemmas.{Adds, AreShown, Gives, HaveBody, adds, far, gives_below}
 
-module _ (C tail cleared : ℕ) (slots words : List ℕ) (e : ℕ) (c : StagedClaim) (cs : List StagedClaim)
-    (a : AreShown C tail cleared words e (c ∷ cs)) where
+module _ (C tail : ℕ) (slots : List ℕ) (shown : ℕ → ℕ) (e : ℕ) (c : StagedClaim) (cs : List StagedClaim)
+    (a : AreShown C tail shown e (c ∷ cs)) where
   abbrev n : ℕ
   n = length c.message.body
 
@@ -72,69 +71,59 @@ module _ (C tail cleared : ℕ) (slots words : List ℕ) (e : ℕ) (c : StagedCl
       length_fits C tail c.place (8 + n) (omega arith) (omega (arith, lies.message.short)) (omega (arith, within))
       end_below
 
-  -- a word of the claim is as it shows, or 0 below the point
-  pub word_here : (p : ℕ) → p % 8 ≡ 0 → e ≤ p → p < claim_end c → cleared ≤ p
-      → word C words p ≡ staged_word elsewhere c p
-  word_here p p8 from below high =
-      a.shows p p8 from (omega (arith, below, end_below))
-      ∙ cond-false _ _ _ (le-ltb p cleared high)
-      ∙ cond-true _ _ _ (lt-ltb p (claim_end c) below)
-
-  pub word_low : (p : ℕ) → p % 8 ≡ 0 → e ≤ p → p < claim_end c → p < cleared → word C words p ≡ 0
-  word_low p p8 from below low =
-      a.shows p p8 from (omega (arith, below, end_below)) ∙ cond-true _ _ _ (lt-ltb p cleared low)
-
-  word_zero : (p : ℕ) → p % 8 ≡ 0 → e ≤ p → p < claim_end c → staged_word elsewhere c p ≡ 0 → word C words p ≡ 0
-  word_zero p p8 from below none = ⊎_elim (λ low. word_low p p8 from below low)
-      (λ high. word_here p p8 from below high ∙ none) (cases_lt p cleared)
+  -- what is found at a position of the claim is its word
+  pub found_here : (p : ℕ) → p % 8 ≡ 0 → e ≤ p → p < claim_end c → shown p ≡ staged_word elsewhere c p
+  found_here p p8 from below =
+      a.shows p p8 from (omega (arith, below, end_below)) ∙ cond-true _ _ _ (lt-ltb p (claim_end c) below)
 
   -- no header is inside the record or inside the padding
-  inner : (j : ℕ) → 8 + 8 * j < span n → word C words (c.place + 8 + 8 * j) ≡ 0
+  inner : (j : ℕ) → 8 + 8 * j < span n → shown (c.place + 8 + 8 * j) ≡ 0
   inner j less =
       let p : ℕ = c.place + 8 + 8 * j in
-      word_zero p (omega (arith, place_aligned)) (omega (arith, begins)) (omega (arith, less))
-      (staged_word-body elsewhere c p (8 * j) refl ∙ masked_zero c.stage)
+      found_here p (omega (arith, place_aligned)) (omega (arith, begins)) (omega (arith, less))
+      ∙ staged_word-body elsewhere c p (8 * j) refl ∙ masked_zero c.stage
 
-  padding : (p : ℕ) → p % 8 ≡ 0 → e < p → p < c.place → word C words p ≡ 0
+  padding : (p : ℕ) → p % 8 ≡ 0 → e < p → p < c.place → shown p ≡ 0
   padding p p8 from below =
-      word_zero p p8 (omega arith) (omega (arith, below, bounds))
-      (staged_word-padding_behind elsewhere c p (λ same. let at = lies.from in omega (arith, same, at, from)) below)
+      found_here p p8 (omega arith) (omega (arith, below, bounds))
+      ∙ staged_word-padding_behind elsewhere c p (λ same. let is = lies.from in omega (arith, same, is, from)) below
 
   -- ---- the record
 
   abbrev size : ℕ
   size = span n / 8
 
-  module _ (hs : List (ℕ × ℕ)) (g : Gives C tail cleared slots (claim_end c) cs hs) where
-    no_record : word C words c.place ≡ 0 → seen_of cleared c ≡ [] → waits_of cleared c ≡ 0
-        → Gives C tail cleared slots c.place (c ∷ cs) (headers_in C words size c.place ++ hs)
+  module _ (hs : List (ℕ × ℕ)) (g : Gives C tail slots (claim_end c) cs hs) where
+    no_record : shown c.place ≡ 0 → shown_at c.stage (placed_message c) ≡ [] → one_if_unsettled c.stage ≡ 0
+        → Gives C tail slots c.place (c ∷ cs) (headers_in shown size c.place ++ hs)
     no_record none nothing nobody =
-        let empty : headers_in C words size c.place ≡ [] = zeros C words size c.place (at_each none) in
-        subst (λ l. Gives C tail cleared slots c.place (c ∷ cs) (l ++ hs)) (sym empty)
-        (gives_below C tail cleared slots (claim_end c) c.place (c ∷ cs) hs (omega arith) (record {
-          messages = g.messages ∙ ap (λ l. l ++ seen cleared cs) (sym nothing);
+        let empty : headers_in shown size c.place ≡ [] = zeros shown size c.place (at_each none) in
+        subst (λ l. Gives C tail slots c.place (c ∷ cs) (l ++ hs)) (sym empty)
+        (gives_below C tail slots (claim_end c) c.place (c ∷ cs) hs (omega arith) (record {
+          messages = g.messages ∙ ap (λ l. l ++ placed_committed_of cs) (sym nothing);
           claims = omega (arith, g.claims, nobody);
           none = g.none;
         }))
       where
-        at_each : word C words c.place ≡ 0 → (j : ℕ) → j < size → word C words (c.place + 8 * j) ≡ 0
-        at_each none zero lt = let here : c.place + 8 * zero ≡ c.place = omega arith in ap (word C words) here ∙ none
+        at_each : shown c.place ≡ 0 → (j : ℕ) → j < size → shown (c.place + 8 * j) ≡ 0
+        at_each none zero lt = let here : c.place + 8 * zero ≡ c.place = omega arith in ap shown here ∙ none
         at_each none (suc j) lt =
             let there : c.place + 8 * suc j ≡ c.place + 8 + 8 * j = omega arith in
-            ap (word C words) there ∙ inner j (omega (arith, lt, bounds))
+            ap shown there ∙ inner j (omega (arith, lt, bounds))
 
-    one_record : (w : ℕ) (ms : List PlacedMessage) (k : ℕ) → word C words c.place ≡ w
-        → Adds C tail cleared slots c.place w (claim_end c) ms k → seen_of cleared c ≡ ms → waits_of cleared c ≡ k
-        → Gives C tail cleared slots c.place (c ∷ cs) (headers_in C words size c.place ++ hs)
+    one_record : (w : ℕ) (ms : List PlacedMessage) (k : ℕ) → shown c.place ≡ w
+        → Adds C tail slots c.place w (claim_end c) ms k → shown_at c.stage (placed_message c) ≡ ms
+        → one_if_unsettled c.stage ≡ k
+        → Gives C tail slots c.place (c ∷ cs) (headers_in shown size c.place ++ hs)
     one_record w ms k is d sees waits =
         let more : size ≡ suc (size - 1) = omega (arith, bounds) in
-        let found : headers_in C words size c.place ≡ (c.place, w) ∷ [] =
-        ap (λ m. headers_in C words m c.place) more
-        ∙ one C words (size - 1) c.place w is (not_zero C tail c.place d.len d.type_id w d.«header»)
+        let found : headers_in shown size c.place ≡ (c.place, w) ∷ [] =
+        ap (λ m. headers_in shown m c.place) more
+        ∙ one shown (size - 1) c.place w is (not_zero C tail c.place d.len d.type_id w d.«header»)
         (λ j lt. inner j (omega (arith, lt, bounds))) in
-        subst (λ l. Gives C tail cleared slots c.place (c ∷ cs) (l ++ hs)) (sym found)
-        (adds C tail cleared slots c.place w (claim_end c) ms k cs (c ∷ cs) hs d (ap (λ l. l ++ seen cleared cs) sees)
-        (ap (λ m. m + waiting cleared cs) waits) g)
+        subst (λ l. Gives C tail slots c.place (c ∷ cs) (l ++ hs)) (sym found)
+        (adds C tail slots c.place w (claim_end c) ms k cs (c ∷ cs) hs d (ap (λ l. l ++ placed_committed_of cs) sees)
+        (ap (λ m. m + unsettled_count cs) waits) g)
 
   -- the header of a record of this length and this type id
   record_header : (len type_id : ℤ) → nat_abs len ≡ 8 + n → FitsSigned w32 len → FitsSigned w32 type_id
@@ -152,14 +141,14 @@ module _ (C tail cleared : ℕ) (slots words : List ℕ) (e : ℕ) (c : StagedCl
   message_type len = ap (λ b. b || (int_lt (pos 0) len && int_lt c.message.type_id (pos 0)
       && int_lt (negsuc 2) c.message.type_id)) (type_above c.message.type_id lies.message.type_id)
 
-  adds_open : Adds C tail cleared slots c.place (header (neg_ℤ (pos (8 + n))) c.message.type_id) (claim_end c) [] 1
+  adds_open : Adds C tail slots c.place (header (neg_ℤ (pos (8 + n))) c.message.type_id) (claim_end c) [] 1
   adds_open =
       let len : ℤ = neg_ℤ (pos (8 + n)) in
       let t : ℤ = c.message.type_id in
       let w : ℕ = header len t in
       let h : IsHeader C tail c.place len t w = record_header len t (abs_neg (8 + n)) (fits_neg (8 + n) small)
       lies.message.type_fits (message_type len) in
-      let ends = ap (λ k. c.place + up_to_eight k) (abs_neg (8 + n)) in
+      let ends = ap (λ k. c.place + rounded k) (abs_neg (8 + n)) in
       record {
         len = len;
         type_id = t;
@@ -170,7 +159,7 @@ module _ (C tail cleared : ℕ) (slots words : List ℕ) (e : ℕ) (c : StagedCl
         claims = ap (λ b. cond b 1 0) (open_is C tail c.place len t w h ∙ neg_below (8 + n) (omega arith));
       }
 
-  adds_aborted : Adds C tail cleared slots c.place (header (pos (8 + n)) padding_type) (claim_end c) [] 0
+  adds_aborted : Adds C tail slots c.place (header (pos (8 + n)) padding_type) (claim_end c) [] 0
   adds_aborted =
       let len : ℤ = pos (8 + n) in
       let w : ℕ = header len padding_type in
@@ -199,7 +188,7 @@ module _ (C tail cleared : ℕ) (slots words : List ℕ) (e : ℕ) (c : StagedCl
         let there : p ≡ c.place + 8 + 8 * j = omega arith in
         ap (slice_index slots) (at ∙ ap (index C) there) ∙ have (8 * j) (omega arith) lt)
 
-    adds_committed : Adds C tail cleared slots c.place (header (pos (8 + n)) c.message.type_id) (claim_end c)
+    adds_committed : Adds C tail slots c.place (header (pos (8 + n)) c.message.type_id) (claim_end c)
         (placed_message c ∷ []) 0
     adds_committed =
         let len : ℤ = pos (8 + n) in
@@ -227,37 +216,26 @@ module _ (C tail cleared : ℕ) (slots words : List ℕ) (e : ℕ) (c : StagedCl
         }
 
   -- the record, whatever its stage is
-  pub record_gives : (hs : List (ℕ × ℕ)) → Gives C tail cleared slots (claim_end c) cs hs
-      → (IsSettled c.stage → cleared ≤ c.place → HaveBody C slots c.place c.message.body)
-      → Gives C tail cleared slots c.place (c ∷ cs) (headers_in C words size c.place ++ hs)
-  record_gives hs g have = ⊎_elim
-      (λ low. no_record hs g (word_low c.place place_aligned begins (omega (arith, bounds)) low)
-      (cond-true _ _ _ (lt-ltb c.place cleared low)) (cond-true _ _ _ (lt-ltb c.place cleared low)))
-      (λ high. by_stage high c.stage refl) (cases_lt c.place cleared)
+  pub record_gives : (hs : List (ℕ × ℕ)) → Gives C tail slots (claim_end c) cs hs
+      → (IsSettled c.stage → HaveBody C slots c.place c.message.body)
+      → Gives C tail slots c.place (c ∷ cs) (headers_in shown size c.place ++ hs)
+  record_gives hs g have = by_stage c.stage refl
     where
-      by_stage : cleared ≤ c.place → (t : Stage) → c.stage ≡ t
-          → Gives C tail cleared slots c.place (c ∷ cs) (headers_in C words size c.place ++ hs)
-      by_stage high t is = at_stage t (at t is) (sees t is) (waits t is)
-          (λ done. have (subst IsSettled (sym is) done) high)
+      by_stage : (t : Stage) → c.stage ≡ t
+          → Gives C tail slots c.place (c ∷ cs) (headers_in shown size c.place ++ hs)
+      by_stage t is = at_stage t
+          (found_here c.place place_aligned begins (omega (arith, bounds))
+          ∙ staged_word-header elsewhere c c.place refl
+          ∙ ap (λ s. masked_record s (header_of (record { message = c.message; state = stage_state s }))) is)
+          (ap (λ s. shown_at s (placed_message c)) is) (ap one_if_unsettled is)
+          (λ done. have (subst IsSettled (sym is) done))
         where
-          at : (t : Stage) → c.stage ≡ t → word C words c.place
-              ≡ masked_record t (header_of (record { message = c.message; state = stage_state t }))
-          at t is = word_here c.place place_aligned begins (omega (arith, bounds)) high
-              ∙ staged_word-header elsewhere c c.place refl
-              ∙ ap (λ s. masked_record s (header_of (record { message = c.message; state = stage_state s }))) is
-
-          sees : (t : Stage) → c.stage ≡ t → seen_of cleared c ≡ shown_at t (placed_message c)
-          sees t is = cond-false _ _ _ (le-ltb c.place cleared high) ∙ ap (λ s. shown_at s (placed_message c)) is
-
-          waits : (t : Stage) → c.stage ≡ t → waits_of cleared c ≡ one_if_unsettled t
-          waits t is = cond-false _ _ _ (le-ltb c.place cleared high) ∙ ap one_if_unsettled is
-
           at_stage : (t : Stage)
-              → word C words c.place
-              ≡ masked_record t (header_of (record { message = c.message; state = stage_state t }))
-              → seen_of cleared c ≡ shown_at t (placed_message c) → waits_of cleared c ≡ one_if_unsettled t
+              → shown c.place ≡ masked_record t (header_of (record { message = c.message; state = stage_state t }))
+              → shown_at c.stage (placed_message c) ≡ shown_at t (placed_message c)
+              → one_if_unsettled c.stage ≡ one_if_unsettled t
               → (IsSettled t → HaveBody C slots c.place c.message.body)
-              → Gives C tail cleared slots c.place (c ∷ cs) (headers_in C words size c.place ++ hs)
+              → Gives C tail slots c.place (c ∷ cs) (headers_in shown size c.place ++ hs)
           at_stage Moved is sees waits have = no_record hs g is sees waits
           at_stage Padded is sees waits have = no_record hs g is sees waits
           at_stage (Stored Open) is sees waits have = one_record hs g _ [] 1 is adds_open sees waits
@@ -270,27 +248,27 @@ module _ (C tail cleared : ℕ) (slots words : List ℕ) (e : ℕ) (c : StagedCl
   abbrev pads : ℕ
   pads = (c.place - e) / 8
 
-  module _ (hs : List (ℕ × ℕ)) (g : Gives C tail cleared slots c.place (c ∷ cs) hs) where
-    plain : headers_in C words pads e ≡ [] → Gives C tail cleared slots e (c ∷ cs) (headers_in C words pads e ++ hs)
-    plain none = subst (λ l. Gives C tail cleared slots e (c ∷ cs) (l ++ hs)) (sym none)
-        (gives_below C tail cleared slots c.place e (c ∷ cs) hs begins g)
+  module _ (hs : List (ℕ × ℕ)) (g : Gives C tail slots c.place (c ∷ cs) hs) where
+    plain : headers_in shown pads e ≡ [] → Gives C tail slots e (c ∷ cs) (headers_in shown pads e ++ hs)
+    plain none = subst (λ l. Gives C tail slots e (c ∷ cs) (l ++ hs)) (sym none)
+        (gives_below C tail slots c.place e (c ∷ cs) hs begins g)
 
     module _ (before : e < c.place) where
       abbrev pad : ℕ
       pad = c.place - e
 
-      rest_zero : (j : ℕ) → j < pads - 1 → word C words (e + 8 + 8 * j) ≡ 0
+      rest_zero : (j : ℕ) → j < pads - 1 → shown (e + 8 + 8 * j) ≡ 0
       rest_zero j lt = padding (e + 8 + 8 * j) (omega (arith, a.aligned)) (omega arith)
           (omega (arith, lt, a.aligned, place_aligned))
 
-      no_padding : word C words e ≡ 0 → Gives C tail cleared slots e (c ∷ cs) (headers_in C words pads e ++ hs)
-      no_padding none = plain (zeros C words pads e (each none))
+      no_padding : shown e ≡ 0 → Gives C tail slots e (c ∷ cs) (headers_in shown pads e ++ hs)
+      no_padding none = plain (zeros shown pads e (each none))
         where
-          each : word C words e ≡ 0 → (j : ℕ) → j < pads → word C words (e + 8 * j) ≡ 0
-          each none zero lt = let here : e + 8 * zero ≡ e = omega arith in ap (word C words) here ∙ none
+          each : shown e ≡ 0 → (j : ℕ) → j < pads → shown (e + 8 * j) ≡ 0
+          each none zero lt = let here : e + 8 * zero ≡ e = omega arith in ap shown here ∙ none
           each none (suc j) lt =
               let there : e + 8 * suc j ≡ e + 8 + 8 * j = omega arith in
-              ap (word C words) there ∙ rest_zero j (omega (arith, lt))
+              ap shown there ∙ rest_zero j (omega (arith, lt))
 
       pad_is_room : (pad ≡ room C e) × (room C e < span n)
       pad_is_room = ⊎_elim (λ (here : (span_c ≤ room C e) × (next_place C e span_c ≡ e)). absurd
@@ -298,7 +276,7 @@ module _ (C tail cleared : ℕ) (slots words : List ℕ) (e : ℕ) (c : StagedCl
           (λ (next : (room C e < span_c) × (next_place C e span_c ≡ e + room C e)).
           (omega (arith, next.1, lies.place), next.0)) (next_cases C e span_c)
 
-      adds_padding : Adds C tail cleared slots e (header (pos pad) padding_mark) c.place [] 0
+      adds_padding : Adds C tail slots e (header (pos pad) padding_mark) c.place [] 0
       adds_padding =
           let len : ℤ = pos pad in
           let w : ℕ = header len padding_mark in
@@ -306,7 +284,7 @@ module _ (C tail cleared : ℕ) (slots words : List ℕ) (e : ℕ) (c : StagedCl
           let few = pad_is_room.1 in
           let some : 8 ≤ pad = omega (arith, a.aligned, place_aligned, before) in
           let p8 : pad % 8 ≡ 0 = omega (arith, a.aligned, place_aligned, before) in
-          let whole : up_to_eight pad ≡ pad = omega (arith, p8) in
+          let whole : rounded pad ≡ pad = omega (arith, p8) in
           let h : IsHeader C tail e len padding_mark w = record {
             is = refl;
             len_fits = fits_pos pad (omega (arith, few, is, short, a.capacity.most));
@@ -328,48 +306,45 @@ module _ (C tail cleared : ℕ) (slots words : List ℕ) (e : ℕ) (c : StagedCl
             claims = ap (λ b. cond b 1 0) (open_is C tail e len padding_mark w h ∙ not_negative pad);
           }
 
-      one_padding : word C words e ≡ header (pos pad) padding_mark
-          → Gives C tail cleared slots e (c ∷ cs) (headers_in C words pads e ++ hs)
+      one_padding : shown e ≡ header (pos pad) padding_mark
+          → Gives C tail slots e (c ∷ cs) (headers_in shown pads e ++ hs)
       one_padding is =
           let w : ℕ = header (pos pad) padding_mark in
           let d = adds_padding in
           let more : pads ≡ suc (pads - 1) = omega (arith, a.aligned, place_aligned, before) in
-          let found : headers_in C words pads e ≡ (e, w) ∷ [] =
-          ap (λ m. headers_in C words m e) more
-          ∙ one C words (pads - 1) e w is (not_zero C tail e d.len d.type_id w d.«header») rest_zero in
-          subst (λ l. Gives C tail cleared slots e (c ∷ cs) (l ++ hs)) (sym found)
-          (adds C tail cleared slots e w c.place [] 0 (c ∷ cs) (c ∷ cs) hs d refl (omega arith) g)
+          let found : headers_in shown pads e ≡ (e, w) ∷ [] =
+          ap (λ m. headers_in shown m e) more
+          ∙ one shown (pads - 1) e w is (not_zero C tail e d.len d.type_id w d.«header») rest_zero in
+          subst (λ l. Gives C tail slots e (c ∷ cs) (l ++ hs)) (sym found)
+          (adds C tail slots e w c.place [] 0 (c ∷ cs) (c ∷ cs) hs d refl (omega arith) g)
 
-      at_point : cleared ≤ e → (t : Stage) → c.stage ≡ t
-          → Gives C tail cleared slots e (c ∷ cs) (headers_in C words pads e ++ hs)
-      at_point high t is = by_stage t (
-          word_here e a.aligned (omega arith) (omega (arith, before, bounds)) high
+      at_stage : (t : Stage) → c.stage ≡ t
+          → Gives C tail slots e (c ∷ cs) (headers_in shown pads e ++ hs)
+      at_stage t is = by_stage t (
+          found_here e a.aligned (omega arith) (omega (arith, before, bounds))
           ∙ staged_word-padding elsewhere c e (sym lies.from) before
           ∙ (λ i. masked_padding (is i) (padding_word elsewhere (c.place - lies.from i)))
           )
         where
-          by_stage : (t : Stage) → word C words e ≡ masked_padding t (padding_word elsewhere pad)
-              → Gives C tail cleared slots e (c ∷ cs) (headers_in C words pads e ++ hs)
+          by_stage : (t : Stage) → shown e ≡ masked_padding t (padding_word elsewhere pad)
+              → Gives C tail slots e (c ∷ cs) (headers_in shown pads e ++ hs)
           by_stage Moved is = no_padding is
           by_stage Padded is = one_padding is
           by_stage (Stored s) is = one_padding is
 
-    pub padding_gives : Gives C tail cleared slots e (c ∷ cs) (headers_in C words pads e ++ hs)
-    padding_gives = ⊎_elim
-        (λ (before : e < c.place). ⊎_elim
-        (λ low. no_padding before (word_low e a.aligned (omega arith) (omega (arith, before, bounds)) low))
-        (λ high. at_point before high c.stage refl) (cases_lt e cleared))
+    pub padding_gives : Gives C tail slots e (c ∷ cs) (headers_in shown pads e ++ hs)
+    padding_gives = ⊎_elim (λ (before : e < c.place). at_stage before c.stage refl)
         (λ (same : c.place ≤ e).
         let none : pads ≡ 0 = omega (arith, same) in
-        plain (ap (λ m. headers_in C words m e) none)) (cases_lt e c.place)
+        plain (ap (λ m. headers_in shown m e) none)) (cases_lt e c.place)
 
   -- the claims after it
-  pub rest_shown : AreShown C tail cleared words (claim_end c) cs
+  pub rest_shown : AreShown C tail shown (claim_end c) cs
   rest_shown = record {
     capacity = a.capacity;
     aligned = omega (arith, place_aligned, bounds);
     placed = a.placed.1;
     ends = a.ends;
     shows = λ p p8 from below. a.shows p p8 (omega (arith, begins, from)) below
-        ∙ ap (cond (ltb p cleared) 0) (cond-false _ _ _ (le-ltb p (claim_end c) from));
+        ∙ cond-false _ _ _ (le-ltb p (claim_end c) from);
   }

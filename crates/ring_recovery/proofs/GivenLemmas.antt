@@ -1,48 +1,28 @@
 -- What the headers of claims give: messages, open claims, and no finding.
-use Rattle.std.proofs.Common.{◌≡◌, ℕ, ◌+◌, ◌%◌, ◌<◌, ◌≤◌, Bool, true, false, cond, List, [], ◌∷◌, ◌++◌, refl, sym, ap, ◌∙◌, arith, ltb, None, ℤ, nat_abs}
+use Rattle.std.proofs.Common.{◌≡◌, ℕ, ◌+◌, ◌%◌, ◌<◌, ◌≤◌, Bool, true, false, cond, List, [], ◌∷◌, ◌++◌, length, slice_index, refl, sym, ap, ◌∙◌, arith, None, ℤ, nat_abs}
 use Rattle.std.specs.Prelude.{⊤}
 use Rattle.ring_layout.specs.Lists.{or_else}
-use Rattle.ring_layout.specs.Places.{IsCapacity}
+use Rattle.ring_layout.specs.Places.{IsCapacity, index, rounded}
 use Rattle.ring_layout.proofs.PlaceLemmas.{next_le}
-use Rattle.ring_snapshot.specs.Listing.{up_to_eight}
-use Rattle.ring_table.specs.Passing.{IsSettled, placed_message, shown_at}
-use Rattle.ring_table.specs.Rescued.{one_if_unsettled}
-use Rattle.ring_table.specs.Rule.{shown_word}
-use Rattle.ring_table.specs.Staged.{elsewhere, ArePlaced, claim_end, masked_record, staged_end, staged_span}
+use Rattle.ring_table.specs.Passing.{IsSettled, placed_committed_of}
+use Rattle.ring_table.specs.Rescued.{unsettled_count}
+use Rattle.ring_table.specs.Staged.{elsewhere, ArePlaced, body_word, claim_end, staged_end, staged_span, staged_word_at}
 use Rattle.ring_table.specs.declared.claim.PlacedMessage.{PlacedMessage}
-use Rattle.ring_table.specs.declared.claim.Stage.{Stage}
-use Rattle.ring_table.specs.declared.claim.Stage.TheVariants.{Moved, Padded, Stored}
 use Rattle.ring_table.specs.declared.claim.StagedClaim.{StagedClaim}
 use Rattle.ring_recovery.specs.Headers.{bytes_in, headers_finding, is_committed, is_open, message_at, messages_of, open_of}
-use Rattle.ring_recovery.specs.Image.{HaveBody}
 use Rattle.ring_recovery.specs.Recovered.{all_placed}
 use Rattle.ring_recovery.specs.declared.message.RecoveredMessage.{RecoveredMessage}
 use Rattle.ring_recovery.proofs.HeaderLemmas.{IsHeader, bytes_are, no_finding}
-use Rattle.ring_recovery.proofs.ScanLemmas.{word}
 
--- ---- the claims that begin at a point or above
+-- the slots have this body after the header at this place
+abbrev pub HaveBody : ℕ → List ℕ → ℕ → List ℕ → Type 0
+HaveBody C slots place body = (at : ℕ) → at % 8 ≡ 0 → at < length body
+    → slice_index slots (index C (place + 8 + at)) ≡ body_word body at
 
-abbrev pub seen_of : ℕ → StagedClaim → List PlacedMessage
-seen_of k c = cond (ltb c.place k) [] (shown_at c.stage (placed_message c))
-
--- their committed messages
-abbrev pub seen : ℕ → List StagedClaim → List PlacedMessage
-seen k [] = []
-seen k (c ∷ cs) = seen_of k c ++ seen k cs
-
-abbrev pub waits_of : ℕ → StagedClaim → ℕ
-waits_of k c = cond (ltb c.place k) 0 (one_if_unsettled c.stage)
-
--- the number of open ones
-abbrev pub waiting : ℕ → List StagedClaim → ℕ
-waiting k [] = 0
-waiting k (c ∷ cs) = waits_of k c + waiting k cs
-
--- the slots have the bodies of the settled ones
-abbrev pub HaveAll : ℕ → ℕ → List ℕ → List StagedClaim → Type 0
-HaveAll C k slots [] = ⊤
-HaveAll C k slots (c ∷ cs) = (IsSettled c.stage → k ≤ c.place → HaveBody C slots c.place c.message.body)
-    × HaveAll C k slots cs
+-- the slots have the bodies of the settled claims
+abbrev pub HaveAll : ℕ → List ℕ → List StagedClaim → Type 0
+HaveAll C slots [] = ⊤
+HaveAll C slots (c ∷ cs) = (IsSettled c.stage → HaveBody C slots c.place c.message.body) × HaveAll C slots cs
 
 -- ---- one header more
 
@@ -51,11 +31,11 @@ one_more : (b : Bool) (m : RecoveredMessage) (ms : List RecoveredMessage)
 one_more true m ms = refl
 one_more false m ms = refl
 
-module _ (C tail cleared : ℕ) (slots : List ℕ) where
+module _ (C tail : ℕ) (slots : List ℕ) where
   -- the headers give the messages and the open claims of these claims, and have no finding from e on
   pub record Gives (e : ℕ) (cs : List StagedClaim) (hs : List (ℕ × ℕ)) : Type 0 where
-    pub messages : all_placed (messages_of C slots tail hs) ≡ seen cleared cs
-    pub claims : open_of hs ≡ waiting cleared cs
+    pub messages : all_placed (messages_of C slots tail hs) ≡ placed_committed_of cs
+    pub claims : open_of hs ≡ unsettled_count cs
     pub none : (end : ℕ) → end ≤ e → headers_finding C tail end hs ≡ None
 
   pub gives_below : (e f : ℕ) (cs : List StagedClaim) (hs : List (ℕ × ℕ)) → f ≤ e → Gives e cs hs → Gives f cs hs
@@ -70,12 +50,13 @@ module _ (C tail cleared : ℕ) (slots : List ℕ) where
     pub len : ℤ
     pub type_id : ℤ
     pub «header» : IsHeader C tail p len type_id w
-    pub ends : p + up_to_eight (nat_abs len) ≤ end
+    pub ends : p + rounded (nat_abs len) ≤ end
     pub messages : all_placed (cond (is_committed C tail p w) (message_at C slots p w ∷ []) []) ≡ ms
     pub claims : cond (is_open w) 1 0 ≡ k
 
   pub adds : (p w end : ℕ) (ms : List PlacedMessage) (k : ℕ) (cs ds : List StagedClaim) (hs : List (ℕ × ℕ))
-      → Adds p w end ms k → seen cleared ds ≡ ms ++ seen cleared cs → waiting cleared ds ≡ k + waiting cleared cs
+      → Adds p w end ms k → placed_committed_of ds ≡ ms ++ placed_committed_of cs
+      → unsettled_count ds ≡ k + unsettled_count cs
       → Gives end cs hs → Gives p ds ((p, w) ∷ hs)
   adds p w end ms k cs ds hs a sees waits g =
       let h = a.«header» in
@@ -84,27 +65,22 @@ module _ (C tail cleared : ℕ) (slots : List ℕ) where
             ∙ (λ i. a.messages i ++ g.messages i) ∙ sym sees;
         claims = (λ i. a.claims i + g.claims i) ∙ sym waits;
         none = λ low le.
-            let next = ap (λ n. p + up_to_eight n) (bytes_are C tail p a.len a.type_id w h) in
+            let next = ap (λ n. p + rounded n) (bytes_are C tail p a.len a.type_id w h) in
             let ends = a.ends in
-            ap (λ x. or_else x (headers_finding C tail (p + up_to_eight (bytes_in w)) hs))
+            ap (λ x. or_else x (headers_finding C tail (p + rounded (bytes_in w)) hs))
             (no_finding C tail p a.len a.type_id w h low le)
-            ∙ g.none (p + up_to_eight (bytes_in w)) (omega (arith, next, ends));
+            ∙ g.none (p + rounded (bytes_in w)) (omega (arith, next, ends));
       }
 
--- ---- the words of one claim, and of claims after it
+-- ---- claims that are found
 
-pub masked_zero : (t : Stage) → masked_record t 0 ≡ 0
-masked_zero Moved = refl
-masked_zero Padded = refl
-masked_zero (Stored s) = refl
-
--- the claims from e on are before the tail, and the words show them from the point on
-pub record AreShown (C tail cleared : ℕ) (words : List ℕ) (e : ℕ) (cs : List StagedClaim) : Type 0 where
+-- the claims from e on are before the tail, and are what is found there
+pub record AreShown (C tail : ℕ) (shown : ℕ → ℕ) (e : ℕ) (cs : List StagedClaim) : Type 0 where
   pub capacity : IsCapacity C
   pub aligned : e % 8 ≡ 0
   pub placed : ArePlaced C e cs
   pub ends : staged_end e cs ≡ tail
-  pub shows : (p : ℕ) → p % 8 ≡ 0 → e ≤ p → p < tail → word C words p ≡ shown_word elsewhere cleared cs p
+  pub shows : (p : ℕ) → p % 8 ≡ 0 → e ≤ p → p < tail → shown p ≡ staged_word_at elsewhere cs p
 
 pub far : (C e : ℕ) (cs : List StagedClaim) → ArePlaced C e cs → e ≤ staged_end e cs
 far C e [] h = omega arith

@@ -2,6 +2,7 @@ pub mod HeaderLemmas
 pub mod ScanLemmas
 pub mod StepLemmas
 pub mod GivenLemmas
+pub mod MarkLemmas
 pub mod ClaimLemmas
 pub mod WholeLemmas
 pub mod BodyLemmas

@@ -1,30 +1,36 @@
 -- What the headers and the slots that a ring left come to.
-use Rattle.std.proofs.Common.{◌≡◌, ℕ, ◌+◌, ◌-◌, ◌/◌, ◌%◌, ◌≤◌, true, false, cond, List, ◌++◌, sym, ap, ◌∙◌, subst, append_assoc, eq-eqb, le-ltb, ltb, arith, None, Result, Ok, Err}
+use Rattle.std.proofs.Common.{◌≡◌, ℕ, ◌+◌, ◌-◌, ◌/◌, ◌%◌, ◌≤◌, ◌<◌, true, false, List, ◌++◌, slice_index, sym, ap, ◌∙◌, subst, append_assoc, eq-eqb, le-ltb, arith, None, Result, Ok, Err}
 use Rattle.std.specs.Prelude.{IfOk, MatchResult, not, ◌||◌}
 use Rattle.std.proofs.lemmas.Bool.{cond-false}
+use Rattle.ring_layout.specs.Layout.{head_index, tail_index}
 use Rattle.ring_layout.specs.Lists.{Begins}
+use Rattle.ring_layout.specs.Places.{index}
 use Rattle.ring_layout.specs.Refusals.{IsRefusedBy}
 use Rattle.ring_snapshot.specs.RingRecords.{positions_finding}
 use Rattle.ring_snapshot.specs.declared.ring_finding.RingFinding.{RingFinding}
 use Rattle.ring_table.specs.Closed.{restarted}
+use Rattle.ring_table.specs.Marks.{mark_of}
 use Rattle.ring_table.specs.OpenClaims.{AreBelow}
 use Rattle.ring_table.specs.Owners.{all_of}
-use Rattle.ring_table.specs.Passing.{AreSettled, placed_committed_of}
+use Rattle.ring_table.specs.Passing.{placed_committed_of}
 use Rattle.ring_table.specs.Rescued.{unsettled_count}
-use Rattle.ring_table.specs.Staged.{ArePlaced, elsewhere, staged_end}
+use Rattle.ring_table.specs.Rule.{Kept}
+use Rattle.ring_table.specs.Staged.{ArePlaced, elsewhere, staged_end, staged_word_at}
 use Rattle.ring_table.specs.declared.claim.PlacedMessage.{PlacedMessage}
 use Rattle.ring_table.specs.declared.claim.StagedClaim.{StagedClaim}
+use Rattle.ring_table.proofs.DecodeLemmas.{Marks, all_filled_out, filled_count, filled_ends, filled_messages, filled_placed}
 use Rattle.ring_table.proofs.ReachLemmas.{reach_aligned, reach_bounds}
 use Rattle.ring_table.proofs.RestLemmas.{Splits, splits}
 use Rattle.ring_table.proofs.StagedPlaces.{capacity_aligned, end_aligned, start_aligned}
-use Rattle.ring_recovery.specs.Headers.{finding_of, head_of, headers_between, messages_of, open_of, tail_of}
+use Rattle.ring_recovery.specs.Headers.{finding_of, head_of, headers_between, messages_of, open_of, recovered_header, tail_of}
 use Rattle.ring_recovery.specs.Image.{Remains}
 use Rattle.ring_recovery.specs.Recovered.{AreFrom, IsRecoveredOf, Reads, all_placed, messages_left}
 use Rattle.ring_recovery.specs.declared.recovered.Recovered.{Recovered}
-use Rattle.ring_recovery.proofs.BodyLemmas.{have_bodies, have_rest, have_restarted}
-use Rattle.ring_recovery.proofs.GivenLemmas.{AreShown, Gives, HaveAll, seen, waiting}
+use Rattle.ring_recovery.proofs.BodyLemmas.{HaveFrom, have_all, have_records, have_rest, have_restarted}
+use Rattle.ring_recovery.proofs.GivenLemmas.{AreShown, Gives}
+use Rattle.ring_recovery.proofs.MarkLemmas.{HaveRecords, have_bodies, header_is}
 use Rattle.ring_recovery.proofs.WholeLemmas.{gives}
-use Rattle.ring_recovery.proofs.SplitLemmas.{Cut, all_below, all_from, begins_committed, committed_append, cut, first_below, from_append, from_restarted, placed_front, seen_below, seen_from, seen_restarted, settled_front, waiting_below, waiting_from, waiting_restarted}
+use Rattle.ring_recovery.proofs.SplitLemmas.{all_below, all_from, committed_append, count_restarted, first_below, from_restarted, messages_restarted, placed_front, same_rest}
 use Rattle.ring_recovery.proofs.StepLemmas.{finding_is}
 
 positions_none : (C head tail : ℕ) → head % 8 ≡ 0 → tail % 8 ≡ 0 → head ≤ tail → tail ≤ head + C
@@ -35,155 +41,161 @@ positions_none C head tail h8 t8 order room =
     ∙ cond-false _ _ _ (le-ltb (head + C) tail room)
 
 module _ (C start : ℕ) (words slots : List ℕ) (m : Remains C start words slots) where
+  abbrev rule : Kept elsewhere C start m.rule.headers m.views
+  rule = m.rule.kept
+
   abbrev claims : List StagedClaim
-  claims = all_of m.rule.hist
+  claims = all_of rule.hist
 
   abbrev head : ℕ
-  head = m.rule.consumer.head
-
-  abbrev cleared : ℕ
-  cleared = m.rule.consumer.cleared
+  head = rule.consumer.head
 
   abbrev scan : ℕ
-  scan = m.rule.consumer.scan
+  scan = rule.consumer.scan
 
   abbrev tail : ℕ
   tail = staged_end start claims
 
   abbrev headers : List (ℕ × ℕ)
-  headers = headers_between C words head tail
+  headers = headers_between C words slots head tail
 
   big : 128 ≤ C
-  big = m.rule.lawful.capacity.least
+  big = rule.lawful.capacity.least
 
   start8 : start % 8 ≡ 0
-  start8 = start_aligned C start m.rule.lawful
+  start8 = start_aligned C start rule.lawful
 
   c8 : C % 8 ≡ 0
-  c8 = capacity_aligned C m.rule.lawful.capacity
+  c8 = capacity_aligned C rule.lawful.capacity
 
   head8 : head % 8 ≡ 0
-  head8 = reach_aligned C head start claims m.rule.consumer.taken (omega (arith, big)) c8 start8 m.rule.memory.placed
-      m.rule.memory.took
+  head8 = reach_aligned C head start claims rule.consumer.taken (omega (arith, big)) c8 start8 rule.memory.placed
+      rule.memory.took
 
   tail8 : tail % 8 ≡ 0
-  tail8 = end_aligned C start claims (omega (arith, big)) c8 start8 m.rule.memory.placed
+  tail8 = end_aligned C start claims (omega (arith, big)) c8 start8 rule.memory.placed
 
   order : head ≤ tail
-  order = (reach_bounds C head start claims m.rule.consumer.taken m.rule.memory.placed m.rule.memory.took).1
+  order = (reach_bounds C head start claims rule.consumer.taken rule.memory.placed rule.memory.took).1
 
   -- ---- the headers from the head on
 
-  at_head : Splits elsewhere C head start claims m.rule.consumer.taken
-  at_head = splits elsewhere C head start claims m.rule.consumer.taken big m.rule.memory.placed m.rule.memory.took
-
-  are_shown : AreShown C tail cleared words head (restarted head at_head.rest)
-  are_shown = record {
-    capacity = m.rule.lawful.capacity;
-    aligned = head8;
-    placed = at_head.placed;
-    ends = at_head.ends;
-    shows = λ p p8 from below. m.rule.memory.shows p p8 from (omega (arith, below, m.rule.memory.room))
-        ∙ ap (cond (ltb p cleared) 0) (at_head.words p from);
-  }
-
-  have : HaveAll C cleared slots (restarted head at_head.rest)
-  have = have_restarted C cleared slots head at_head.rest (have_rest C cleared slots at_head.taken at_head.rest
-      (subst (HaveAll C cleared slots) at_head.whole
-      (have_bodies C start words m.homes m.views m.rule m.shelf slots m.image)))
-
-  given : Gives C tail cleared slots head (restarted head at_head.rest) headers
-  given = gives C tail cleared slots words head ((tail - head) / 8) (restarted head at_head.rest) are_shown have
-      (omega (arith, order, head8, tail8))
-
-  taken_below : AreBelow cleared at_head.taken
-  taken_below = all_below C start cleared at_head.taken
-      (placed_front C start at_head.taken at_head.rest
-      (subst (ArePlaced C start) at_head.whole m.rule.memory.placed))
-      (omega (arith, at_head.below, m.rule.memory.clears_from))
-
-  -- ---- the claims that are cleared, and the others
-
-  at_scan : Splits elsewhere C scan start claims m.rule.consumer.got
-  at_scan = splits elsewhere C scan start claims m.rule.consumer.got big m.rule.memory.placed m.rule.memory.passed
-
-  got_cut : Cut cleared at_scan.taken
-  got_cut = cut C start cleared at_scan.taken (placed_front C start at_scan.taken at_scan.rest
-      (subst (ArePlaced C start) at_scan.whole m.rule.memory.placed))
+  at_head : Splits elsewhere C head start claims rule.consumer.taken
+  at_head = splits elsewhere C head start claims rule.consumer.taken big rule.memory.placed rule.memory.took
 
   abbrev left : List StagedClaim
-  left = got_cut.back ++ at_scan.rest
+  left = restarted head at_head.rest
 
-  whole : claims ≡ got_cut.front ++ left
-  whole = at_scan.whole ∙ ap (λ l. l ++ at_scan.rest) got_cut.whole
-      ∙ append_assoc got_cut.front got_cut.back at_scan.rest
+  left_from : AreFrom head left
+  left_from = all_from C head head left at_head.placed (omega arith)
 
-  left_from : AreFrom cleared left
-  left_from = from_append cleared got_cut.back at_scan.rest got_cut.from
-      (from_restarted cleared scan at_scan.rest
-      (all_from C scan cleared (restarted scan at_scan.rest) at_scan.placed m.rule.memory.clears_to))
+  have : HaveRecords C slots left
+  have = have_records C head slots left left_from (have_restarted C head slots head at_head.rest
+      (have_rest C head slots at_head.taken at_head.rest (subst (HaveFrom C head slots) at_head.whole
+      (have_all C start m.rule.headers m.homes m.views rule m.rule.shelf slots m.image))))
 
-  -- ---- what is found
+  -- the words have the marks of all claims
+  marked : (p : ℕ) → p % 8 ≡ 0 → head ≤ p → p < head + C
+      → Marks p (slice_index words (index C p)) (staged_word_at elsewhere claims p)
+  marked p p8 from below =
+      let high : rule.consumer.cleared ≤ p = omega (arith, m.rule.none_cleared, from) in
+      let shows : slice_index m.rule.headers (index C p) ≡ staged_word_at elsewhere claims p =
+      rule.memory.shows p p8 from below ∙ cond-false _ _ _ (le-ltb p rule.consumer.cleared high) in
+      record {
+        none = λ none. m.rule.encodes.none p p8 from below (shows ∙ none);
+        mark = λ some. m.rule.encodes.marks p p8 from below (λ none. some (sym shows ∙ none)) ∙ ap (mark_of p) shows;
+      }
 
-  messages_are : all_placed (messages_of C slots tail headers) ≡ placed_committed_of left
-  messages_are = given.messages ∙ seen_restarted cleared head at_head.rest
-      ∙ sym (seen_below cleared at_head.taken at_head.rest taken_below)
-      ∙ ap (seen cleared) (sym at_head.whole ∙ whole)
-      ∙ seen_below cleared got_cut.front left got_cut.below ∙ seen_from cleared left left_from
+  are_shown : AreShown C tail (recovered_header C words slots) head (all_filled_out left)
+  are_shown = record {
+    capacity = rule.lawful.capacity;
+    aligned = head8;
+    placed = filled_placed C head left rule.lawful.capacity at_head.placed;
+    ends = filled_ends head left ∙ at_head.ends;
+    shows = λ p p8 from below. header_is C head words slots left rule.lawful.capacity head8 at_head.placed have p p8
+        (subst (Marks p (slice_index words (index C p))) (at_head.words p from)
+        (marked p p8 from (omega (arith, below, rule.memory.room))));
+  }
 
-  claims_are : open_of headers ≡ unsettled_count left
-  claims_are = given.claims ∙ waiting_restarted cleared head at_head.rest
-      ∙ sym (waiting_below cleared at_head.taken at_head.rest taken_below)
-      ∙ ap (waiting cleared) (sym at_head.whole ∙ whole)
-      ∙ waiting_below cleared got_cut.front left got_cut.below ∙ waiting_from cleared left left_from
+  given : Gives C tail slots head (all_filled_out left) headers
+  given = gives C tail slots (recovered_header C words slots) head ((tail - head) / 8) (all_filled_out left) are_shown
+      (have_bodies C slots left have) (omega (arith, order, head8, tail8))
+
+  messages_are : all_placed (messages_of C slots tail headers) ≡ placed_committed_of at_head.rest
+  messages_are = given.messages ∙ filled_messages left ∙ messages_restarted head at_head.rest
+
+  claims_are : open_of headers ≡ unsettled_count at_head.rest
+  claims_are = given.claims ∙ filled_count left ∙ count_restarted head at_head.rest
+
+  taken_below : AreBelow head at_head.taken
+  taken_below = all_below C start head at_head.taken
+      (placed_front C start at_head.taken at_head.rest
+      (subst (ArePlaced C start) at_head.whole rule.memory.placed)) at_head.below
+
+  -- ---- what the consumer got and had not taken
+
+  at_scan : Splits elsewhere C scan start claims rule.consumer.got
+  at_scan = splits elsewhere C scan start claims rule.consumer.got big rule.memory.placed rule.memory.passed
+
+  later : Begins at_head.taken at_scan.taken
+  later = first_below head at_head.taken at_head.rest at_scan.taken at_scan.rest (sym at_head.whole ∙ at_scan.whole)
+      taken_below (from_restarted head scan at_scan.rest (all_from C scan head (restarted scan at_scan.rest)
+      at_scan.placed (omega (arith, rule.memory.clears_from, rule.memory.clears_to))))
+
+  rest_is : at_head.rest ≡ later.0 ++ at_scan.rest
+  rest_is = same_rest at_head.taken at_head.rest (later.0 ++ at_scan.rest)
+      (sym at_head.whole ∙ at_scan.whole ∙ ap (λ l. l ++ at_scan.rest) later.1
+      ∙ append_assoc at_head.taken later.0 at_scan.rest)
 
   abbrev again : List PlacedMessage
-  again = placed_committed_of got_cut.back
+  again = placed_committed_of later.0
 
-  got_is : m.rule.consumer.got ≡ placed_committed_of got_cut.front ++ again
-  got_is = at_scan.messages ∙ ap placed_committed_of got_cut.whole ∙ committed_append got_cut.front got_cut.back
+  got_is : rule.consumer.got ≡ rule.consumer.taken ++ again
+  got_is = at_scan.messages ∙ ap placed_committed_of later.1 ∙ committed_append at_head.taken later.0
+      ∙ ap (λ l. l ++ again) (sym at_head.messages)
 
-  taken_begins : Begins m.rule.consumer.taken (placed_committed_of got_cut.front)
-  taken_begins = subst (λ l. Begins l (placed_committed_of got_cut.front)) (sym at_head.messages)
-      (begins_committed at_head.taken got_cut.front (first_below cleared at_head.taken at_head.rest got_cut.front left
-      (sym at_head.whole ∙ whole) taken_below left_from))
+  -- ---- what is recovered
 
   head_is : head ≡ head_of C words
-  head_is = sym m.rule.memory.head_is
+  head_is = sym (m.rule.encodes.trailer (head_index C) (omega arith) ∙ rule.memory.head_is)
 
   tail_is : tail ≡ tail_of C words
-  tail_is = sym m.rule.memory.tail_is
+  tail_is = sym (m.rule.encodes.trailer (tail_index C) (omega arith) ∙ rule.memory.tail_is)
 
   pub no_finding : finding_of C words slots ≡ None
   no_finding = finding_is C head tail words slots None m.image.wide head_is tail_is
-      (positions_none C head tail head8 tail8 order m.rule.memory.room) (given.none head (omega arith))
+      (positions_none C head tail head8 tail8 order rule.memory.room) (given.none head (omega arith))
 
-  recovered : (r : Recovered) → Reads C words slots r → IsRecoveredOf m.rule.hist m.rule.consumer r
+  recovered : (r : Recovered) → Reads C words slots r → IsRecoveredOf rule.hist rule.consumer r
   recovered r reads =
-      let read : all_placed (messages_left r) ≡ placed_committed_of left =
+      let read : all_placed (messages_left r) ≡ placed_committed_of at_head.rest =
       ap all_placed reads.messages
       ∙ (λ i. all_placed (messages_of C slots (sym tail_is i)
-      (headers_between C words (sym head_is i) (sym tail_is i))))
+      (headers_between C words slots (sym head_is i) (sym tail_is i))))
       ∙ messages_are in
       record {
-        passed = got_cut.front;
-        left = left;
-        whole = whole;
-        below = got_cut.below;
-        from = left_from;
+        passed = at_head.taken;
+        left = at_head.rest;
+        whole = at_head.whole;
+        below = taken_below;
+        from = from_restarted head head at_head.rest left_from;
         messages = read;
-        settled = settled_front got_cut.front got_cut.back (subst AreSettled got_cut.whole at_scan.settled);
-        taken = taken_begins;
+        settled = at_head.settled;
+        taken = at_head.messages;
         again = again;
         got = got_is;
-        first = (placed_committed_of at_scan.rest, read ∙ committed_append got_cut.back at_scan.rest);
+        first = (
+          placed_committed_of at_scan.rest,
+          read ∙ ap placed_committed_of rest_is
+              ∙ committed_append later.0 at_scan.rest,
+        );
         open_claims = reads.open_claims
-            ∙ (λ i. open_of (headers_between C words (sym head_is i) (sym tail_is i))) ∙ claims_are;
+            ∙ (λ i. open_of (headers_between C words slots (sym head_is i) (sym tail_is i))) ∙ claims_are;
       }
 
   pub is_recovered : (r : Result Recovered RingFinding) → IsRefusedBy (finding_of C words slots) r
       → IfOk r (λ x. Reads C words slots x)
-      → MatchResult r (λ x. IsRecoveredOf m.rule.hist m.rule.consumer x) (λ _. ⊥)
+      → MatchResult r (λ x. IsRecoveredOf rule.hist rule.consumer x) (λ _. ⊥)
   is_recovered (Ok x) refused reads = recovered x reads
   is_recovered (Err f) refused reads =
       let clash : false ≡ true = subst (λ o. IsRefusedBy {T = Recovered} o (Err f)) no_finding refused in absurd cc

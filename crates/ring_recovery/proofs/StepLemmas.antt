@@ -4,32 +4,31 @@ use Rattle.std.proofs.Common.{◌≡◌, ℕ, suc, ◌+◌, ◌-◌, ◌/◌, �
 use mathlib.Core.Logic.{dite}
 use native.Mathlib.Decide.{ℕ_discrete}
 use Rattle.std.proofs.lemmas.Bool.{cond-true, cond-false}
+use Rattle.ring_layout.specs.Places.{rounded}
 use Rattle.ring_layout.specs.Lists.{or_else}
 use Rattle.ring_layout.specs.Refusals.{IsRefusedBy}
-use Rattle.ring_snapshot.specs.Listing.{up_to_eight}
 use Rattle.ring_snapshot.specs.RingRecords.{positions_finding}
 use Rattle.ring_snapshot.specs.declared.ring_finding.RingFinding.{RingFinding}
 use Rattle.ring_snapshot.specs.declared.ring_finding.RingFinding.TheVariants.{BadBodies}
-use Rattle.ring_recovery.specs.Headers.{all_headers, bytes_in, finding_of, head_of, header_finding, headers_between, headers_finding, headers_in, is_committed, message_at, messages_of, tail_of}
+use Rattle.ring_recovery.specs.Headers.{all_headers, bytes_in, finding_of, head_of, header_finding, headers_between, headers_finding, headers_in, is_committed, message_at, messages_of, recovered_header, tail_of}
 use Rattle.ring_recovery.specs.declared.message.RecoveredMessage.{RecoveredMessage}
-use Rattle.ring_recovery.proofs.ScanLemmas.{word}
 
--- ---- the next word
+-- ---- the next position
 
-module _ (C : ℕ) (words : List ℕ) where
-  pub passes_zero : (n m p q : ℕ) → n ≡ m + 1 → q ≡ p + 8 → word C words p ≡ 0
-      → headers_in C words n p ≡ headers_in C words m q
+module _ (shown : ℕ → ℕ) where
+  pub passes_zero : (n m p q : ℕ) → n ≡ m + 1 → q ≡ p + 8 → shown p ≡ 0
+      → headers_in shown n p ≡ headers_in shown m q
   passes_zero n m p q en eq none =
-      ap (λ k. headers_in C words k p) (let more : n ≡ suc m = omega (arith, en) in more)
-      ∙ cond-true _ _ _ (eq-eqb (word C words p) 0 none)
-      ∙ ap (headers_in C words m) (sym eq)
+      ap (λ k. headers_in shown k p) (let more : n ≡ suc m = omega (arith, en) in more)
+      ∙ cond-true _ _ _ (eq-eqb (shown p) 0 none)
+      ∙ ap (headers_in shown m) (sym eq)
 
-  pub finds_header : (n m p q w : ℕ) → n ≡ m + 1 → q ≡ p + 8 → word C words p ≡ w → (w ≡ 0 → ⊥)
-      → headers_in C words n p ≡ (p, w) ∷ headers_in C words m q
+  pub finds_header : (n m p q w : ℕ) → n ≡ m + 1 → q ≡ p + 8 → shown p ≡ w → (w ≡ 0 → ⊥)
+      → headers_in shown n p ≡ (p, w) ∷ headers_in shown m q
   finds_header n m p q w en eq is some =
-      ap (λ k. headers_in C words k p) (let more : n ≡ suc m = omega (arith, en) in more)
-      ∙ cond-false _ _ _ (ne_eqb (word C words p) 0 (λ z. some (sym is ∙ z)))
-      ∙ (λ i. (p, is i) ∷ headers_in C words m (sym eq i))
+      ap (λ k. headers_in shown k p) (let more : n ≡ suc m = omega (arith, en) in more)
+      ∙ cond-false _ _ _ (ne_eqb (shown p) 0 (λ z. some (sym is ∙ z)))
+      ∙ (λ i. (p, is i) ∷ headers_in shown m (sym eq i))
 
 -- ---- a finding
 
@@ -49,16 +48,16 @@ not_refused_by {T} {F} x v none = subst (λ y. IsRefusedBy {T = T} {F = F} y (Ok
 
 module _ (C tail end p w : ℕ) (hs : List (ℕ × ℕ)) (r : Result ℕ RingFinding)
     (refused : IsRefusedBy (header_finding C tail end p w) r) where
-  pub goes_on : (e : ℕ) → r ≡ Ok e → e ≡ p + up_to_eight (bytes_in w)
+  pub goes_on : (e : ℕ) → r ≡ Ok e → e ≡ p + rounded (bytes_in w)
       → headers_finding C tail end ((p, w) ∷ hs) ≡ headers_finding C tail e hs
   goes_on e ok is =
-      ap (λ x. or_else x (headers_finding C tail (p + up_to_eight (bytes_in w)) hs))
+      ap (λ x. or_else x (headers_finding C tail (p + rounded (bytes_in w)) hs))
       (none_if_ok (header_finding C tail end p w) r e ok refused)
       ∙ ap (λ k. headers_finding C tail k hs) (sym is)
 
   pub stops : (f : RingFinding) → r ≡ Err f → headers_finding C tail end ((p, w) ∷ hs) ≡ Some f
   stops f err =
-      ap (λ x. or_else x (headers_finding C tail (p + up_to_eight (bytes_in w)) hs))
+      ap (λ x. or_else x (headers_finding C tail (p + rounded (bytes_in w)) hs))
       (some_if_err (header_finding C tail end p w) r f err refused)
 
 -- ---- a message
@@ -74,49 +73,48 @@ no_more true x xs e = absurd cc
 no_more false x xs e = refl
 
 module _ (C tail at : ℕ) (words slots : List ℕ) (aligned : (at % 8 ≡ 0) × (tail % 8 ≡ 0)) (before : at < tail)
-    (o : Option RecoveredMessage)
-    (is : o ≡ (if is_committed C tail at (word C words at) then Some (message_at C slots at (word C words at))
-    else None)) where
+    (o : Option RecoveredMessage) (w : ℕ) (there_is : w ≡ recovered_header C words slots at)
+    (is : o ≡ (if is_committed C tail at w then Some (message_at C slots at w) else None)) where
   less : (tail - at) / 8 ≡ (tail - (at + 8)) / 8 + 1
   less = omega (arith, aligned.0, aligned.1, before)
 
-  at_zero : word C words at ≡ 0 → o ≡ None
+  at_zero : w ≡ 0 → o ≡ None
   at_zero none = is ∙ ap (λ w. if is_committed C tail at w then Some (message_at C slots at w) else None) none
 
   abbrev rest : List (ℕ × ℕ)
-  rest = headers_between C words (at + 8) tail
+  rest = headers_between C words slots (at + 8) tail
+
+  found : (w ≡ 0 → ⊥) → headers_between C words slots at tail ≡ (at, w) ∷ rest
+  found some = finds_header (recovered_header C words slots) ((tail - at) / 8) ((tail - (at + 8)) / 8) at (at + 8) w
+      less refl (sym there_is) some
 
   pub finds_message : (m : RecoveredMessage) → o ≡ Some m
-      → messages_of C slots tail (headers_between C words at tail) ≡ m ∷ messages_of C slots tail rest
-  finds_message m some = dite (ℕ_discrete (word C words at) 0)
+      → messages_of C slots tail (headers_between C words slots at tail) ≡ m ∷ messages_of C slots tail rest
+  finds_message m some = dite (ℕ_discrete w 0)
       (λ none. let clash : None ≡ Some m = sym (at_zero none) ∙ some in absurd cc)
-      (λ there. ap (messages_of C slots tail)
-      (finds_header C words ((tail - at) / 8) ((tail - (at + 8)) / 8) at (at + 8) (word C words at) less refl refl
-      there)
-      ∙ one_more (is_committed C tail at (word C words at)) (message_at C slots at (word C words at)) m
-      (messages_of C slots tail rest) (sym some ∙ is))
+      (λ there. ap (messages_of C slots tail) (found there)
+      ∙ one_more (is_committed C tail at w) (message_at C slots at w) m (messages_of C slots tail rest)
+      (sym some ∙ is))
 
   pub finds_none : o ≡ None
-      → messages_of C slots tail (headers_between C words at tail) ≡ messages_of C slots tail rest
-  finds_none none = dite (ℕ_discrete (word C words at) 0)
+      → messages_of C slots tail (headers_between C words slots at tail) ≡ messages_of C slots tail rest
+  finds_none none = dite (ℕ_discrete w 0)
       (λ zero. ap (messages_of C slots tail)
-      (passes_zero C words ((tail - at) / 8) ((tail - (at + 8)) / 8) at (at + 8) less refl zero))
-      (λ there. ap (messages_of C slots tail)
-      (finds_header C words ((tail - at) / 8) ((tail - (at + 8)) / 8) at (at + 8) (word C words at) less refl refl
-      there)
-      ∙ no_more (is_committed C tail at (word C words at)) (message_at C slots at (word C words at))
-      (messages_of C slots tail rest) (sym none ∙ is))
+      (passes_zero (recovered_header C words slots) ((tail - at) / 8) ((tail - (at + 8)) / 8) at (at + 8) less refl
+      (sym there_is ∙ zero)))
+      (λ there. ap (messages_of C slots tail) (found there)
+      ∙ no_more (is_committed C tail at w) (message_at C slots at w) (messages_of C slots tail rest) (sym none ∙ is))
 
 -- ---- the finding about the whole
 
 pub finding_is : (C h t : ℕ) (words slots : List ℕ) (x : Option RingFinding) → length slots ≡ C / 8
     → h ≡ head_of C words → t ≡ tail_of C words → positions_finding C h t ≡ None
-    → headers_finding C t h (headers_between C words h t) ≡ x → finding_of C words slots ≡ x
+    → headers_finding C t h (headers_between C words slots h t) ≡ x → finding_of C words slots ≡ x
 finding_is C h t words slots x wide head tail positions headers =
     ap (λ y. or_else y (or_else (positions_finding C (head_of C words) (tail_of C words))
-    (headers_finding C (tail_of C words) (head_of C words) (all_headers C words))))
+    (headers_finding C (tail_of C words) (head_of C words) (all_headers C words slots))))
     (cond-true _ None (Some (BadBodies (length slots))) (eq-eqb (length slots) (C / 8) wide))
     ∙ (λ i. or_else (positions_finding C (sym head i) (sym tail i))
-    (headers_finding C (sym tail i) (sym head i) (headers_between C words (sym head i) (sym tail i))))
-    ∙ ap (λ y. or_else y (headers_finding C t h (headers_between C words h t))) positions
+    (headers_finding C (sym tail i) (sym head i) (headers_between C words slots (sym head i) (sym tail i))))
+    ∙ ap (λ y. or_else y (headers_finding C t h (headers_between C words slots h t))) positions
     ∙ headers

@@ -1,22 +1,39 @@
--- The headers in any words of a ring whose bodies lie in slots. Such words have headers and zeros alone. Positions are
--- running byte counts, C is the capacity of the buffer, and the records end at the tail.
-use Rattle.std.specs.Prelude.{ℕ, zero, suc, ◌+◌, ◌-◌, ◌/◌, ◌%◌, Bool, ◌&&◌, ◌||◌, ◌==◌, not, nat_lt, int_lt, if◌then◌else◌, ℤ, pos, negsuc, nat_abs, List, [], ◌∷◌, length, slice_index, Option, Some, None}
+-- The headers that the words and the slots of any memory show, if the words have marks. Positions are running byte
+-- counts, C is the capacity of the buffer, and the records end at the tail.
+use Rattle.std.specs.Prelude.{ℕ, zero, suc, ◌+◌, ◌-◌, ◌/◌, ◌%◌, ◌^◌, Bool, ◌&&◌, ◌||◌, ◌==◌, not, nat_le, nat_lt, int_lt, if◌then◌else◌, ℤ, pos, negsuc, nat_abs, List, [], ◌∷◌, length, slice_index, Option, Some, None}
 use Rattle.ring_counters.specs.Records.{bytes_at}
 use Rattle.ring_layout.specs.Layout.{head_index, tail_index}
 use Rattle.ring_layout.specs.Lists.{or_else, total}
-use Rattle.ring_layout.specs.Places.{index}
+use Rattle.ring_layout.specs.Places.{index, rounded}
 use Rattle.ring_recovery.specs.declared.message.RecoveredMessage.{RecoveredMessage}
-use Rattle.ring_snapshot.specs.Listing.{up_to_eight}
+use Rattle.ring_snapshot.specs.Marks.{bad_header}
 use Rattle.ring_snapshot.specs.RingRecords.{is_length, length_in, positions_finding, type_in}
 use Rattle.ring_snapshot.specs.declared.ring_finding.RingFinding.{RingFinding}
 use Rattle.ring_snapshot.specs.declared.ring_finding.RingFinding.TheVariants.{BadBodies, BadLength, BadType}
+use Rattle.ring_table.specs.Marks.{decoded, mark_of}
 
--- the words that are not 0 among n words from the position p on, each with its position
-abbrev pub headers_in : ℕ → List ℕ → ℕ → ℕ → List (ℕ × ℕ)
-headers_in C words zero p = []
-headers_in C words (suc n) p =
-    let w = slice_index words (index C p) in
-    if w == 0 then headers_in C words n (p + 8) else (p, w) ∷ headers_in C words n (p + 8)
+-- the mark w at the position p ends where a record or padding may end
+abbrev pub has_end : ℕ → ℕ → Bool
+has_end p w = nat_le (p + 8) (w - w % 8) && nat_lt (w - w % 8 - p) (2 ^ 31)
+
+-- The header that the word w and the first slot y show at the position p. It is 0 if w is no mark. It is a header that
+-- no record has if w is not the mark of what it shows.
+abbrev pub header_of_mark : ℕ → ℕ → ℕ → ℕ
+header_of_mark p w y =
+    if nat_le w p then 0
+    else (if has_end p w && mark_of p (decoded p w y) == w then decoded p w y else bad_header)
+
+-- the header at a position
+abbrev pub recovered_header : ℕ → List ℕ → List ℕ → ℕ → ℕ
+recovered_header C words slots p =
+    header_of_mark p (slice_index words (index C p)) (slice_index slots (index C p))
+
+-- The headers at n positions from p on, each with its position. `shown` gives the header at a position, or 0 if there
+-- is none
+abbrev pub headers_in : (ℕ → ℕ) → ℕ → ℕ → List (ℕ × ℕ)
+headers_in shown zero p = []
+headers_in shown (suc n) p =
+    if shown p == 0 then headers_in shown n (p + 8) else (p, shown p) ∷ headers_in shown n (p + 8)
 
 -- the bytes of a record with this header, from the begin of the header on
 abbrev pub bytes_in : ℕ → ℕ
@@ -71,7 +88,7 @@ header_finding C tail end p w =
 abbrev pub headers_finding : ℕ → ℕ → ℕ → List (ℕ × ℕ) → Option RingFinding
 headers_finding C tail end [] = None
 headers_finding C tail end (h ∷ hs) = or_else (header_finding C tail end h.0 h.1)
-    (headers_finding C tail (h.0 + up_to_eight (bytes_in h.1)) hs)
+    (headers_finding C tail (h.0 + rounded (bytes_in h.1)) hs)
 
 -- Any memory ---------------------------------------------------------------
 
@@ -82,12 +99,12 @@ abbrev pub tail_of : ℕ → List ℕ → ℕ
 tail_of C words = slice_index words (tail_index C)
 
 -- the headers from one position up to another
-abbrev pub headers_between : ℕ → List ℕ → ℕ → ℕ → List (ℕ × ℕ)
-headers_between C words from to = headers_in C words ((to - from) / 8) from
+abbrev pub headers_between : ℕ → List ℕ → List ℕ → ℕ → ℕ → List (ℕ × ℕ)
+headers_between C words slots from to = headers_in (recovered_header C words slots) ((to - from) / 8) from
 
 -- the headers from the head to the tail
-abbrev pub all_headers : ℕ → List ℕ → List (ℕ × ℕ)
-all_headers C words = headers_between C words (head_of C words) (tail_of C words)
+abbrev pub all_headers : ℕ → List ℕ → List ℕ → List (ℕ × ℕ)
+all_headers C words slots = headers_between C words slots (head_of C words) (tail_of C words)
 
 -- The first thing in which the words and the slots contradict the rule: the number of slots, then the positions, then
 -- the headers from the head on
@@ -95,4 +112,4 @@ abbrev pub finding_of : ℕ → List ℕ → List ℕ → Option RingFinding
 finding_of C words slots =
     or_else (if length slots == C / 8 then None else Some (BadBodies (length slots)))
     (or_else (positions_finding C (head_of C words) (tail_of C words))
-    (headers_finding C (tail_of C words) (head_of C words) (all_headers C words)))
+    (headers_finding C (tail_of C words) (head_of C words) (all_headers C words slots)))

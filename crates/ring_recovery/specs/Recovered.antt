@@ -15,7 +15,7 @@ use Rattle.ring_table.specs.declared.view.ConsumerView.{ConsumerView}
 -- the messages that are still to come
 abbrev pub messages_left : Recovered → List RecoveredMessage
 messages_left r =
-    messages_of r.capacity r.slots.now r.tail (headers_between r.capacity r.words.now r.at r.tail)
+    messages_of r.capacity r.slots.now r.tail (headers_between r.capacity r.words.now r.slots.now r.at r.tail)
 
 abbrev pub placed : RecoveredMessage → PlacedMessage
 placed m = record { place = m.place; message = record { type_id = m.type_id; body = m.body } }
@@ -30,8 +30,8 @@ all_placed (m ∷ ms) = placed m ∷ all_placed ms
 pub record Reads (C : ℕ) (words slots : List ℕ) (r : Recovered) : Type 0 where
   pub capacity : r.capacity ≡ C
   pub tail : r.tail ≡ tail_of C words
-  pub messages : messages_left r ≡ messages_of C slots (tail_of C words) (all_headers C words)
-  pub open_claims : r.open_claims ≡ open_of (all_headers C words)
+  pub messages : messages_left r ≡ messages_of C slots (tail_of C words) (all_headers C words slots)
+  pub open_claims : r.open_claims ≡ open_of (all_headers C words slots)
 
 -- the places of the claims are p or above
 abbrev pub AreFrom : ℕ → List StagedClaim → Type 0
@@ -39,22 +39,22 @@ AreFrom p [] = ⊤
 AreFrom p (c ∷ cs) = (p ≤ c.place) × AreFrom p cs
 
 -- r was recovered from a ring with this history of all claims, whose consumer died when it knew this. The first
--- claims, `passed`, begin below the point up to which the consumer had cleared, and the others, `left`, begin there
--- or above. The messages of r are the committed ones of `left`, each whole and once, with their places and in their
--- order. All claims of `passed` were settled. The messages that the consumer took are the first committed ones of
--- `passed`. What the consumer got are the committed ones of `passed`, and then `again`, with which r begins: the
--- consumer was shown these messages, or was about to be, and had not cleared them. `open_claims` is the number of
--- claims of `left` that were not settled, and of which a header was stored. r has no message of them
+-- claims, `passed`, begin below the head, and the others, `left`, begin there or above. The messages of r are the
+-- committed ones of `left`, each whole and once, with their places and in their order. All claims of `passed` were
+-- settled. The messages that the consumer took are the committed ones of `passed`. What the consumer got are these, and
+-- then `again`, with which r begins: the consumer was shown these messages, or was about to be, and had not stored a
+-- head after them. `open_claims` is the number of claims of `left` that were not settled, and of which a header was
+-- stored. r has no message of them
 pub record IsRecoveredOf (hist : OwnedHistory) (consumer : ConsumerView) (r : Recovered) : Type 0 where
   pub passed : List StagedClaim
   pub left : List StagedClaim
   pub whole : all_of hist ≡ passed ++ left
-  pub below : AreBelow consumer.cleared passed
-  pub from : AreFrom consumer.cleared left
+  pub below : AreBelow consumer.head passed
+  pub from : AreFrom consumer.head left
   pub messages : all_placed (messages_left r) ≡ placed_committed_of left
   pub settled : AreSettled passed
-  pub taken : Begins consumer.taken (placed_committed_of passed)
+  pub taken : consumer.taken ≡ placed_committed_of passed
   pub again : List PlacedMessage
-  pub got : consumer.got ≡ placed_committed_of passed ++ again
+  pub got : consumer.got ≡ consumer.taken ++ again
   pub first : Begins again (all_placed (messages_left r))
   pub open_claims : r.open_claims ≡ unsettled_count left

@@ -1,5 +1,5 @@
 //! Recovers what a ring left.
-ghost use Rattle.std.specs.Prelude.{◌≡◌, ◌≢◌, ℕ, ◌+◌, ◌%◌, ◌≤◌, length, Err, IfOk, MatchResult};
+ghost use Rattle.std.specs.Prelude.{◌≡◌, ◌≢◌, ℕ, ◌+◌, ◌/◌, ◌%◌, ◌≤◌, length, Err, IfOk, MatchResult};
 ghost use Rattle.ring_layout.specs.Layout.{ring_words};
 ghost use Rattle.ring_layout.specs.Places.{IsCapacity};
 ghost use Rattle.ring_layout.specs.Refusals.{IsRefusedBy};
@@ -9,24 +9,31 @@ ghost use Rattle.ring_recovery.specs.Image.{Remains};
 ghost use Rattle.ring_recovery.specs.Recovered.{IsRecoveredOf, Reads};
 
 use crate::header::{check_header, is_open};
+use crate::mark::recovered_header;
 use crate::recovered::Recovered;
-use ring_layout::word_index;
 use ring_snapshot::{RingFinding, RingSnapshot};
 
 /// Tests the headers between two positions, in order. Returns the number of open claims.
-fn check_headers(words: &[u64], capacity: u32, head: u64, tail: u64) -> Result<u64, RingFinding>
+fn check_headers(
+    words: &[u64],
+    slots: &[u64],
+    capacity: u32,
+    head: u64,
+    tail: u64,
+) -> Result<u64, RingFinding>
     requires capacity { IsCapacity capacity }
     requires words { length words.now ≡ ring_words capacity }
+    requires slots { length slots.now ≡ capacity / 8 }
     requires order { head ≤ tail }
     ensures refused { IsRefusedBy
-        (headers_finding capacity tail head (headers_between capacity words.now head tail)) result }
-    ensures claims { IfOk result (λ n. n ≡ open_of (headers_between capacity words.now head tail)) }
+        (headers_finding capacity tail head (headers_between capacity words.now slots.now head tail)) result }
+    ensures claims { IfOk result (λ n. n ≡ open_of (headers_between capacity words.now slots.now head tail)) }
 {
     let mut claims = 0;
     let mut end = head;
     for k in 0..(tail - head) / 8 {
         let at = head + 8 * k;
-        let header = words[word_index(capacity, at)];
+        let header = recovered_header(words, slots, capacity, at);
         if header != 0 {
             end = check_header(capacity, tail, end, at, header)?;
             if is_open(header) {
@@ -54,7 +61,7 @@ fn read_memory<'a>(words: &'a [u64], slots: &'a [u64]) -> Result<Recovered<'a>, 
     }
     // (the records are not listed: this tests the head and the tail)
     let _records = ring.records()?;
-    let open_claims = check_headers(words, capacity, head, tail)?;
+    let open_claims = check_headers(words, slots, capacity, head, tail)?;
     Ok(Recovered {
         words,
         slots,
@@ -66,21 +73,22 @@ fn read_memory<'a>(words: &'a [u64], slots: &'a [u64]) -> Result<Recovered<'a>, 
 }
 
 /// Recovers the committed messages of a ring whose threads all died, each at any step. `words` are the words of the
-/// ring, which has its bodies in slots. `slots` are these slots.
+/// ring, which have marks. `slots` are its slots, which have the headers and the bodies.
 ///
-/// From the memory of a ring the call returns the committed messages from the point on up to which the dead consumer
-/// had cleared. Each of them comes whole, once, and in the order of the claims. What the consumer was shown and had not
-/// cleared comes again. Claims that were open count as aborted.
+/// From the memory of a ring the call returns the committed messages from the head on. Each of them comes whole, once,
+/// and in the order of the claims. What the dead consumer was shown after it last stored the head comes again. Claims
+/// that were open count as aborted.
 ///
 /// For any other memory the call returns a finding about it, or the messages of the headers that it has. The findings
 /// are, in this order: `BadSize` if no ring has this many words, `BadBodies` if there are not as many slots as words of
 /// the buffer, `UnalignedPosition`, `TailBeforeHead` and `TailTooFar` for positions that make no sense, and `BadLength`
-/// or `BadType` for the first header that no record has there, or that lies inside another record.
+/// or `BadType` for the first header that no record has there, or that lies inside another record. A mark that is not
+/// the mark of the header beside it gives `BadLength` with the length 1.
 ///
 /// The call changes nothing, and allocates no memory. Any thread may call it.
 pub fn recover<'a>(words: &'a [u64], slots: &'a [u64]) -> Result<Recovered<'a>, RingFinding>
     ensures recovered { (C start : ℕ) (m : Remains C start words.now slots.now)
-        → MatchResult result (λ r. IsRecoveredOf m.rule.hist m.rule.consumer r) (λ _. ⊥) }
+        → MatchResult result (λ r. IsRecoveredOf m.rule.kept.hist m.rule.kept.consumer r) (λ _. ⊥) }
     ensures no_ring { ((C : ℕ) → IsCapacity C → length words.now ≢ ring_words C)
         → result ≡ Err (BadSize (length words.now)) }
     ensures refused { (C : ℕ) → IsCapacity C → length words.now ≡ ring_words C

@@ -5,9 +5,10 @@ ghost use Rattle.ring_layout.specs.Layout.{ring_words};
 
 use crate::body::Body;
 use crate::header::is_length;
+use crate::mark::recovered_header;
 use crate::message::RecoveredMessage;
 use ring_layout::record_descriptor::HEADER_LENGTH;
-use ring_layout::{byte_index, unpack_header, word_index};
+use ring_layout::{byte_index, unpack_header};
 
 /// The committed messages that a ring left, in order. As an iterator it returns the messages, and allocates no memory.
 #[derive(Debug, Drop)]
@@ -101,7 +102,7 @@ impl<'a> Iterator for Recovered<'a> {
     fn next(&mut self) -> Option<RecoveredMessage<'a>> {
         while self.at < self.tail {
             let at = self.at;
-            let header = self.words[word_index(self.capacity, at)];
+            let header = recovered_header(self.words, self.slots, self.capacity, at);
             self.at += 8;
             if let Some(message) = self.message_at(at, header) {
                 return Some(message);

@@ -39,6 +39,6 @@ pub use origin::{Origin, process_of};
 pub use printable::{Printable, is_control};
 pub use prometheus::{Labelled, to_prometheus};
 pub use report::{Cell, Column, Field, Report};
-pub use settled::{Words, formatted_words, note_settled, ring_words, settled_words};
+pub use settled::{Words, note_settled, ring_words, settled_words};
 pub use state::State;
 pub use view::{Bodies, View};

@@ -4,7 +4,7 @@ ghost use Rattle.std.specs.Prelude.{◌≡◌, [], false, IfOk};
 use crate::input::{Section, section_words};
 use crate::input_fault::InputFault;
 use crate::report::Report;
-use ring_snapshot::{BoardSnapshot, RingSnapshot, formatted_header, join_bodies};
+use ring_snapshot::{BoardSnapshot, RingSnapshot, join_bodies};
 use std::alloc::{AllocError, Global};
 use std::io::Input;
 use std::rt::Files;
@@ -54,7 +54,7 @@ pub fn settled_words<'a, R: AllocGlobal + Files + Input>(
     Ok(Words { words, is_settled })
 }
 
-/// Adds the bodies that are stored separately to the words of a ring. Words that no ring has stay as they are.
+/// Makes the words of a plain ring those of the format, with its slots. Words that no ring has stay as they are.
 fn add_bodies<'a, R: AllocGlobal + Files + Input>(
     rt: &R,
     words: &mut Vec<u64>,
@@ -84,8 +84,8 @@ fn positions_in<'a, R: AllocGlobal + Files + Input>(
     Ok(positions(words.as_slice(), true))
 }
 
-/// Returns the words of a ring whose bodies are stored separately, as `settled_words` does. Bodies are read after the
-/// words, so a record that is shown as committed was whole. Both reads are between two looks at the positions.
+/// Returns the words of a plain ring in the format, as `settled_words` does. Slots are read after the words, so a
+/// record that is shown as committed was whole. Both reads are between two looks at the positions.
 fn joined_words<'a, R: AllocGlobal + Files + Input>(
     rt: &R,
     section: Section<'a>,
@@ -107,7 +107,8 @@ fn joined_words<'a, R: AllocGlobal + Files + Input>(
     Ok(Words { words, is_settled })
 }
 
-/// Returns the words of a ring in the format. If the bodies are stored separately, they are added.
+/// Returns the words of a ring in the format. `bodies_at` is the byte of the file at which the slots of a plain ring
+/// begin.
 pub fn ring_words<'a, R: AllocGlobal + Files + Input>(
     rt: &R,
     section: Section<'a>,
@@ -134,14 +135,4 @@ pub fn note_settled(
         report.findings.clear();
     }
     Ok(report)
-}
-
-/// Returns the words of memory with each header as the format has it. A ring whose bodies are stored separately is
-/// listed by these words, without its bodies. The words of other rings stay the same.
-pub fn formatted_words(alloc: Global, words: &[u64]) -> Result<Vec<u64>, AllocError> {
-    let mut formatted = Vec::new(alloc);
-    for word in words {
-        formatted.push(formatted_header(*word))?;
-    }
-    Ok(formatted)
 }

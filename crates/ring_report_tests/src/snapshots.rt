@@ -100,36 +100,45 @@ pub fn wrapped(rt: &impl Abort, alloc: Global) -> SoloRing {
     ring
 }
 
-/// The words that `wrapped` has at these indexes are headers.
-static HEADERS: [usize; 5] = [0, 3, 9, 12, 15];
+/// The indexes of the records and of the padding of `wrapped`, and what a plain ring has there: the word, which is the
+/// end and the kind, and the header in the slot. The kinds are 0 for committed, 1 for padding, 2 for open and 3 for
+/// aborted. The records at 0 and 3 are in the second lap. The message at 6 was read, and its mark says nothing now.
+/// Padding has no header.
+static MARKED: [(usize, u64, u64); 6] = [
+    (0, 152 + 2, 0x0000_0006_0000_0018),
+    (3, 176, 0x0000_0007_0000_0012),
+    (6, 72, 0x0000_0003_0000_0015),
+    (9, 96, 0x0000_0004_0000_0018),
+    (12, 120 + 3, 0x0000_0005_0000_0018),
+    (15, 128 + 1, 0),
+];
 
-/// Takes the body out of a word of `wrapped`. What it leaves of the padding has a type id of its own, -2.
-fn take_body(word: &mut u64, index: usize) -> u64 {
-    if !HEADERS.contains(&index) {
-        let slot = *word;
-        *word = 0;
-        return slot;
+/// The word and the slot at an index of the buffer of `wrapped` as a plain ring. Two slots still have a message that
+/// was read.
+fn parts_at(index: usize, word: u64) -> (u64, u64) {
+    for (marked, mark, header) in MARKED {
+        if marked == index {
+            return (mark, header);
+        }
     }
-    if index == 15 {
-        *word = word.wrapping_sub(1 << 32);
+    match index {
+        7 => (0, u64::from_le_bytes(*b"third me")),
+        8 => (0, u64::from_le_bytes(*b"ssage\0\0\0")),
+        _ => (0, word),
     }
-    0
 }
 
-/// The ring of `wrapped` with its bodies apart: its words, and then its slots. Two slots still have a message that was
-/// read.
+/// The words of `wrapped` as a plain ring, and then its slots.
 pub fn plain(rt: &impl Abort, alloc: Global, wrapped: &[u64]) -> Vec<u64> {
     let mut words = Vec::from_slice(alloc, wrapped).expect(rt, "memory");
     for index in 0..16usize {
-        let slot = match words.get_mut(index) {
-            Some(word) => take_body(word, index),
-            None => 0,
+        let (mark, slot) = match words.get(index) {
+            Some(word) => parts_at(index, *word),
+            None => (0, 0),
         };
-        let slot = match index {
-            7 => u64::from_le_bytes(*b"third me"),
-            8 => u64::from_le_bytes(*b"ssage\0\0\0"),
-            _ => slot,
-        };
+        if let Some(word) = words.get_mut(index) {
+            *word = mark;
+        }
         words.push(slot).expect(rt, "memory");
     }
     words

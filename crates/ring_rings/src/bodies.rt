@@ -11,6 +11,7 @@ ghost use Rattle.ring_table.specs.Changes.{blank, recorded, with_header};
 ghost use Rattle.ring_table.specs.declared.view.Key.{Key as TheKey};
 ghost use Rattle.ring_table.specs.declared.view.View.{View};
 ghost use Rattle.ring_table.specs.Closed.{IsClosed, IsLeft, LeavesRest};
+ghost use Rattle.ring_table.specs.ConsumerSteps.{StandsBefore, StoresHead, StoresHeadBefore};
 ghost use Rattle.ring_table.specs.ProducerSteps.{with_changed, HasClaimAt, NeedsHeader};
 ghost use Rattle.ring_table.specs.Owners.{OwnedHistory};
 ghost use Rattle.ring_table.specs.Rescued.{HadHistory, IsSaved, Rescues};
@@ -18,16 +19,16 @@ ghost use Rattle.ring_table.specs.Rule.{IsLawful};
 ghost use Rattle.ring_table.specs.Seats.{IsSameSeat, IsSeatOf};
 ghost use Rattle.ring_table.specs.SlotSteps.{IsOpenOf};
 ghost use Rattle.ring_table.specs.Staged.{AreRising};
-ghost use Rattle.ring_table.specs.Views.{cleared_to, first_view, with_claims, with_consumer};
+ghost use Rattle.ring_table.specs.Views.{first_view, with_claims};
 ghost use Rattle.ring_rings.specs.Bodies.{HasPaddedLast, IsPaddedLast, PutsBytes};
 ghost use Rattle.ring_rings.specs.ReadingSteps.{CopiesBody, HasBodyAt, HasGotLast, HasLastAt, IsInBlock, IsReaderSeatOf, LoadsWholeBody, OnlyLoads};
 
 use atomic_table::Closed;
-use ring_table::{Key, Mode, RingSeat, RingTable, SharedRing, Unsettled, Wanted};
+use ring_table::{Headers, Key, RingSeat, RingTable, SharedRing, Unsettled, Wanted};
 use std::alloc::{AllocError, Global};
 
 /// The memory of the bodies of messages, which is words (`InWords`) or slots (`InSlots`).
-pub trait Bodies: Mode {
+pub trait Bodies: Headers {
     /// Returns the number of slots of a table of this many bytes.
     ghost slots_for: { ℕ → ℕ };
 
@@ -129,15 +130,33 @@ pub trait Bodies: Mode {
         ensures loads { (m : PlacedMessage) → HasGotLast m seat.old.me.0 → m.place ≡ place
             → length m.message.body ≡ len → LoadsWholeBody capacity m seat.old.me.0 seat.new.me.0 };
 
-    /// Clears the words that the read has passed, from the head up to the position `to`.
-    fn clear_up(words: &SharedRing<Self>, seat: &mut RingSeat, capacity: u32, head: u64, to: u64)
+    /// Stores the head after all that the read has passed, from the head up to the position `to`. If bodies are in
+    /// words, these words are cleared first.
+    fn store_head(words: &SharedRing<Self>, seat: &mut RingSeat, capacity: u32, head: u64, to: u64)
         requires seat { IsReaderSeatOf words.now.table_id words.now.key capacity seat.old }
-        requires cleared { seat.old.me.0.consumer.cleared ≡ head }
+        requires stands { (seat.old.me.0.consumer.head ≡ head) × (seat.old.me.0.consumer.cleared ≡ head) }
+        requires passed { (head ≤ to) × (seat.old.me.0.consumer.scan ≡ to) }
+        requires whole { (head % 8 ≡ 0) × (to % 8 ≡ 0) }
+        requires inside { IsInBlock capacity head to }
+        ensures seat { IsSameSeat seat.old seat.new }
+        ensures told { StoresHead seat.old.me.0 seat.new.me.0 };
+
+    /// Does the same up to the last message that the read has got, which is at the position `to` and stays in the ring.
+    fn store_head_before(
+        words: &SharedRing<Self>,
+        seat: &mut RingSeat,
+        capacity: u32,
+        head: u64,
+        to: u64,
+    )
+        requires seat { IsReaderSeatOf words.now.table_id words.now.key capacity seat.old }
+        requires stands { (seat.old.me.0.consumer.head ≡ head) × (seat.old.me.0.consumer.cleared ≡ head) }
+        requires last { StandsBefore to seat.old.me.0 }
         requires passed { (head ≤ to) × (to ≤ seat.old.me.0.consumer.scan) }
         requires whole { (head % 8 ≡ 0) × (to % 8 ≡ 0) }
         requires inside { IsInBlock capacity head to }
         ensures seat { IsSameSeat seat.old seat.new }
-        ensures view { seat.new.me.0 ≡ with_consumer (cleared_to to seat.old.me.0.consumer) seat.old.me.0 };
+        ensures told { StoresHeadBefore seat.old.me.0 seat.new.me.0 };
 
     /// Writes the words of a ring into `room`, in the ring's format, and returns them. They are made from what the
     /// ring's table left.

@@ -1,56 +1,20 @@
-//! The steps of a ring whose bodies are in slots. One seat at a time reads and writes a slot as plain memory. Headers
-//! and the trailer are words.
+//! The steps of a ring whose bodies are in slots. One seat at a time reads and writes a slot as plain memory. Marks and
+//! the trailer are words.
 ghost use Rattle.std.specs.Prelude.{◌≡◌, ◌+◌, ◌/◌, ◌%◌, ◌≤◌, ◌<◌, List, [], ◌∷◌, ◌++◌};
 ghost use Rattle.ring_table.specs.declared.claim.PlacedMessage.{PlacedMessage};
 ghost use Rattle.ring_table.specs.Seats.{IsSameSeat};
 ghost use Rattle.ring_table.specs.SlotSteps.{HasLast};
-ghost use Rattle.ring_table.specs.Views.{cleared_to, with_consumer};
+ghost use Rattle.ring_table.specs.ConsumerSteps.{StandsBefore, StoresHead, StoresHeadBefore};
 ghost use Rattle.ring_rings.specs.ReadingSteps.{IsReaderSeatOf, LoadsWholeBody};
 
 use crate::bodies::Bodies;
 use atomic_table::Closed;
-use ring_layout::{align8, word_index};
 use ring_table::{
-    InSlots, Key, RingSeat, RingTable, SharedRing, Unsettled, Wanted, clear_record, clear_word,
-    lend_body, load_passed_header, open_slots, put_slots, read_slots, rescue_slots, return_body,
-    show_slots, store_claimed_slots, write_slots,
+    InSlots, Key, RingSeat, RingTable, SharedRing, Unsettled, Wanted, lend_body, open_slots,
+    put_slots, read_slots, rescue_slots, return_body, show_slots, store_claimed_slots,
+    store_head_before_mark, store_head_past_marks, write_slots,
 };
 use std::alloc::{AllocError, Global};
-
-/// Clears what the read has passed from the position `at` on. This is a message's record that ends at or below `to`, or
-/// otherwise one word. Returns the end of what was cleared.
-#[inline(always)]
-fn clear_next(
-    slots: &SharedRing<InSlots>,
-    seat: &mut RingSeat,
-    capacity: u32,
-    at: u64,
-    to: u64,
-) -> u64
-    requires seat { IsReaderSeatOf slots.now.table_id slots.now.key capacity seat.old }
-    requires cleared { seat.old.me.0.consumer.cleared ≡ at }
-    requires passed { (at < to) × (to ≤ seat.old.me.0.consumer.scan) }
-    requires whole { (at % 8 ≡ 0) × (to % 8 ≡ 0) }
-    ensures seat { IsSameSeat seat.old seat.new }
-    ensures view { seat.new.me.0 ≡ with_consumer (cleared_to result seat.old.me.0.consumer) seat.old.me.0 }
-    ensures end { (at < result) × (result ≤ to) × (result % 8 ≡ 0) }
-{
-    let target = word_index(capacity, at);
-    let header = load_passed_header(slots, seat, capacity, at, target);
-    if header == 0 {
-        return at + 8;
-    }
-    // The type id in the high half is below 0 in the headers of padding and of aborted records.
-    if header < 1 << 63 {
-        let bytes = align8(header % (1 << 32));
-        if bytes <= to - at {
-            clear_record(slots, seat, capacity, at, target);
-            return at + bytes;
-        }
-    }
-    clear_word(slots, seat, capacity, at, target);
-    at + 8
-}
 
 /// Skips the body of the message that the read got last: takes its slots and gives them back, unread. The log gets its
 /// words as if each was loaded.
@@ -135,12 +99,25 @@ impl Bodies for InSlots {
     }
 
     #[inline(always)]
-    fn clear_up(slots: &SharedRing<Self>, seat: &mut RingSeat, capacity: u32, head: u64, to: u64) {
-        // In a message's record only the header is stored to, and no other word is touched.
-        let mut at = head;
-        while at < to {
-            at = clear_next(slots, seat, capacity, at, to);
-        }
+    fn store_head(
+        slots: &SharedRing<Self>,
+        seat: &mut RingSeat,
+        capacity: u32,
+        _head: u64,
+        to: u64,
+    ) {
+        store_head_past_marks(slots, seat, capacity, to);
+    }
+
+    #[inline(always)]
+    fn store_head_before(
+        slots: &SharedRing<Self>,
+        seat: &mut RingSeat,
+        capacity: u32,
+        _head: u64,
+        to: u64,
+    ) {
+        store_head_before_mark(slots, seat, capacity, to);
     }
 
     fn show(closed: Closed<u64, Global>, room: Vec<u64>) -> Vec<u64> {

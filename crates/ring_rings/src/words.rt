@@ -2,20 +2,20 @@
 ghost use Rattle.std.specs.Prelude.{◌≡◌, ℕ, ◌+◌, ◌*◌, ◌%◌, ◌<◌, ◌≤◌, List, [], ◌∷◌, ◌++◌, length};
 ghost use Rattle.ring_layout.specs.Places.{index, max_position};
 ghost use Rattle.ring_table.specs.declared.claim.StagedClaim.{StagedClaim};
-ghost use Rattle.ring_table.specs.ConsumerSteps.{ClearsWord};
+ghost use Rattle.ring_table.specs.ConsumerSteps.{ClearsWord, StandsBefore, StoresHead, StoresHeadBefore};
 ghost use Rattle.ring_table.specs.Seats.{IsSameSeat, IsSeatOf};
-ghost use Rattle.ring_table.specs.Views.{with_claims};
+ghost use Rattle.ring_table.specs.Views.{cleared_to, with_claims, with_consumer};
 ghost use Rattle.ring_rings.specs.Bodies.{loaded, put_at, IsFreshClaim, MergesWord};
-ghost use Rattle.ring_rings.specs.ReadingSteps.{CopiesWord, IsReaderSeatOf, LoadsWord, OnlyLoads};
+ghost use Rattle.ring_rings.specs.ReadingSteps.{CopiesWord, IsInBlock, IsReaderSeatOf, LoadsWord, OnlyLoads};
 
 use crate::bodies::Bodies;
 use atomic_table::Closed;
 use ring_layout::record_descriptor::HEADER_LENGTH;
 use ring_layout::{first_word, put_bytes_word, put_word, word_index};
 use ring_table::{
-    InWords, Key, RingSeat, RingTable, SharedRing, Unsettled, Wanted, clear_word, copy_words,
-    load_body_word, load_own_word, load_passed_word, open, rescue_words, store_body_word,
-    store_claimed_header, store_committed_header,
+    Headers, InWords, Key, RingSeat, RingTable, SharedRing, Unsettled, Wanted, clear_word,
+    copy_words, load_body_word, load_own_word, load_passed_word, open, rescue_words,
+    store_body_word, store_claimed_header, store_head, store_head_before,
 };
 use std::alloc::{AllocError, Global};
 
@@ -149,6 +149,33 @@ fn pass_word(
     }
 }
 
+/// Clears the words that the read has passed, from the head up to the position `to`.
+#[inline(always)]
+fn clear_up(words: &SharedRing<InWords>, seat: &mut RingSeat, capacity: u32, head: u64, to: u64)
+    requires seat { IsReaderSeatOf words.now.table_id words.now.key capacity seat.old }
+    requires cleared { seat.old.me.0.consumer.cleared ≡ head }
+    requires passed { (head ≤ to) × (to ≤ seat.old.me.0.consumer.scan) }
+    requires whole { (head % 8 ≡ 0) × (to % 8 ≡ 0) }
+    requires inside { IsInBlock capacity head to }
+    ensures seat { IsSameSeat seat.old seat.new }
+    ensures view { seat.new.me.0 ≡ with_consumer (cleared_to to seat.old.me.0.consumer) seat.old.me.0 }
+{
+    // A read does not cross the end of the buffer, so the words are side by side.
+    let first = word_index(capacity, head);
+    let count = (to - head) / 8;
+    // A turn handles four words, since the compiler keeps one turn for each pass of the loop.
+    for k in 0..count / 4 {
+        let (at, target) = (head + 32 * k, first + 4 * k as usize);
+        pass_word(words, seat, capacity, at, target);
+        pass_word(words, seat, capacity, at + 8, target + 1);
+        pass_word(words, seat, capacity, at + 16, target + 2);
+        pass_word(words, seat, capacity, at + 24, target + 3);
+    }
+    for j in count / 4 * 4..count {
+        pass_word(words, seat, capacity, head + 8 * j, first + j as usize);
+    }
+}
+
 impl Bodies for InWords {
     ghost slots_for = { λ _. 0 };
 
@@ -178,7 +205,7 @@ impl Bodies for InWords {
     ) {
         store_claimed_header(words, seat, capacity, place, wanted);
         store_body(words, seat, capacity, place, body);
-        store_committed_header(words, seat, capacity, place, wanted);
+        InWords::store_committed_header(words, seat, capacity, place, wanted);
     }
 
     #[inline(always)]
@@ -245,21 +272,27 @@ impl Bodies for InWords {
     }
 
     #[inline(always)]
-    fn clear_up(words: &SharedRing<Self>, seat: &mut RingSeat, capacity: u32, head: u64, to: u64) {
-        // A read does not cross the end of the buffer, so the words are side by side.
-        let first = word_index(capacity, head);
-        let count = (to - head) / 8;
-        // A turn handles four words, since the compiler keeps one turn for each pass of the loop.
-        for k in 0..count / 4 {
-            let (at, target) = (head + 32 * k, first + 4 * k as usize);
-            pass_word(words, seat, capacity, at, target);
-            pass_word(words, seat, capacity, at + 8, target + 1);
-            pass_word(words, seat, capacity, at + 16, target + 2);
-            pass_word(words, seat, capacity, at + 24, target + 3);
-        }
-        for j in count / 4 * 4..count {
-            pass_word(words, seat, capacity, head + 8 * j, first + j as usize);
-        }
+    fn store_head(
+        words: &SharedRing<Self>,
+        seat: &mut RingSeat,
+        capacity: u32,
+        head: u64,
+        to: u64,
+    ) {
+        clear_up(words, seat, capacity, head, to);
+        store_head(words, seat, capacity, to);
+    }
+
+    #[inline(always)]
+    fn store_head_before(
+        words: &SharedRing<Self>,
+        seat: &mut RingSeat,
+        capacity: u32,
+        head: u64,
+        to: u64,
+    ) {
+        clear_up(words, seat, capacity, head, to);
+        store_head_before(words, seat, capacity, to);
     }
 
     fn show(closed: Closed<u64, Global>, room: Vec<u64>) -> Vec<u64> {

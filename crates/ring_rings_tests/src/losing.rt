@@ -64,12 +64,12 @@ fn lose_two<B: Bodies>(rt: &impl Abort, alloc: Global, left: bool) -> Rescued {
     }
 }
 
-/// Tests the words of the records, of which the second one has this first word of its body.
-fn holds_words(rt: &impl Abort, rest: &SoloRing, half: u64) {
+/// Tests the words of the records, of which the second one has this header and this first word of its body.
+fn holds_words(rt: &impl Abort, rest: &SoloRing, aborted: u64, half: u64) {
     let words = [
         0x0000_0001_0000_000D,
         0x0000_0074_7372_6966,
-        0xFFFF_FFFF_0000_0014,
+        aborted,
         half,
         0,
         0x0000_0002_0000_0010,
@@ -83,7 +83,7 @@ fn holds_words(rt: &impl Abort, rest: &SoloRing, half: u64) {
 }
 
 /// Tests what is rescued of a ring of this form.
-fn rescues<B: Bodies>(rt: &impl Abort, alloc: Global, half: u64) {
+fn rescues<B: Bodies>(rt: &impl Abort, alloc: Global, aborted: u64, half: u64) {
     let Rescued {
         mut rest,
         unsettled,
@@ -96,18 +96,19 @@ fn rescues<B: Bodies>(rt: &impl Abort, alloc: Global, half: u64) {
     assert_eq!(rt; unsettled, lost);
     assert_eq!(rt; rest.positions(), Positions { head: 0, tail: 72 });
     assert_eq!(rt; rest.word(9), Some(0));
-    holds_words(rt, &rest, half);
+    holds_words(rt, &rest, aborted, half);
     shows(rt, &mut rest, &COMMITTED);
 }
 
 #[test]
 fn what_was_committed_is_rescued(rt: HostRuntime) {
-    rescues::<InWords>(&rt, rt.alloc(), 0x666C_6168);
-    rescues::<InSlots>(&rt, rt.alloc(), 0);
+    rescues::<InWords>(&rt, rt.alloc(), 0xFFFF_FFFF_0000_0014, 0x666C_6168);
+    // A mark shows how far an open claim's record goes, and not how long its body is.
+    rescues::<InSlots>(&rt, rt.alloc(), 0xFFFF_FFFF_0000_0018, 0);
 }
 
 /// Tests the same with the first producer left, whose own open claim is aborted too.
-fn rescues_with<B: Bodies>(rt: &impl Abort, alloc: Global, half: u64) {
+fn rescues_with<B: Bodies>(rt: &impl Abort, alloc: Global, aborted: u64, half: u64) {
     let Rescued {
         mut rest,
         unsettled,
@@ -120,14 +121,15 @@ fn rescues_with<B: Bodies>(rt: &impl Abort, alloc: Global, half: u64) {
     assert_eq!(rt; unsettled, lost);
     assert_eq!(rt; rest.positions(), Positions { head: 0, tail: 80 });
     assert_eq!(rt; rest.word(9), Some(0xFFFF_FFFF_0000_0008));
-    holds_words(rt, &rest, half);
+    holds_words(rt, &rest, aborted, half);
     shows(rt, &mut rest, &COMMITTED);
 }
 
 #[test]
 fn a_producer_that_is_left_changes_no_message(rt: HostRuntime) {
-    rescues_with::<InWords>(&rt, rt.alloc(), 0x666C_6168);
-    rescues_with::<InSlots>(&rt, rt.alloc(), 0);
+    rescues_with::<InWords>(&rt, rt.alloc(), 0xFFFF_FFFF_0000_0014, 0x666C_6168);
+    // A mark shows how far an open claim's record goes, and not how long its body is.
+    rescues_with::<InSlots>(&rt, rt.alloc(), 0xFFFF_FFFF_0000_0018, 0);
 }
 
 /// The one producer is lost with an open claim between two messages, of which the first one was read.

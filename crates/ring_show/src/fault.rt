@@ -19,7 +19,7 @@ pub enum ShowFault<'a> {
     #[error("recover reads a file in parts, so give a file and not standard input")]
     RecoverOfInput,
     /// The file has no image of a ring at this place.
-    #[error("no image of a ring of version 1: it begins with FELTERIM, or --bodies-at names the place of the bodies")]
+    #[error("no image of a ring of version 2: it begins with FELTERIM, or --bodies-at names the place of the bodies")]
     NotImage,
     /// There is no such process.
     #[error("{pid}: no such process")]

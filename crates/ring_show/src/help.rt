@@ -8,8 +8,8 @@ pub static ABOUT: &str =
 
 pub static AFTER: &str = "\
 The copy has words of 64 bits, little-endian. Broadcast buffers and counters have the layout of Agrona's buffers. A ring
-has this layout too if its bodies are among its words. All rings of C, C++, Rust and Python store their bodies
-separately, in as many bytes as the ring's buffer has. The option --bodies-at is the place of these bodies.
+has this layout too if its bodies are among its words. All rings of C, C++, Rust and Python store their headers
+and bodies separately, in as many bytes as the ring's buffer has. The option --bodies-at is the place of these bytes.
 
 The line below the positions is a picture of the buffer, from its first byte to its last:
   a ring:  H head   T tail   = committed   O open   x aborted   - aborted, or padding   ? header not yet stored   . free

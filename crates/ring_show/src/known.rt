@@ -5,7 +5,7 @@ use crate::memory::Region;
 use crate::search::{Search, WINDOW};
 use crate::tables::{Registry, Table, place_of};
 use crate::trailer::{Fits, Trailer, fits_at, has_clear_board, has_clear_ring, positions};
-use ring_report::{Section, formatted_words, words_of};
+use ring_report::{Section, words_of};
 use std::alloc::{AllocError, Global};
 use std::io::Input;
 use std::rt::{Clock, Files};
@@ -175,16 +175,6 @@ fn add_counters(
     Ok(())
 }
 
-/// Returns the buffers that may end with the trailer after this many bytes of these words.
-fn fits_in(alloc: Global, kind: Kind, words: &[u64], before: u64) -> Option<Fits> {
-    let index = (before / 8) as usize;
-    if kind != Kind::Ring {
-        return Some(fits_at(kind, words, index));
-    }
-    let formatted = formatted_words(alloc, words).ok()?;
-    Some(fits_at(kind, formatted.as_slice(), index))
-}
-
 /// Returns the buffers that may end with a trailer, from the memory as it is now.
 fn fits_now<R: AllocGlobal + Files + Input>(
     rt: &R,
@@ -199,7 +189,8 @@ fn fits_now<R: AllocGlobal + Files + Input>(
             continue;
         };
         if let Some(words) = pieces.words(rt, address, before.saturating_add(length)) {
-            return fits_in(rt.alloc(), trailer.kind, words.as_slice(), before);
+            let index = (before / 8) as usize;
+            return Some(fits_at(trailer.kind, words.as_slice(), index));
         }
     }
     None

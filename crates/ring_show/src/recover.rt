@@ -14,7 +14,7 @@ const HEADER: u64 = 128;
 const MAGIC: u64 = 0x4d49_5245_544c_4546;
 
 /// The version of images that is understood.
-const VERSION: u64 = 1;
+const VERSION: u64 = 2;
 
 /// The number of words of a ring's trailer.
 const TRAILER: u64 = 96;

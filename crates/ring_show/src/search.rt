@@ -4,7 +4,7 @@ use crate::found::{Found, Kind};
 use crate::memory::Region;
 use crate::tables::{METADATA, Registry, Table, board_table, registry_in, ring_table};
 use crate::trailer::{Trailer, fits_at, kind_of, positions};
-use ring_report::{Cause, Section, formatted_words, words_of};
+use ring_report::{Cause, Section, words_of};
 use ring_snapshot::next_counter;
 use std::alloc::{AllocError, Global};
 use std::io::Input;
@@ -23,8 +23,6 @@ pub const WINDOW: u64 = 2 * STEP + AFTER;
 #[derive(Clone, Copy)]
 struct Window<'a> {
     words: &'a [u64],
-    /// The words in the format, as those of a ring whose bodies are not stored separately.
-    formatted: &'a [u64],
     /// The address in the program.
     address: u64,
     /// The place in the file.
@@ -89,12 +87,7 @@ impl Search {
             at: window.at.saturating_add(window.offset(index)),
             positions: positions(kind, words),
         };
-        let around = if kind == Kind::Ring {
-            window.formatted
-        } else {
-            window.words
-        };
-        match trailer.found(fits_at(kind, around, index)) {
+        match trailer.found(fits_at(kind, window.words, index)) {
             Some(found) => Ok(self.found.push(found)?),
             None => Ok(self.trailers.push(trailer)?),
         }
@@ -194,10 +187,8 @@ impl Search {
             Ok(words) => words,
             Err(cause) => return self.note_unread(region, offset, cause),
         };
-        let formatted = formatted_words(rt.alloc(), words.as_slice())?;
         let window = Window {
             words: words.as_slice(),
-            formatted: formatted.as_slice(),
             address: region.address.saturating_add(start),
             at,
         };

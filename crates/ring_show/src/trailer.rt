@@ -120,8 +120,7 @@ fn is_one(kind: Kind, words: &[u64], index: usize, capacity: u32) -> bool {
     }
 }
 
-/// Returns the capacities of the buffers that may end with the trailer at an index. The words of rings are in the
-/// format.
+/// Returns the capacities of the buffers that may end with the trailer at an index. A plain ring is none of them.
 pub fn fits_at(kind: Kind, words: &[u64], index: usize) -> Fits {
     let mut fits = Fits { largest: 0, all: 0 };
     // (capacities are powers of two, up to 2^24)

@@ -6,7 +6,7 @@ use crate::often::CLEAR;
 use crate::options::Format;
 use crate::show::{print_findings, print_text, report_of_counters, status_of};
 use ring_report::{
-    Bodies, Labelled, Origin, Report, Section, View, Words, formatted_words, note_settled,
+    Bodies, Labelled, Origin, Report, Section, View, Words, note_settled, ring_words,
     settled_words, to_prometheus,
 };
 use std::alloc::{AllocError, Global};
@@ -54,12 +54,16 @@ fn section(file: &str, at: u64, length: u64) -> Section<'_> {
 fn buffer_report<'a, R: AllocGlobal + Files + Input>(
     rt: &R,
     section: Section<'a>,
-    is_ring: bool,
+    found: Found,
     view: View,
 ) -> Result<Report, ShowFault<'a>> {
-    let Words { words, is_settled } = settled_words(rt, section, is_ring)?;
+    let is_ring = found.kind == Kind::Ring;
+    let Words { words, is_settled } = if is_ring {
+        ring_words(rt, section, found.bodies_at)?
+    } else {
+        settled_words(rt, section, false)?
+    };
     let report = if is_ring {
-        let words = formatted_words(rt.alloc(), words.as_slice())?;
         Report::of_ring(rt.alloc(), words.as_slice(), view)
     } else {
         Report::of_board(rt.alloc(), words.as_slice(), view)
@@ -80,7 +84,7 @@ fn report_of<'a, R: AllocGlobal + Files + Input>(
             let values = found.values.map(|part| section(file, part.at, part.length));
             report_of_counters(rt, whole, values, view)
         }
-        Kind::Ring | Kind::Board => buffer_report(rt, whole, found.kind == Kind::Ring, view),
+        Kind::Ring | Kind::Board => buffer_report(rt, whole, found, view),
     }
 }
 

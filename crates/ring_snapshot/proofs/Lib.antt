@@ -3,6 +3,9 @@ pub mod SearchLemmas
 pub mod StepLemmas
 pub mod ListingLemmas
 pub mod JoinLemmas
+pub mod MarkLemmas
+pub mod PlainSteps
+pub mod PlainLemmas
 pub mod CounterLemmas
 pub mod WriteLemmas
 pub mod StoredLemmas

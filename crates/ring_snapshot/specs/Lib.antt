@@ -1,6 +1,8 @@
 pub mod Listing
 pub mod RingRecords
+pub mod Marks
 pub mod PlainWords
+pub mod PlainRecords
 pub mod CounterWords
 pub mod CounterRecords
 pub mod BoardRecords

@@ -1,5 +1,5 @@
--- Where bodies lie: the slots of a body are side by side, and no two bodies from the head on share one.
-use Rattle.std.proofs.Common.{◌≡◌, ◌≢◌, ℕ, zero, suc, ◌+◌, ◌-◌, ◌*◌, ◌/◌, ◌%◌, ◌≤◌, ◌<◌, ◌⊎◌, List, [], ◌∷◌, ◌++◌, true, length, sym, refl, ap, ◌∙◌, subst, inl, inr, ⊎_elim, arith}
+-- Where records lie: the slots of a record are side by side, and no two records from the head on share one.
+use Rattle.std.proofs.Common.{◌≡◌, ℕ, zero, suc, ◌+◌, ◌-◌, ◌*◌, ◌/◌, ◌%◌, ◌≤◌, ◌<◌, ◌⊎◌, List, [], ◌∷◌, length, sym, refl, ap, ◌∙◌, subst, inl, inr, ⊎_elim, arith}
 use mathlib.Core.Option.{Option, some, some-injective, some-ne-none}
 use lib.ListN.{get_elem?}
 use Rattle.std.proofs.lemmas.Bool.{cases_lt}
@@ -14,7 +14,7 @@ use Rattle.ring_table.specs.Views.{View}
 use Rattle.ring_table.specs.Rule.{Kept}
 use Rattle.ring_table.specs.SlotSteps.{words_of}
 use Rattle.ring_table.proofs.RangeLemmas.{Outside, AreHome}
-use Rattle.ring_table.proofs.StagedPlaces.{capacity_aligned, start_aligned, lies_in, places_aligned, one_at_position, one_at_place}
+use Rattle.ring_table.proofs.StagedPlaces.{capacity_aligned, start_aligned, lies_in, places_aligned, one_at_position}
 use Rattle.ring_table.proofs.ReachLemmas.{none_of, shown_cases}
 
 -- a record of n bytes is in the lap from the head on
@@ -26,17 +26,24 @@ pub record BodyIn (C head place n : ℕ) : Type 0 where
   pub to : place + span n ≤ head + C
   pub within : place % C + span n ≤ C
 
-pub body_index : (C head place n i : ℕ) → BodyIn C head place n → i < words_of n
-    → index C (place + 8 + 8 * i) ≡ index C place + 1 + i
+pub body_index : (C head place n i : ℕ) → BodyIn C head place n → i < words_of (8 + n)
+    → index C (place + 8 * i) ≡ index C place + i
 body_index C head place n i b h =
-    let whole : place + 8 + 8 * i ≡ place + (8 + 8 * i) = omega arith in
-    let step : (place + (8 + 8 * i)) % C ≡ place % C + (8 + 8 * i) = mod_step C place (8 + 8 * i) (omega arith) in
+    let step : (place + 8 * i) % C ≡ place % C + 8 * i = mod_step C place (8 * i) (omega arith) in
     let x : ℕ = place % C in
-    let last : (x + (8 + 8 * i)) / 8 ≡ x / 8 + 1 + i = omega arith in
-    ap (index C) whole ∙ ap (λ z. z / 8) step ∙ last
+    let last : (x + 8 * i) / 8 ≡ x / 8 + i = omega arith in
+    ap (λ z. z / 8) step ∙ last
+
+-- the words after the header
+pub behind_header : (C head place n i : ℕ) → BodyIn C head place n → i < words_of n
+    → index C (place + 8 + 8 * i) ≡ index C place + 1 + i
+behind_header C head place n i b h =
+    let whole : place + 8 + 8 * i ≡ place + 8 * (i + 1) = omega arith in
+    let last : index C place + (i + 1) ≡ index C place + 1 + i = omega arith in
+    ap (index C) whole ∙ body_index C head place n (i + 1) b (omega arith) ∙ last
 
 -- its slots are below the number of slots
-pub body_below : (C head place n i : ℕ) → BodyIn C head place n → i < words_of n → index C place + 1 + i < C / 8
+pub body_below : (C head place n i : ℕ) → BodyIn C head place n → i < words_of (8 + n) → index C place + i < C / 8
 body_below C head place n i b h =
     let x : ℕ = place % C in
     omega arith
@@ -84,18 +91,18 @@ pub record Lies (C head : ℕ) (h : OwnedHistory) (place n : ℕ) : Type 0 where
   pub padded : owned.1.from ≤ place
   pub body : BodyIn C head place n
 
--- two bodies share no slot
+-- two records share no slot
 pub one_slot : (C start head : ℕ) (h : OwnedHistory) → ArePlaced C start (all_of h) → (p n p' n' : ℕ)
-    → Lies C head h p n → Lies C head h p' n' → (at at' : ℕ) → (at % 8 ≡ 0) × (at < n) → (at' % 8 ≡ 0) × (at' < n')
-    → index C (p + 8 + at) ≡ index C (p' + 8 + at') → (p ≡ p') × (at ≡ at')
+    → Lies C head h p n → Lies C head h p' n' → (at at' : ℕ) → (at % 8 ≡ 0) × (at < 8 + n) → (at' % 8 ≡ 0) × (at' < 8 + n')
+    → index C (p + at) ≡ index C (p' + at') → (p ≡ p') × (at ≡ at')
 one_slot C start head h placed p n p' n' l l' at at' ok ok' same =
     let b = l.body in
     let b' = l'.body in
     let from = b.from in
     let to = b.to in
     let place8 = b.place8 in
-    let q : ℕ = p + 8 + at in
-    let q' : ℕ = p' + 8 + at' in
+    let q : ℕ = p + at in
+    let q' : ℕ = p' + at' in
     let one : q ≡ q' = apart C head q q' (record { some = b.some; whole = b.whole })
     (record { whole = omega arith; from = omega arith; below = omega arith })
     (record { whole = omega arith; from = omega arith; below = omega arith }) same in

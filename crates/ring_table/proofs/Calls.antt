@@ -9,20 +9,19 @@ use Rattle.ring_layout.specs.declared.message.ClaimState.{ClaimState}
 use Rattle.ring_layout.specs.declared.message.ClaimState.TheVariants.{Open}
 use Rattle.ring_layout.specs.Headers.{header_of}
 use Rattle.ring_layout.specs.Places.{index}
-use Rattle.ring_layout.specs.Layout.{ring_words}
 use Rattle.ring_table.specs.Staged.{PlacedMessage, Bodies, in_words, elsewhere, StagedClaim, Stage, Stored, IsStored, AreRising}
 use Rattle.ring_table.specs.Changes.{changed, staged, moved_claim}
-use Rattle.ring_table.specs.Views.{Key, View, ProducerView, ConsumerView, with_claims, with_claim, with_consumer, stands_at}
+use Rattle.ring_table.specs.Views.{Key, View, ConsumerView, with_claims, with_claim, with_consumer, stands_at}
 use Rattle.ring_table.specs.ConsumerSteps.{StaysAt}
 use Rattle.ring_layout.specs.Places.{next_place}
 use Rattle.ring_layout.specs.History.{span}
 use Rattle.ring_table.specs.ProducerSteps.{Mine, HasClaimAt, Changes, IsStagedOpen, StoresSettled, with_changed}
 use Rattle.ring_table.specs.Seats.{IsSeatOf, IsSameSeat}
-use Rattle.ring_table.proofs.StagedPlaces.{capacity_aligned}
 use Rattle.ring_table.proofs.LoadLemmas.{Ok}
 use Rattle.ring_table.proofs.StoreLemmas.{settles}
 use Rattle.ring_table.proofs.ShelfLemmas.{CarriesOn, CarriesIn}
-use Rattle.ring_table.proofs.CarryLemmas.{Holds, lift, carries_same, carries_on, carries_claim, carries_changed, one_claim}
+use Rattle.ring_table.proofs.MarkSteps.{Obeys, Rests, RestsIn, lift_any, rests_same}
+use Rattle.ring_table.proofs.CarryLemmas.{lift, carries_same, carries_on, carries_claim, carries_changed, one_claim}
 use Rattle.std.proofs.lemmas.Nat.{mod_below}
 
 -- the view is of the same ring, and has the same slots out
@@ -54,34 +53,39 @@ reseated_as h slots view = same_seat h.0 h.1 (ap (λ (m : Mine). m.1) h.2 ∙ sl
 pub record Leaves (B : Bodies) (v w : View) : Type 0 where
   pub out : w.out ≡ v.out
   pub carries : CarriesIn B v w
+  pub rests : RestsIn B v w
 
 in_any : (B : Bodies) (v w : View) → CarriesOn v w → CarriesIn B v w
 in_any in_words v w c = tt
 in_any elsewhere v w c = c
 
-pub leaves_as : (B : Bodies) {v w x : View} → w ≡ x → x.out ≡ v.out → CarriesOn v x → Leaves B v w
-leaves_as B {v} {w} {x} is out c = record {
+rests_any : (B : Bodies) (v w : View) → Rests v w → RestsIn B v w
+rests_any in_words v w r = tt
+rests_any elsewhere v w r = r
+
+pub leaves_as : (B : Bodies) {v w x : View} → w ≡ x → x.out ≡ v.out → CarriesOn v x → Rests v x → Leaves B v w
+leaves_as B {v} {w} {x} is out c r = record {
   out = ap (λ (z : View). z.out) is ∙ out;
   carries = in_any B v w (subst (CarriesOn v) (sym is) c);
+  rests = rests_any B v w (subst (Rests v) (sym is) r);
 }
 
--- claims, kind and head are as they were
+-- claims, kind, head and what is cleared are as they were
 pub leaves_same : (B : Bodies) {v w x : View} → w ≡ x → x.out ≡ v.out → x.producer.claims ≡ v.producer.claims
-    → x.consumes ≡ v.consumes → x.consumer.head ≡ v.consumer.head → Leaves B v w
-leaves_same B is out claims kind head = leaves_as B is out (carries_same claims kind head)
+    → x.consumes ≡ v.consumes → x.consumer.head ≡ v.consumer.head → x.consumer.cleared ≡ v.consumer.cleared → Leaves B v w
+leaves_same B is out claims kind head cleared = leaves_as B is out (carries_same claims kind head)
+    (record { stays = λ consumes. kind ∙ consumes; cleared = λ _. cleared; head = λ _. head })
 
 -- a read goes on, and its head stays
-pub leaves_at : (B : Bodies) {v w : View} → StaysAt v w → Leaves B v w
-leaves_at B {v} {w} s = record {
-  out = s.out;
-  carries = in_any B v w (carries_same (ap (λ (p : ProducerView). p.claims) s.producer) s.consumes s.head);
-}
+pub leaves_at : {v w : View} → StaysAt v w → Leaves in_words v w
+leaves_at s = record { out = s.out; carries = tt; rests = tt }
 
 -- a claim is made
 pub leaves_claim : (B : Bodies) {v w : View} (C e new n : ℕ) (type_id : ℤ)
     → w ≡ with_claim (moved_claim C e type_id n) new v → Leaves B v w
 leaves_claim B {v} {w} C e new n type_id is = leaves_as B is refl
     (carries_claim v (moved_claim C e type_id n) (eqb e (next_place C e (span n))) new refl)
+    (rests_same {v = v} {w = with_claim (moved_claim C e type_id n) new v} refl refl)
 
 -- the head is stored at q, up to which the words are cleared
 pub head_rises : (B : Bodies) (C start id : ℕ) (v : View) (s : State ℕ View) → Ok B C start s
@@ -95,7 +99,7 @@ head_rises B C start id v s r at consumes q got above =
 
 -- bodies in words ask nothing
 pub leaves_words : {v w x : View} → w ≡ x → x.out ≡ v.out → Leaves in_words v w
-leaves_words is out = record { out = ap (λ (z : View). z.out) is ∙ out; carries = tt }
+leaves_words is out = record { out = ap (λ (z : View). z.out) is ∙ out; carries = tt; rests = tt }
 
 -- what a store did to a claim that was named by its place
 pub after_change : (t : Stage) (at : StagedClaim → ℕ) (f : StagedClaim → StagedClaim) (capacity i place : ℕ)
@@ -116,7 +120,7 @@ module _ (B : Bodies) {id : TableId} {key : Key} {capacity : ℕ} {seat : Seat �
   -- what a step asks of the table
   abbrev pub Asks : ℕ → (ℕ → ℕ) → (ℕ → Mine → ℕ → Mine → Type 0) → Type 0
   Asks i f told = (seat.table_id ≡ id) × (i < id.words)
-      × Allows (Holds B key.capacity key.start) id.slots seat.id seat.me i f (told i seat.me)
+      × Allows (Obeys B key.capacity key.start) id.slots seat.id seat.me i f (told i seat.me)
 
   -- it takes and gives no slots, and what it leaves for the shelf
   abbrev pub Spares : ℕ → (ℕ → Mine → ℕ → Mine → Type 0) → Type 0
@@ -124,29 +128,36 @@ module _ (B : Bodies) {id : TableId} {key : Key} {capacity : ℕ} {seat : Seat �
       → Ok B key.capacity key.start s → get_elem? s.views seat.id ≡ some seat.me.0
       → (me'.1 ≡ seat.me.1) × Leaves B seat.me.0 me'.0
 
-  at_word : (i j : ℕ) → i < id.words → i ≡ j → (f : ℕ → ℕ) (told : ℕ → Mine → ℕ → Mine → Type 0) → Spares i told
-      → MayStep capacity j f told → Asks i f told
-  at_word i j inside is f told spares allows = (
-    s.table_is,
-    inside,
-    lift B key.capacity key.start id.slots seat.id seat.me i f (told i seat.me) s.home
-        (λ n me' t s r at. let l = spares n me' t s r at in (l.0, l.1.out, l.1.carries))
-        (subst (λ (z : ℕ × ℕ). MayStep z.0 z.1 f told) (λ k. (sym s.key_is k, sym is k)) allows),
-  )
-
   -- at a word of the trailer
   pub trailer_step : (i word : ℕ) → word < 96 → i ≡ capacity / 8 + word
       → (f : ℕ → ℕ) (told : ℕ → Mine → ℕ → Mine → Type 0) → Spares i told
       → MayStep capacity (capacity / 8 + word) f told → Asks i f told
-  trailer_step i word inside is =
-      at_word i (capacity / 8 + word) (omega arith) is
+  trailer_step i word inside is f told spares allows =
+      let key_is = s.key_is in
+      let words_are = s.words_are in (
+        s.table_is,
+        omega arith,
+        lift_any B key.capacity key.start id.slots seat.id seat.me i f (told i seat.me) (omega arith) (omega arith) s.home
+            (λ n me' t s r at. let l = spares n me' t s r at in (l.0, l.1.out, l.1.carries, l.1.rests))
+            (subst (λ (z : ℕ × ℕ). MayStep z.0 z.1 f told) (λ k. (sym s.key_is k, sym is k)) allows),
+      )
 
+module _ {id : TableId} {key : Key} {capacity : ℕ} {seat : Seat ℕ View}
+    (s : IsSeatOf id key capacity seat) where
   -- at a record's word, whose position is p in the code and q in the lemma
   pub record_step : (i p q : ℕ) → i ≡ index capacity p → q ≡ p
-      → (f : ℕ → ℕ) (told : ℕ → Mine → ℕ → Mine → Type 0) → Spares i told
-      → MayStep capacity (index capacity q) f told → Asks i f told
-  record_step i p q is at =
-      at_word i (index capacity q) (omega arith) (is ∙ ap (index capacity) (sym at))
+      → (f : ℕ → ℕ) (told : ℕ → Mine → ℕ → Mine → Type 0) → Spares in_words s i told
+      → MayStep in_words s capacity (index capacity q) f told → Asks in_words s i f told
+  record_step i p q is at f told spares allows =
+      let there = is ∙ ap (index capacity) (sym at) in
+      let words_are = s.words_are in
+      let inner = mod_below q capacity (let least = s.lawful.least in omega arith) in (
+        s.table_is,
+        omega arith,
+        lift in_words key.capacity key.start id.slots seat.id seat.me i f (told i seat.me) s.home
+            (λ n me' t s' r at'. let l = spares n me' t s' r at' in (l.0, l.1.out, tt))
+            (subst (λ (z : ℕ × ℕ). MayStep in_words s z.0 z.1 f told) (λ k. (sym s.key_is k, sym there k)) allows),
+      )
 
   module _ (u : ClaimState) {type_id : ℤ} {n place i : ℕ}
       (h : HasClaimAt seat.me.0 place (IsStagedOpen type_id n)) (is : i ≡ index capacity place) where
@@ -161,14 +172,14 @@ module _ (B : Bodies) {id : TableId} {key : Key} {capacity : ℕ} {seat : Seat �
         (h.at_place ∙ sym at) in record {
           stored = subst (λ (z : StagedClaim). IsStored z.stage) one (subst IsStored (sym h.holds.stage) tt);
           place = refl;
-          body = refl;
+          message = refl;
         })
 
     -- the header that settles a claim is stored
     pub settled_step : (value : ℕ) → value ≡ header_of (record { message = h.claim.message; state = u })
-        → Asks i (λ _. value) (λ k me _ me'. (me'.1 ≡ me.1) × StoresSettled u k me.0 me'.0 × AreRising me.0.producer.claims)
+        → Asks in_words s i (λ _. value) (λ k me _ me'. (me'.1 ≡ me.1) × StoresSettled u k me.0 me'.0 × AreRising me.0.producer.claims)
     settled_step value value_is = record_step i place h.claim.place is h.at_place (λ _. value)
         (λ k me _ me'. (me'.1 ≡ me.1) × StoresSettled u k me.0 me'.0 × AreRising me.0.producer.claims)
-        (λ _ me' t _ _ _. (t.0, leaves_as B (settled_view me'.0 t.1) refl (settled_claims t.2)))
-        (settles B capacity key.start u id.slots seat.id seat.me s.view_is h.nth h.claim value h.there h.holds.stage
+        (λ _ me' t _ _ _. (t.0, leaves_words (settled_view me'.0 t.1) refl))
+        (settles in_words capacity key.start u id.slots seat.id seat.me s.view_is h.nth h.claim value h.there h.holds.stage
         value_is)

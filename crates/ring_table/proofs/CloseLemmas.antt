@@ -36,6 +36,12 @@ module _ (B : Bodies) (C start : ℕ) (words : List ℕ) (views : List View) (r 
   pub idle : (j : ℕ) (u : View) → j ≢ id → get_elem? views j ≡ some u → IsIdle u.producer
   idle j u ne there = (r.seated.each j u there).idle (others_poor views id j v u r.seated.shares at all ne there)
 
+  -- so all claims are its own
+  pub all_own : v.producer.claims ≡ all_of r.hist
+  all_own = (r.seated.each id v at).claims ∙ owned_by-sole id r.hist (λ j ne. ⊎_elim
+      (λ (t : (u : View) × (get_elem? views j ≡ some u)). sym (r.seated.each j t.0 t.1).claims ∙ (idle j t.0 ne t.1).claims)
+      (λ (past : length views ≤ j). r.seated.nobody j past) (there_or_past views j))
+
   pub closes : v.consumes ≡ true → Closes B C start words v
   closes consumes =
       let own = r.seated.each id v at in
@@ -43,10 +49,7 @@ module _ (B : Bodies) (C start : ℕ) (words : List ℕ) (views : List View) (r 
       record {
         lawful = r.lawful;
         hist = r.hist;
-        claims_are = own.claims ∙ owned_by-sole id r.hist (λ j ne. ⊎_elim
-            (λ (t : (u : View) × (get_elem? views j ≡ some u)). sym (r.seated.each j t.0 t.1).claims
-            ∙ (idle j t.0 ne t.1).claims)
-            (λ (past : length views ≤ j). r.seated.nobody j past) (there_or_past views j));
+        claims_are = all_own;
         drawn = r.drawn;
         memory = subst (λ (z : ConsumerView). IsMemory B C start words (all_of r.hist) z) (sym mine) r.memory;
         service = subst (λ (z : ConsumerView). IsService C words z r.drawn) (sym mine) r.service;

@@ -1,28 +1,33 @@
 -- A closed ring whose bodies lie in slots: its parts, and the words that are made of them.
-use Rattle.std.proofs.Common.{◌≡◌, ℕ, zero, suc, ◌+◌, ◌-◌, ◌*◌, ◌≤◌, ◌<◌, ◌⊎◌, List, [], ◌∷◌, cond, sym, ap, ◌∙◌, subst, ⊎_elim, le-ltb, arith}
+use Rattle.std.proofs.Common.{◌≡◌, ℕ, zero, suc, ◌+◌, ◌-◌, ◌*◌, ◌≤◌, ◌<◌, ◌⊎◌, List, [], ◌∷◌, cond, length, slice_index, refl, sym, ap, ◌∙◌, subst, ⊎_elim, le-ltb, arith}
 use mathlib.Core.Option.{Option, some, some-injective, some-ne-none}
 use mathlib.Core.Logic.{dite}
 use native.Mathlib.Decide.{ℕ_discrete}
 use lib.ListN.{get_elem?}
 use Rattle.std.proofs.lemmas.Bool.{cases_lt}
-use Rattle.ring_layout.specs.Layout.{ring_words, tail_index, head_cache_index, head_index, correlation_index, heartbeat_index}
+use Rattle.ring_layout.specs.Layout.{ring_words, tail_index, head_index, correlation_index, heartbeat_index}
 use Rattle.ring_layout.specs.Places.{IsCapacity, index}
 use Rattle.ring_table.specs.Staged.{in_words, elsewhere, StagedClaim, PlacedMessage, staged_end, staged_word_at}
 use Rattle.ring_table.specs.Owners.{OwnedHistory, all_of}
 use Rattle.ring_table.specs.Passing.{IsSettled, AreSettled}
-use Rattle.ring_table.specs.Views.{View}
+use Rattle.ring_table.specs.Views.{ConsumerView, View}
 use Rattle.ring_table.specs.ProducerSteps.{HasClaim}
 use Rattle.ring_table.specs.Rule.{IsMemory, Kept}
-use Rattle.ring_table.specs.Shelf.{IsOut, IsOwnOut, IsGotOut, IsShelf}
+use Rattle.ring_table.specs.Shelf.{IsClaimOf, IsOut, IsOwnOut, IsGotOut, IsShelf}
 use Rattle.ring_table.specs.Closed.{IsClosed, IsLast}
 use Rattle.ring_table.specs.Walk.{Parts, Walked}
-use Rattle.ring_table.proofs.CloseLemmas.{Closes, closes, idle}
+use Rattle.ring_table.proofs.CloseLemmas.{Closes, all_own, closes, idle}
 use Rattle.ring_table.proofs.LawLemmas.{none_open}
 use Rattle.ring_table.proofs.MemoryLemmas.{index_inside}
 use Rattle.ring_table.proofs.PictureWords.{read_at}
 use Rattle.ring_table.proofs.ReachLemmas.{stored_of}
 use Rattle.ring_table.proofs.ShelfLemmas.{nothing_out}
-use Rattle.ring_table.proofs.StagedPlaces.{capacity_aligned, nothing_behind}
+use Rattle.ring_table.proofs.SlotBytes.{first_word_of, slot_later}
+use Rattle.ring_table.proofs.ListLemmas.{there_or_past}
+use Rattle.ring_table.proofs.OutLemmas.{has_owned}
+use Rattle.ring_table.proofs.MarkWords.{committed_small}
+use Rattle.ring_layout.specs.Headers.{committed_header}
+use Rattle.ring_table.proofs.StagedPlaces.{capacity_aligned, lies_in, nothing_behind}
 use Rattle.ring_table.proofs.StepLemmas.{one_view}
 
 claim_there : (h : OwnedHistory) (k : ℕ) (x : ℕ × StagedClaim) → get_elem? h k ≡ some x
@@ -61,8 +66,43 @@ module _ (C start : ℕ) (words : List ℕ) (homes : List (Option ℕ)) (views :
   known : Closes elsewhere C start words v
   known = closes elsewhere C start words views r id v at last.all last.consumes
 
+  pub hist_settled : AreSettled (all_of r.hist)
+  hist_settled = subst AreSettled (all_own elsewhere C start words views r id v at last.all)
+      (none_open v.producer.claims last.none_open).0
+
   settled : AreSettled (all_of known.hist)
   settled = subst AreSettled known.claims_are (none_open v.producer.claims last.none_open).0
+
+  -- the first slot of a record has its header
+  pub heads : (xs : List ℕ) → ((i y : ℕ) → get_elem? homes i ≡ some (some y) → get_elem? xs i ≡ some y)
+      → (k : ℕ) (x : ℕ × StagedClaim) → get_elem? r.hist k ≡ some x → r.consumer.head ≤ x.1.place
+      → slice_index xs (index C x.1.place) ≡ committed_header x.1.message.type_id (length x.1.message.body)
+  heads xs values k x there above =
+      let done = settled_there r.hist k x hist_settled there in
+      let i : ℕ = index C x.1.place in
+      let y = s.home i (index_inside elsewhere C start r.lawful x.1.place) (nobody_out i) in
+      let mine = ((r.seated.each id v at).consumes last.consumes).1 in
+      let head_is : v.consumer.head ≡ r.consumer.head = ap (λ (z : ConsumerView). z.head) mine in
+      let whole : x.1.place + 0 ≡ x.1.place = omega arith in
+      let lies = lies_in C start r.hist k x r.memory.placed there in
+      let owner = has_owned r.hist k x.0 x.1 there in
+      let of : IsClaimOf views x.1 = ⊎_elim
+      (λ (t : (u : View) × (get_elem? views x.0 ≡ some u)). record {
+        seat = x.0;
+        view = t.0;
+        nth = owner.0;
+        there = t.1;
+        has = subst (λ h. get_elem? h owner.0 ≡ some x.1) (sym (r.seated.each x.0 t.0 t.1).claims) owner.1;
+        stored = stored_of x.1.stage done;
+      })
+      (λ (past : length views ≤ x.0). absurd (some-ne-none x.1
+      (sym owner.1 ∙ ap (λ h. get_elem? h owner.0) (r.seated.nobody x.0 past))))
+      (there_or_past views x.0) in
+      read_at xs i y.0 (values i y.0 y.1)
+      ∙ s.exact x.1 of (record { seat = id; view = v; there = at; consumes = last.consumes; head = omega arith }) 0 y.0
+      refl (omega arith) (ap (λ z. get_elem? homes (index C z)) whole ∙ y.1)
+      ∙ first_word_of (committed_header x.1.message.type_id (length x.1.message.body)) x.1.message.body
+      (committed_small C x.1.message r.lawful.capacity.most lies.message)
 
   -- the parts, if the slots that were at home have these values
   pub parts : (xs : List ℕ) → ((i y : ℕ) → get_elem? homes i ≡ some (some y) → get_elem? xs i ≡ some y)
@@ -77,6 +117,7 @@ module _ (C start : ℕ) (words : List ℕ) (homes : List (Option ℕ)) (views :
     none_cleared = last.none_cleared;
     bodies = λ k x there above off a8 less.
         let i : ℕ = index C (x.1.place + 8 + off) in
+        let whole : x.1.place + (8 + off) ≡ x.1.place + 8 + off = omega arith in
         let y = s.home i (index_inside elsewhere C start r.lawful (x.1.place + 8 + off)) (nobody_out i) in
         let has : HasClaim v k x.1 =
         subst (λ (l : List StagedClaim). get_elem? l k ≡ some x.1) (sym known.claims_are) (claim_there known.hist k x there) in
@@ -90,7 +131,9 @@ module _ (C start : ℕ) (words : List ℕ) (homes : List (Option ℕ)) (views :
           has = has;
           stored = stored_of x.1.stage (settled_there known.hist k x settled there);
         })
-        (record { seat = id; view = v; there = at; consumes = last.consumes; head = above }) off y.0 a8 less y.1;
+        (record { seat = id; view = v; there = at; consumes = last.consumes; head = above }) (8 + off) y.0 (omega arith)
+        (omega arith) (ap (λ z. get_elem? homes (index C z)) whole ∙ y.1)
+        ∙ slot_later x.1.message off;
   }
 
   pub closed_slots : (xs : List ℕ) (values : (i y : ℕ) → get_elem? homes i ≡ some (some y) → get_elem? xs i ≡ some y)

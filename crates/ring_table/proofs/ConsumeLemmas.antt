@@ -11,16 +11,16 @@ use Rattle.std.proofs.lemmas.Bool.{cases_lt}
 use Rattle.std.proofs.lemmas.Int.{to_z-of_z, ints}
 use Rattle.atomic_table.specs.Table.{State, keeps, Allows}
 use Rattle.ring_layout.specs.History.{IsMessage}
-use Rattle.ring_layout.specs.Places.{index}
+use Rattle.ring_layout.specs.Places.{index, rounded}
 use Rattle.ring_layout.specs.Headers.{header, padding_type}
 use Rattle.ring_table.specs.Staged.{PlacedMessage, staged_end, staged_word_at}
 use Rattle.ring_table.specs.Owners.{OwnedHistory, all_of}
 use Rattle.ring_table.specs.Passing.{Reaches}
 use Rattle.ring_table.specs.Services.{AreServed}
-use Rattle.ring_table.specs.Views.{Logs, ConsumerView, View, Wanted, logged, with_consumer, scanned}
+use Rattle.ring_table.specs.Views.{Logs, ConsumerView, View, logged, with_consumer, scanned}
 use Rattle.ring_table.specs.Rule.{IsMemory, Knows, Kept}
 use Rattle.ring_table.specs.ProducerSteps.{Mine}
-use Rattle.ring_table.specs.ConsumerSteps.{with_scan, rounded, IsInside, LoadsHeader, LoadsBody}
+use Rattle.ring_table.specs.ConsumerSteps.{with_scan, IsInside, LoadsHeader, LoadsBody}
 use Rattle.ring_table.proofs.StagedPlaces.{capacity_aligned, start_aligned}
 use Rattle.ring_table.proofs.ReachLemmas.{reach_bounds, reach_aligned, shows_body}
 use Rattle.ring_table.proofs.HeaderReads.{low_half, halves, shown_low, Leads, leads}
@@ -32,14 +32,14 @@ use Rattle.ring_table.proofs.LoadLemmas.{Ok, May, sees}
 
 -- ---- headers
 
-padding_bits : (type_id : ℤ) → FitsSigned w32 type_id → cast_unsigned w32 type_id ≡ 2 ^ 32 - 1 → type_id ≡ padding_type
+pub padding_bits : (type_id : ℤ) → FitsSigned w32 type_id → cast_unsigned w32 type_id ≡ 2 ^ 32 - 1 → type_id ≡ padding_type
 padding_bits type_id fits e = sym (to_z-of_z w32 type_id fits) ∙ ap (cast_signed w32) e
 
-one_type_id : (a b : ℤ) → FitsSigned w32 a → FitsSigned w32 b → cast_unsigned w32 a ≡ cast_unsigned w32 b → a ≡ b
+pub one_type_id : (a b : ℤ) → FitsSigned w32 a → FitsSigned w32 b → cast_unsigned w32 a ≡ cast_unsigned w32 b → a ≡ b
 one_type_id a b fits_a fits_b e = sym (to_z-of_z w32 a fits_a) ∙ ap (cast_signed w32) e ∙ to_z-of_z w32 b fits_b
 
 -- a length of 0 or less as bits
-not_positive : (len : ℤ) → FitsSigned w32 len → len ≤ℤ pos 0
+pub not_positive : (len : ℤ) → FitsSigned w32 len → len ≤ℤ pos 0
     → ¬ ((0 < cast_unsigned w32 len) × (cast_unsigned w32 len < 2 ^ 31))
 not_positive (pos n) fits le t = omega (arith, ints)
 not_positive (negsuc n) fits le t = omega (arith, fits.sfits)
@@ -74,7 +74,7 @@ module _ (B : Bodies) (C start : ℕ) where
       })
 
   -- the read comes to q
-  scans : (s : State ℕ View) (r : Ok B C start s) (id : ℕ) (v : View) → get_elem? s.views id ≡ some v
+  pub scans : (s : State ℕ View) (r : Ok B C start s) (id : ℕ) (v : View) → get_elem? s.views id ≡ some v
       → v.consumes ≡ true → (q : ℕ) (got : List PlacedMessage) → Reaches q start (all_of r.hist) got
       → r.consumer.cleared ≤ q → (p n : ℕ)
       → Kept B C start (set s.words (index C p) (slice_index s.words (index C p)))

@@ -10,8 +10,9 @@ use Rattle.std.proofs.lemmas.List.{ext_get_or, get_or-drop, get_or-take, take_re
 use Rattle.ring_layout.proofs.WordBytes.{from_le_bytes-same, byte_of_word, byte_of_bytes, overwritten_before, overwritten_inside}
 use Rattle.ring_table.specs.Ranges.{numbered, values_of}
 use Rattle.ring_table.proofs.RangeLemmas.{first_of_some, turned_on, values_numbered}
-use Rattle.ring_table.specs.Staged.{body_word}
-use Rattle.ring_table.specs.SlotSteps.{AreWordsOf, HasBody, words_of}
+use Rattle.ring_table.specs.Staged.{body_word, headed}
+use Rattle.ring_table.proofs.SlotBytes.{later_word, length_headed}
+use Rattle.ring_table.specs.SlotSteps.{AreWordsOf, HasBody, HasSlots, words_of}
 use Rattle.ring_layout.specs.History.{overwritten}
 use Rattle.std.proofs.Common.{append_assoc}
 use Rattle.ring_table.specs.Filling.{Begins, Copying, Filling}
@@ -19,6 +20,19 @@ use Rattle.ring_table.specs.Filling.{Begins, Copying, Filling}
 pub none_of : (l : List ℕ) → length l ≡ 0 → l ≡ []
 none_of [] e = refl
 none_of (x ∷ xs) e = absurd (omega arith)
+
+pub fill_start : (first n : ℕ) (body : List ℕ) (held : List (ℕ × ℕ)) → HasSlots first n held → Filling first 0 n body held
+fill_start first n body held has =
+    let count = has.count in
+    let e : first ≡ first + 0 = omega arith in
+    record {
+      left = has.values;
+      done = [];
+      held_is = has.held_is ∙ ap (λ k. numbered k has.values) e ∙ sym (append-nil (numbered (first + 0) has.values));
+      gone = refl;
+      count = omega arith;
+      words = λ i y e'. absurd (some-ne-none y (sym e'));
+    }
 
 pub fill_end : (first k n : ℕ) (body : List ℕ) (held : List (ℕ × ℕ)) → k ≡ n → n ≡ words_of (length body) → Filling first k n body held
     → HasBody first body held
@@ -77,7 +91,7 @@ all_small xs k j = ⊎_elim (λ (h : j < length xs). All-get_or (λ b. b < 256) 
     get_or-past (x ∷ xs) zero h = absurd (omega arith)
     get_or-past (x ∷ xs) (suc j) h = get_or-past xs j (omega arith)
 
-word_there : (l : List ℕ) (i : ℕ) → i < length l → (y : ℕ) × (get_elem? l i ≡ some y)
+pub word_there : (l : List ℕ) (i : ℕ) → i < length l → (y : ℕ) × (get_elem? l i ≡ some y)
 word_there [] i h = absurd (omega arith)
 word_there (x ∷ xs) zero h = (x, refl)
 word_there (x ∷ xs) (suc i) h = word_there xs i (omega arith)
@@ -115,13 +129,42 @@ word_of_rest body at = ap (from_le_bytes w64) (take_rest body at)
 -- ---- the loop that copies them
 
 pub copy_front : (first k n : ℕ) (scratch : List ℕ) (before held : List (ℕ × ℕ)) → k < n → Copying first k n scratch before held
-    → (old : ℕ) × (rest : List (ℕ × ℕ)) × (held ≡ (first + k, old) ∷ rest)
+    → (old : ℕ) × (rest : List (ℕ × ℕ)) × (held ≡ (first + 1 + k, old) ∷ rest)
 copy_front first k n scratch before held less t =
-    let some = first_of_some t.left (omega arith) in (
+    let some = first_of_some t.left (omega arith) in
+    let here : first + (k + 1) ≡ first + 1 + k = omega arith in (
       some.0,
-      numbered (suc (first + k)) some.1 ++ numbered first t.done,
-      t.held_is ∙ ap (λ l. numbered (first + k) l ++ numbered first t.done) some.2,
+      numbered (suc (first + (k + 1))) some.1 ++ numbered first t.done,
+      t.held_is ∙ ap (λ l. numbered (first + (k + 1)) l ++ numbered first t.done) some.2
+          ∙ ap (λ i. (i, some.0) ∷ numbered (suc (first + (k + 1))) some.1 ++ numbered first t.done) here,
     )
+
+-- the header goes after the others
+pub copy_start : (first n : ℕ) (scratch : List ℕ) (before held : List (ℕ × ℕ)) → HasSlots first (n + 1) before
+    → ((old : ℕ) (rest : List (ℕ × ℕ)) → before ≡ (first, old) ∷ rest → held ≡ rest ++ (first, old) ∷ [])
+    → Copying first 0 n scratch before held
+copy_start first n scratch before held has told =
+    let count = has.count in
+    let some = first_of_some has.values (omega arith) in
+    let long : length has.values ≡ suc (length some.1) = ap length some.2 in
+    let on : suc first ≡ first + (0 + 1) = omega arith in
+    record {
+      left = some.1;
+      done = some.0 ∷ [];
+      held_is = told some.0 (numbered (suc first) some.1) (has.held_is ∙ ap (numbered first) some.2)
+          ∙ ap (λ i. numbered i some.1 ++ (first, some.0) ∷ []) on;
+      before_is = has.held_is ∙ ap (numbered first) some.2;
+      gone = refl;
+      count = omega arith;
+      copies = λ h body words small j inside lt. absurd (omega arith);
+    }
+
+pub copy_first : (first n : ℕ) (held : List (ℕ × ℕ)) → HasSlots first (n + 1) held
+    → (old : ℕ) × (rest : List (ℕ × ℕ)) × (held ≡ (first, old) ∷ rest)
+copy_first first n held has =
+    let count = has.count in
+    let some = first_of_some has.values (omega arith) in
+    (some.0, numbered (suc first) some.1, has.held_is ∙ ap (numbered first) some.2)
 
 get_next : (done : List ℕ) (y : ℕ) (more : List ℕ) → get_elem? (done ++ y ∷ more) (length done) ≡ some y
 get_next [] y more = refl
@@ -129,14 +172,17 @@ get_next (x ∷ xs) y more = get_next xs y more
 
 pub copy_more : (first k n w : ℕ) (scratch : List ℕ) (before held held' : List (ℕ × ℕ)) → k < n → 8 * k + 8 ≤ length scratch
     → Copying first k n scratch before held
-    → ((old : ℕ) (rest : List (ℕ × ℕ)) → held ≡ (first + k, old) ∷ rest → (w ≡ old) × (held' ≡ rest ++ (first + k, old) ∷ []))
+    → ((old : ℕ) (rest : List (ℕ × ℕ)) → held ≡ (first + 1 + k, old) ∷ rest
+    → (w ≡ old) × (held' ≡ rest ++ (first + 1 + k, old) ∷ []))
     → Copying first (k + 1) n (overwritten (8 * k) (to_le_bytes w64 w) scratch) before held'
 copy_more first k n w scratch before held held' less room t told =
     let gone = t.gone in
     let some = first_of_some t.left (omega arith) in
     let y : ℕ = some.0 in
-    let heard = told y (numbered (suc (first + k)) some.1 ++ numbered first t.done)
-    (t.held_is ∙ ap (λ l. numbered (first + k) l ++ numbered first t.done) some.2) in
+    let here : first + (k + 1) ≡ first + 1 + k = omega arith in
+    let tail : List (ℕ × ℕ) = numbered (suc (first + (k + 1))) some.1 ++ numbered first t.done in
+    let heard = told y tail (t.held_is ∙ ap (λ l. numbered (first + (k + 1)) l ++ numbered first t.done) some.2
+    ∙ ap (λ i. (i, y) ∷ tail) here) in
     let long : length t.left ≡ suc (length some.1) = ap length some.2 in
     let more : length (t.done ++ y ∷ []) ≡ length t.done + 1 = length-append t.done (y ∷ []) in
     let parts : (t.done ++ y ∷ []) ++ some.1 ≡ t.done ++ t.left = append_assoc t.done (y ∷ []) some.1 ∙ ap (λ l. t.done ++ l) (sym some.2) in
@@ -144,17 +190,19 @@ copy_more first k n w scratch before held held' less room t told =
     record {
       left = some.1;
       done = t.done ++ y ∷ [];
-      held_is = heard.1 ∙ turned_on first k some.1 t.done y t.gone;
+      held_is = heard.1 ∙ ap (λ i. tail ++ (i, y) ∷ []) (sym here) ∙ turned_on first (k + 1) some.1 t.done y t.gone;
       before_is = t.before_is ∙ ap (numbered first) (sym parts);
       gone = omega arith;
       count = omega arith;
-      copies = λ body words small j inside lt. ⊎_elim
+      copies = λ head body words small j inside lt. ⊎_elim
           (λ (h : j < 8 * k). overwritten_before (8 * k) (to_le_bytes w64 w) scratch j (omega arith) h
-          ∙ t.copies body (subst (AreWordsOf body) parts words) small j inside h)
+          ∙ t.copies head body (subst (AreWordsOf (headed head body)) parts words) small j inside h)
           (λ (h : 8 * k ≤ j).
           let o : ℕ = j - 8 * k in
           let there : j ≡ 8 * k + o = omega arith in
-          let word : body_word body (8 * k) ≡ w = ap (λ z. body_word body (8 * z)) (sym t.gone)
+          let on : 8 + 8 * k ≡ 8 * length t.done = omega arith in
+          let word : body_word body (8 * k) ≡ w = sym (later_word head body (8 * k))
+          ∙ ap (body_word (headed head body)) on
           ∙ words (length t.done) y (ap (λ l. get_elem? l (length t.done)) (append_assoc t.done (y ∷ []) some.1) ∙ get_next t.done y some.1) ∙ sym heard.0 in
           overwritten_inside (8 * k) (to_le_bytes w64 w) scratch j (omega arith) h (omega arith)
           ∙ byte_of_bytes w o (omega arith) ∙ ap (λ z. z / 2 ^ (8 * o) % 256) (sym word) ∙ byte_of_body body small k o (omega arith)
@@ -163,14 +211,17 @@ copy_more first k n w scratch before held held' less room t told =
     }
 
 pub copy_end : (first k n : ℕ) (scratch : List ℕ) (before held : List (ℕ × ℕ)) → k ≡ n → Copying first k n scratch before held
-    → (held ≡ before) × ((body : List ℕ) → HasBody first body before → All (λ b. b < 256) body → Begins body scratch)
+    → (held ≡ before) × ((h : ℕ) (body : List ℕ) → HasBody first (headed h body) before → All (λ b. b < 256) body
+    → Begins body scratch)
 copy_end first k n scratch before held is t =
     let none = none_of t.left (omega arith) in (
-      t.held_is ∙ ap (λ l. numbered (first + k) l ++ numbered first t.done) none
+      t.held_is ∙ ap (λ l. numbered (first + (k + 1)) l ++ numbered first t.done) none
           ∙ ap (numbered first) (sym (append-nil t.done)) ∙ ap (λ l. numbered first (t.done ++ l)) (sym none) ∙ sym t.before_is,
-      λ body has small j inside.
+      λ h body has small j inside.
+          let long = length_headed h body in
+          let many = has.count in
           let values : has.values ≡ t.done ++ t.left = sym (values_numbered first has.values) ∙ ap values_of (sym has.held_is ∙ t.before_is)
           ∙ values_numbered first (t.done ++ t.left) in
           let all : length has.values ≡ length t.done + length t.left = ap length values ∙ length-append t.done t.left in
-          t.copies body (subst (AreWordsOf body) values has.words) small j inside (omega arith),
+          t.copies h body (subst (AreWordsOf (headed h body)) values has.words) small j inside (omega arith),
     )

@@ -1,5 +1,5 @@
 -- The steps that give a body's slots back keep the rule.
-use Rattle.std.proofs.Common.{◌≡◌, ◌≢◌, ℕ, ℤ, ◌+◌, ◌/◌, ◌≤◌, ◌<◌, List, [], ◌∷◌, ◌++◌, true, set, map, slice_index, sym, refl, ap, ◌∙◌, subst, ⊎_elim, length, append-nil, arith}
+use Rattle.std.proofs.Common.{◌≡◌, ◌≢◌, ℕ, ℤ, FitsSigned, ◌+◌, ◌/◌, ◌^◌, ◌≤◌, ◌<◌, List, [], ◌∷◌, ◌++◌, true, set, map, slice_index, sym, refl, ap, ◌∙◌, subst, ⊎_elim, length, append-nil, arith}
 use Rattle.std.specs.Prelude.{All}
 use mathlib.Core.Option.{some}
 use mathlib.Core.Logic.{dite}
@@ -8,31 +8,36 @@ use lib.ListN.{get_elem?}
 use Rattle.std.proofs.lemmas.List.{length-replicate}
 use Rattle.atomic_table.specs.Table.{State, Allows, homes_after, carried_after}
 use Rattle.atomic_table.proofs.Lists.{at_set, set_here}
+use Rattle.std.specs.Int.{w32}
+use Rattle.ring_layout.specs.declared.message.ClaimState.{ClaimState}
 use Rattle.ring_layout.specs.declared.message.ClaimState.TheVariants.{Open}
-use Rattle.ring_layout.specs.Headers.{committed_header}
+use Rattle.ring_layout.specs.Headers.{committed_header, header_of}
+use Rattle.ring_layout.proofs.HeaderLemmas.{pattern_below}
 use Rattle.ring_layout.specs.Places.{index}
 use Rattle.ring_layout.proofs.ListLemmas.{at_below}
-use Rattle.ring_table.specs.Staged.{elsewhere, StagedClaim, PlacedMessage, Padded, Stored, AreRising}
-use Rattle.ring_table.specs.Changes.{blank, changed, recorded, with_body}
+use Rattle.ring_layout.specs.declared.message.Message.{Message}
+use Rattle.ring_table.specs.Staged.{elsewhere, StagedClaim, PlacedMessage, Padded, Stored, AreRising, body_word, slot_bytes}
+use Rattle.ring_table.specs.Changes.{blank, changed, stored_as, with_body}
 use Rattle.ring_table.specs.Passing.{IsSettled, placed_message}
 use Rattle.ring_table.specs.Views.{View, with_claims}
 use Rattle.ring_table.specs.ProducerSteps.{Mine, HasClaim, with_changed}
 use Rattle.ring_table.specs.Rule.{Kept}
 use Rattle.ring_table.specs.Ranges.{numbered, values_of, gives_first, laid}
 use Rattle.ring_table.specs.Shelf.{IsClaimOf, IsShelf}
-use Rattle.ring_table.specs.SlotSteps.{words_of, AreWordsOf, HasBody, with_out, CommitsBody, GivesBody, ReturnsBody, body_loads}
+use Rattle.ring_table.specs.SlotSteps.{words_of, AreWordsOf, HasBody, with_out, StoresRecord, GivesBody, ReturnsBody, ReturnsSlots, body_loads}
 use Rattle.ring_table.proofs.RangeLemmas.{values_numbered, carried_gives, valid_gives, homes_gives}
 use Rattle.ring_table.proofs.HistoryLemmas.{changed_at_place, changed_at_other}
 use Rattle.ring_table.proofs.StagedPlaces.{one_at_place}
-use Rattle.ring_table.proofs.StagedWords.{staged_word-header, staged_word-recorded}
+use Rattle.ring_table.proofs.StagedWords.{staged_word-header, staged_word-stored_as}
 use Rattle.ring_table.proofs.HeaderWords.{one_committed}
 use Rattle.ring_table.proofs.LoadLemmas.{Ok}
 use Rattle.ring_table.proofs.StoreLemmas.{FillsClaim, header_step, rising}
 use Rattle.ring_table.proofs.StoreBodies.{gives_body}
 use Rattle.ring_table.proofs.CarryLemmas.{Holds, was_changed, one_claim}
-use Rattle.ring_table.proofs.FillLemmas.{same_body}
+use Rattle.ring_table.proofs.FillLemmas.{same_body, word_there}
 use Rattle.ring_table.proofs.BodyPlaces.{Lies}
 use Rattle.ring_table.proofs.OutPlaces.{own_lies, got_lies, in_history, one_out}
+use Rattle.ring_table.proofs.SlotBytes.{first_word_of, length_slot, small_slot, slot_one}
 use Rattle.ring_table.proofs.SlotLemmas.{gives_shelf}
 use Rattle.ring_table.proofs.OutLemmas.{set_twice, outed, loaded}
 
@@ -59,21 +64,27 @@ same_claims views id v w c at claims of = ⊎_elim
     (at_set views id of.seat w of.view of.there)
 
 module _ (C start : ℕ) where
-  pub returns_body : (slots id : ℕ) (me : Mine) → me.0.capacity ≡ C → me.0.consumes ≡ true
+  -- the slots go home, and the log gets these loads
+  abbrev ReturnsWith : List (ℕ × ℕ) → Mine → Mine → Type 0
+  ReturnsWith loads me me' = (me'.1 ≡ []) × (me'.0 ≡ record me.0 { out = []; log = me.0.log ++ loads })
+
+  returns_with : (slots id : ℕ) (me : Mine) → me.0.capacity ≡ C → me.0.consumes ≡ true
       → (front : List PlacedMessage) (m : PlacedMessage) → me.0.consumer.got ≡ front ++ m ∷ []
-      → me.0.consumer.cleared ≤ m.place → me.0.out ≡ m ∷ [] → HasBody (index C m.place + 1) m.message.body me.1
-      → Allows (Holds elsewhere C start) slots id me (index C m.place) (λ n. n) (λ n me'. ReturnsBody me me')
-  returns_body slots id me cap consumes front m got ahead out has s r wide at small =
+      → me.0.consumer.cleared ≤ m.place → me.0.out ≡ m ∷ [] → HasBody (index C m.place) (slot_bytes m.message) me.1
+      → (loads : List (ℕ × ℕ))
+      → Allows (Holds elsewhere C start) slots id me (index C m.place) (λ n. n) (λ n me'. ReturnsWith loads me me')
+  returns_with slots id me cap consumes front m got ahead out has loads_more s r wide at small =
       let v : View = me.0 in
       let g = got_lies C start s.words s.homes s.views r.0 r.1 id v front m at consumes got ahead in
       let p = g.passed in
       let l = g.lies in
       let i : ℕ = index C m.place in
       let ws : List ℕ = has.values in
-      let carried : me.1 ≡ numbered (i + 1) ws ++ [] = has.held_is ∙ sym (append-nil (numbered (i + 1) ws)) in
-      let homes_are : homes_after s.homes me.1 (gives_first ws) ≡ laid (i + 1) (map some ws) s.homes =
-      ap (λ h. homes_after s.homes h (gives_first ws)) carried ∙ homes_gives s.homes (i + 1) ws [] in
-      let loads : List (ℕ × ℕ) = v.log ++ body_loads C m (words_of (length m.message.body)) in
+      let carried : me.1 ≡ numbered i ws ++ [] = has.held_is ∙ sym (append-nil (numbered i ws)) in
+      let homes_are : homes_after s.homes me.1 (gives_first ws) ≡ laid i (map some ws) s.homes =
+      ap (λ h. homes_after s.homes h (gives_first ws)) carried ∙ homes_gives s.homes i ws [] in
+      let long = length_slot m.message in
+      let loads : List (ℕ × ℕ) = v.log ++ loads_more in
       let w : View = record v { out = []; log = loads } in (
         w,
         gives_first ws,
@@ -93,55 +104,85 @@ module _ (C start : ℕ) where
                     let one : (have.seat, c) ≡ p.owned =
                     one_at_place C start r.0.hist h.nth p.nth (have.seat, c) p.owned r.0.memory.placed h.there p.there
                     (same ∙ sym place) in
-                    let bodies : m.message.body ≡ c.message.body =
-                    ap (λ (z : PlacedMessage). z.message.body) (sym p.is)
-                    ∙ ap (λ (z : ℕ × StagedClaim). z.1.message.body) (sym one) in (
-                      subst (λ b. AreWordsOf b ws) bodies has.words,
-                      ap (λ b. words_of (length b)) (sym bodies),
+                    let messages : m.message ≡ c.message =
+                    ap (λ (z : PlacedMessage). z.message) (sym p.is)
+                    ∙ ap (λ (z : ℕ × StagedClaim). z.1.message) (sym one) in (
+                      subst (λ (b : Message). AreWordsOf (slot_bytes b) ws) messages has.words,
+                      ap (λ (b : Message). words_of (8 + length b.body)) (sym messages),
                     );
-              }) l has.count),
+              }) l (has.count ∙ ap words_of long)),
         ),
         (
-          ap (λ h. carried_after h (gives_first ws)) carried ∙ carried_gives (i + 1) ws [],
+          ap (λ h. carried_after h (gives_first ws)) carried ∙ carried_gives i ws [],
+          refl,
+        ),
+      )
+
+  pub returns_body : (slots id : ℕ) (me : Mine) → me.0.capacity ≡ C → me.0.consumes ≡ true
+      → (front : List PlacedMessage) (m : PlacedMessage) → me.0.consumer.got ≡ front ++ m ∷ []
+      → me.0.consumer.cleared ≤ m.place → me.0.out ≡ m ∷ [] → HasBody (index C m.place) (slot_bytes m.message) me.1
+      → Allows (Holds elsewhere C start) slots id me (index C m.place) (λ n. n) (λ n me'. ReturnsBody me me')
+  returns_body slots id me cap consumes front m got ahead out has s r wide at small =
+      let t = returns_with slots id me cap consumes front m got ahead out has
+      (body_loads C m (words_of (length m.message.body))) s r wide at small in (
+        t.0,
+        t.1,
+        t.2,
+        t.3,
+        (
+          t.4.0,
           λ m' out'.
-              let one : m ≡ m' = one_out m m' v.out out out' in
-              λ x. record v {
+              let one : m ≡ m' = one_out m m' me.0.out out out' in
+              t.4.1 ∙ λ x. record me.0 {
                 out = [];
-                log = v.log ++ body_loads (sym cap x) (one x) (words_of (length (one x).message.body));
+                log = me.0.log ++ body_loads (sym cap x) (one x) (words_of (length (one x).message.body));
               },
         ),
       )
 
+  pub returns_slots : (slots id : ℕ) (me : Mine) → me.0.capacity ≡ C → me.0.consumes ≡ true
+      → (front : List PlacedMessage) (m : PlacedMessage) → me.0.consumer.got ≡ front ++ m ∷ []
+      → me.0.consumer.cleared ≤ m.place → me.0.out ≡ m ∷ [] → HasBody (index C m.place) (slot_bytes m.message) me.1
+      → Allows (Holds elsewhere C start) slots id me (index C m.place) (λ n. n) (λ n me'. ReturnsSlots me me')
+  returns_slots slots id me cap consumes front m got ahead out has s r wide at small =
+      let t = returns_with slots id me cap consumes front m got ahead out has [] s r wide at small in (
+        t.0,
+        t.1,
+        t.2,
+        t.3,
+        (t.4.0, λ m' out'. t.4.1 ∙ ap (λ l. record me.0 { out = []; log = l }) (append-nil me.0.log)),
+      )
+
   -- the own claim c, whose body is out as that of m, becomes f of itself, with the body whose words the slots have
   record GoesHome (me : Mine) (k : ℕ) (c : StagedClaim) (m : PlacedMessage) (f : StagedClaim → StagedClaim)
-      (body : List ℕ) : Type 0 where
+      (now : Message) : Type 0 where
     pub has : HasClaim me.0 k c
     pub unsettled : IsSettled c.stage → ⊥
     pub out_is : me.0.out ≡ m ∷ []
     pub place_is : c.place ≡ m.place
     pub long : length c.message.body ≡ length m.message.body
     pub keeps : (d : StagedClaim) → (f d).place ≡ d.place
-    pub body_is : (f c).message.body ≡ body
-    pub many : words_of (length body) ≡ words_of (length m.message.body)
-    pub held : HasBody (index C c.place + 1) body me.1
+    pub message_is : (f c).message ≡ now
+    pub many : words_of (8 + length now.body) ≡ words_of (8 + length m.message.body)
+    pub held : HasBody (index C c.place) (slot_bytes now) me.1
 
   -- the slots go home
   home_shelf : (s : State ℕ View) (r : Ok elsewhere C start s) → IsShelf C s.homes s.views → (id : ℕ) (me : Mine)
       → get_elem? s.views id ≡ some me.0 → (k : ℕ) (c : StagedClaim) (m : PlacedMessage)
-      (f : StagedClaim → StagedClaim) (body : List ℕ) → (g : GoesHome me k c m f body)
+      (f : StagedClaim → StagedClaim) (now : Message) → (g : GoesHome me k c m f now)
       → IsShelf C (homes_after s.homes me.1 (gives_first g.held.values))
       (set s.views id (with_out [] (with_claims (changed c.place f me.0.producer.claims) me.0)))
-  home_shelf s r shelf id me at k c m f body g =
+  home_shelf s r shelf id me at k c m f now g =
       let v : View = me.0 in
       let l = own_lies C start s.words s.homes s.views r shelf id v k c at g.has g.unsettled in
       let l_m : Lies C r.consumer.head r.hist m.place (length m.message.body) =
       subst (λ (z : ℕ × ℕ). Lies C r.consumer.head r.hist z.0 z.1) (λ x. (g.place_is x, g.long x)) l in
       let i : ℕ = index C c.place in
       let ws : List ℕ = g.held.values in
-      let carried : me.1 ≡ numbered (i + 1) ws ++ [] = g.held.held_is ∙ sym (append-nil (numbered (i + 1) ws)) in
-      let homes_are : homes_after s.homes me.1 (gives_first ws) ≡ laid (index C m.place + 1) (map some ws) s.homes =
-      ap (λ h. homes_after s.homes h (gives_first ws)) carried ∙ homes_gives s.homes (i + 1) ws []
-      ∙ ap (λ p. laid (index C p + 1) (map some ws) s.homes) g.place_is in
+      let carried : me.1 ≡ numbered i ws ++ [] = g.held.held_is ∙ sym (append-nil (numbered i ws)) in
+      let homes_are : homes_after s.homes me.1 (gives_first ws) ≡ laid (index C m.place) (map some ws) s.homes =
+      ap (λ h. homes_after s.homes h (gives_first ws)) carried ∙ homes_gives s.homes i ws []
+      ∙ ap (λ p. laid (index C p) (map some ws) s.homes) g.place_is in
       let w : View = with_out [] (with_claims (changed c.place f v.producer.claims) v) in
       let own : (k' : ℕ) (c' : StagedClaim) → HasClaim w k' c' → c'.place ≡ m.place → c' ≡ f c = λ k' c' has' same.
       let d = was_changed c.place f v.producer.claims k' c' has' in
@@ -165,9 +206,9 @@ module _ (C start : ℕ) where
         right = λ c' of same. ⊎_elim
             (λ (t : (of.seat ≡ id) × (w ≡ of.view)).
             let one : c' ≡ f c = own of.nth c' (subst (λ (z : View). HasClaim z of.nth c') (sym t.1) of.has) same in
-            let bodies : c'.message.body ≡ body = ap (λ (z : StagedClaim). z.message.body) one ∙ g.body_is in (
-              subst (λ b. AreWordsOf b ws) (sym bodies) g.held.words,
-              ap (λ b. words_of (length b)) bodies ∙ g.many,
+            let messages : c'.message ≡ now = ap (λ (z : StagedClaim). z.message) one ∙ g.message_is in (
+              subst (λ (b : Message). AreWordsOf (slot_bytes b) ws) (sym messages) g.held.words,
+              ap (λ (b : Message). words_of (8 + length b.body)) messages ∙ g.many,
             ))
             (λ (t : (of.seat ≢ id) × (get_elem? s.views of.seat ≡ some of.view)).
             let h = in_history C start s.words s.homes s.views r shelf of.seat of.view of.nth c' t.1 of.has in
@@ -177,7 +218,7 @@ module _ (C start : ℕ) where
             mine.there (same ∙ sym g.place_is) in
             absurd (t.0 (ap (λ (z : ℕ × StagedClaim). z.0) one)))
             (at_set s.views id of.seat w of.view of.there);
-      }) l_m (g.held.count ∙ g.many))
+      }) l_m (g.held.count ∙ ap words_of (length_slot now) ∙ g.many))
 
   -- the rule but for the slots, once nothing is out
   home_kept : (s : State ℕ View) (words : List ℕ) (id : ℕ) (v : View) → get_elem? s.views id ≡ some v → (mid : View)
@@ -196,23 +237,27 @@ module _ (C start : ℕ) where
       (held.held_is ∙ sym (append-nil (numbered i held.values))) ∙ carried_gives i held.values []
 
   -- one list of slots has the words of one body of this length
-  one_body : (me : Mine) (i i' : ℕ) (body body' : List ℕ) → HasBody i body me.1 → HasBody i' body' me.1
-      → length body ≡ length body' → All (λ b. b < 256) body → All (λ b. b < 256) body' → body ≡ body'
-  one_body me i i' body body' held held' lengths bytes bytes' =
+  one_body : (me : Mine) (i i' : ℕ) (a b : Message) → HasBody i (slot_bytes a) me.1 → HasBody i' (slot_bytes b) me.1
+      → length a.body ≡ length b.body → All (λ b. b < 256) a.body → All (λ b. b < 256) b.body → a.body ≡ b.body
+  one_body me i i' a b held held' lengths bytes bytes' =
       let slots_are : numbered i held.values ≡ numbered i' held'.values = sym held.held_is ∙ held'.held_is in
       let values : held.values ≡ held'.values = sym (values_numbered i held.values) ∙ ap values_of slots_are
       ∙ values_numbered i' held'.values in
-      same_body body body' held.values lengths bytes bytes' held.words
-      (subst (AreWordsOf body') (sym values) held'.words) held.count
+      slot_one a b (same_body (slot_bytes a) (slot_bytes b) held.values
+      (length_slot a ∙ ap (λ n. 8 + n) lengths ∙ sym (length_slot b)) (small_slot a bytes) (small_slot b bytes') held.words
+      (subst (AreWordsOf (slot_bytes b)) (sym values) held'.words) held.count)
 
   pub gives_it : (slots id : ℕ) (me : Mine) → me.0.capacity ≡ C → (k : ℕ) (c : StagedClaim) (m : PlacedMessage)
       (body : List ℕ) → HasClaim me.0 k c → c.stage ≡ Stored Open → me.0.out ≡ m ∷ [] → c.place ≡ m.place
-      → length c.message.body ≡ length m.message.body → length body ≡ length c.message.body
-      → All (λ b. b < 256) body → HasBody (index C c.place + 1) body me.1
+      → (c.message.type_id ≡ m.message.type_id) × (length c.message.body ≡ length m.message.body)
+      → length body ≡ length c.message.body → All (λ b. b < 256) body
+      → HasBody (index C c.place) (slot_bytes (record { type_id = m.message.type_id; body = body })) me.1
       → Allows (Holds elsewhere C start) slots id me (index C c.place) (λ n. n)
       (λ n me'. GivesBody me me' × AreRising me.0.producer.claims)
-  gives_it slots id me cap k c m body has is out places longs long bytes held s r wide at small =
+  gives_it slots id me cap k c m body has is out places likes long bytes held s r wide at small =
       let v : View = me.0 in
+      let longs = likes.1 in
+      let now : Message = record { type_id = m.message.type_id; body = body } in
       let i : ℕ = index C c.place in
       let f : StagedClaim → StagedClaim = with_body body in
       let mid : View = with_claims (changed c.place f v.producer.claims) v in
@@ -225,24 +270,25 @@ module _ (C start : ℕ) where
           home_kept s (set s.words i (slice_index s.words i)) id v at mid
               (subst (λ (z : View). Kept elsewhere C start (set s.words i (slice_index s.words i)) (set s.views id z))
               mid_is t.3),
-          home_shelf s r.0 r.1 id me at k c m f body (record {
+          home_shelf s r.0 r.1 id me at k c m f now (record {
             has = has;
             unsettled = λ z. subst IsSettled is z;
             out_is = out;
             place_is = places;
             long = longs;
             keeps = λ d. refl;
-            body_is = refl;
-            many = ap words_of (long ∙ longs);
+            message_is = λ x. record { type_id = likes.0 x; body = body };
+            many = ap (λ z. words_of (8 + z)) (long ∙ longs);
             held = held;
           }),
         ),
         (
           (
-            none_left me (i + 1) body held,
+            none_left me i (slot_bytes now) held,
             λ m' i' body' out' long' bytes' held'.
                 let messages : m ≡ m' = one_out m m' v.out out out' in
-                let equal : body ≡ body' = one_body me (i + 1) i' body body' held held'
+                let equal : body ≡ body' = one_body me i i' now
+                (record { type_id = m'.message.type_id; body = body' }) held held'
                 (long ∙ longs ∙ ap (λ (z : PlacedMessage). length z.message.body) messages ∙ sym long') bytes bytes' in
                 λ x. with_out [] (with_changed ((places ∙ ap (λ (z : PlacedMessage). z.place) messages) x)
                 (with_body (equal x)) v),
@@ -251,19 +297,40 @@ module _ (C start : ℕ) where
         ),
       )
 
-  -- the one header of a claim is stored, with which it is committed
-  pub commits_body : (slots id : ℕ) (me : Mine) → me.0.capacity ≡ C → (k : ℕ) (c : StagedClaim) (type_id : ℤ)
-      (body : List ℕ) (value : ℕ) → value ≡ committed_header type_id (length body) → HasClaim me.0 k c
+  -- one list of slots has the record of one message
+  one_record : (me : Mine) (i i' : ℕ) (a b : Message) → HasBody i (slot_bytes a) me.1 → HasBody i' (slot_bytes b) me.1
+      → FitsSigned w32 a.type_id → FitsSigned w32 b.type_id → 8 + length a.body < 2 ^ 31 → 8 + length b.body < 2 ^ 31
+      → (a.type_id ≡ b.type_id) × (length a.body ≡ length b.body)
+  one_record me i i' a b held held' fits fits' small small' =
+      let slots_are : numbered i held.values ≡ numbered i' held'.values = sym held.held_is ∙ held'.held_is in
+      let values : held.values ≡ held'.values = sym (values_numbered i held.values) ∙ ap values_of slots_are
+      ∙ values_numbered i' held'.values in
+      let long = length_slot a in
+      let count = held.count in
+      let y = word_there held.values 0 (omega arith) in
+      let words : body_word (slot_bytes a) 0 ≡ body_word (slot_bytes b) 0 =
+      held.words 0 y.0 y.1 ∙ sym (held'.words 0 y.0 (ap (λ l. get_elem? l 0) (sym values) ∙ y.1)) in
+      let h = pattern_below a.type_id fits in
+      let h' = pattern_below b.type_id fits' in
+      one_committed a.type_id (length a.body) b.type_id (length b.body) fits small fits' small'
+      (sym (first_word_of (committed_header a.type_id (length a.body)) a.body (omega arith)) ∙ words
+      ∙ first_word_of (committed_header b.type_id (length b.body)) b.body (omega arith))
+
+  -- the one header of a claim is stored, with which it gets this state
+  pub stores_record : (u : ClaimState) (slots id : ℕ) (me : Mine) → me.0.capacity ≡ C → (k : ℕ) (c : StagedClaim)
+      (type_id : ℤ) (body : List ℕ) (value : ℕ)
+      → value ≡ header_of (record { message = record { type_id = type_id; body = body }; state = u }) → HasClaim me.0 k c
       → c.stage ≡ Padded → me.0.out ≡ placed_message c ∷ [] → FillsClaim C c type_id (length body)
-      → All (λ b. b < 256) body → HasBody (index C c.place + 1) body me.1
+      → All (λ b. b < 256) body → HasBody (index C c.place) (slot_bytes (record { type_id = type_id; body = body })) me.1
       → Allows (Holds elsewhere C start) slots id me (index C c.place) (λ _. value)
-      (λ _ me'. CommitsBody value me me' × AreRising me.0.producer.claims)
-  commits_body slots id me cap k c type_id body value value_is has is out fills bytes held s r wide at small =
+      (λ _ me'. StoresRecord u me me' × AreRising me.0.producer.claims)
+  stores_record u slots id me cap k c type_id body value value_is has is out fills bytes held s r wide at small =
       let v : View = me.0 in
       let i : ℕ = index C c.place in
       let n : ℕ = length body in
       let m : PlacedMessage = placed_message c in
-      let f : StagedClaim → StagedClaim = recorded type_id body in
+      let now : Message = record { type_id = type_id; body = body } in
+      let f : StagedClaim → StagedClaim = stored_as u type_id body in
       let mid : View = with_claims (changed c.place f v.producer.claims) v in
       let lawful = fills.lawful in
       let same_span = fills.span_is in
@@ -283,7 +350,7 @@ module _ (C start : ℕ) where
         };
         goes = λ _ e. cc;
         word = staged_word-header elsewhere (f c) c.place refl ∙ sym value_is;
-        others = λ p p8 ne. staged_word-recorded c type_id body p p8 place8 ne is;
+        others = λ p p8 ne. staged_word-stored_as u c type_id body p p8 place8 ne is;
       }) s r.0 wide at small in
       let mid_is : t.0 ≡ mid = t.4.1 k c has is (ap (λ z. index z c.place) cap) in (
         with_out [] mid,
@@ -292,27 +359,28 @@ module _ (C start : ℕ) where
         (
           home_kept s (set s.words i value) id v at mid
               (subst (λ (z : View). Kept elsewhere C start (set s.words i value) (set s.views id z)) mid_is t.3),
-          home_shelf s r.0 r.1 id me at k c m f body (record {
+          home_shelf s r.0 r.1 id me at k c m f now (record {
             has = has;
             unsettled = λ z. subst IsSettled is z;
             out_is = out;
             place_is = refl;
             long = refl;
             keeps = λ d. refl;
-            body_is = refl;
+            message_is = refl;
             many = omega arith;
             held = held;
           }),
         ),
         (
           (
-            none_left me (i + 1) body held,
-            λ m' i' type_id' body' out' fits' small' value_is' bytes' held'.
+            none_left me i (slot_bytes now) held,
+            λ m' i' type_id' body' out' fits' small' bytes' held'.
                 let messages : m ≡ m' = one_out m m' v.out out out' in
-                let one = one_committed type_id n type_id' (length body') lawful.type_fits (omega arith) fits' small'
-                (sym value_is ∙ value_is') in
-                let equal : body ≡ body' = one_body me (i + 1) i' body body' held held' one.1 bytes bytes' in
-                λ x. with_out [] (with_changed (messages x).place (recorded (one.0 x) (equal x)) v),
+                let one = one_record me i i' now (record { type_id = type_id'; body = body' }) held held'
+                lawful.type_fits fits' (omega arith) small' in
+                let equal : body ≡ body' = one_body me i i' now (record { type_id = type_id'; body = body' }) held held' one.1
+                bytes bytes' in
+                λ x. with_out [] (with_changed (messages x).place (stored_as u (one.0 x) (equal x)) v),
           ),
           rising elsewhere C start s.words s.views r.0 id v at,
         ),

@@ -15,7 +15,6 @@ pub mod StoreLemmas
 pub mod StoreBodies
 pub mod ConsumeLemmas
 pub mod ClearLemmas
-pub mod RecordLemmas
 pub mod ServiceLemmas
 pub mod ServeLemmas
 pub mod RestLemmas
@@ -32,6 +31,7 @@ pub mod RefillLemmas
 pub mod SlotsRescue
 pub mod PictureWords
 pub mod CloseSlots
+pub mod SlotBytes
 pub mod ShelfLemmas
 pub mod CarryLemmas
 pub mod HeaderWords
@@ -48,3 +48,13 @@ pub mod SlotCalls
 pub mod SlotBodies
 pub mod HeaderCalls
 pub mod LawLemmas
+pub mod MarkWords
+pub mod EncodeLemmas
+pub mod MarkSteps
+pub mod LoadsHeaders
+pub mod ReadMarks
+pub mod ClearMarks
+pub mod SeatMarks
+pub mod SettleMarks
+pub mod DecodeLemmas
+pub mod LastMarks

@@ -1,7 +1,7 @@
 -- A producer's loads keep the rule.
 use Rattle.ring_table.specs.Staged.{in_words}
 use Rattle.ring_table.specs.Staged.{Bodies}
-use Rattle.std.proofs.Common.{◌≡◌, ℕ, ◌+◌, ◌%◌, ◌≤◌, List, cond, set, get_or, slice_index, sym, refl, ap, ◌∙◌, subst, length, le-ltb, arith}
+use Rattle.std.proofs.Common.{◌≡◌, ℕ, ◌+◌, ◌%◌, ◌≤◌, List, cond, set, get_or, slice_index, sym, refl, ap, ◌∙◌, subst, le-ltb, arith}
 use mathlib.Core.Option.{some}
 use lib.ListN.{get_elem?}
 use Rattle.atomic_table.specs.Table.{State, keeps, Allows, Act, Valid, stepped, carried_after}
@@ -11,7 +11,7 @@ use Rattle.ring_table.specs.Staged.{StagedClaim, Moved, IsStored, AreRising, sta
 use Rattle.ring_table.specs.Owners.{OwnedHistory, all_of}
 use Rattle.ring_table.specs.Passing.{IsSettled}
 use Rattle.ring_table.specs.Services.{times_drawn, once_below}
-use Rattle.ring_table.specs.Views.{Logs, View, Wanted, logged, with_producer, with_tail, with_head}
+use Rattle.ring_table.specs.Views.{Logs, View, logged, with_producer, with_tail, with_head}
 use Rattle.ring_table.specs.Rule.{Knows, Kept, shares_of}
 use Rattle.ring_table.specs.ProducerSteps.{Mine, IsPosition, EndBelow, LoadsTail, LoadsHead, HasClaim, LoadsOwn}
 use Rattle.ring_table.proofs.StagedPlaces.{capacity_aligned, start_aligned, lies_in, LiesIn, end_aligned, places_aligned, word_of_claim}

@@ -1,40 +1,37 @@
 -- The steps that take a body's slots keep the rule.
-use Rattle.std.proofs.Common.{◌≡◌, ℕ, ℤ, zero, suc, ◌+◌, ◌*◌, ◌/◌, ◌≤◌, ◌<◌, List, [], ◌∷◌, ◌++◌, true, cond, set, slice_index, sym, refl, ap, ◌∙◌, subst, inl, inr, ⊎_elim, length, length-append, append-nil, eq-eqb, ne_eqb, arith}
+use Rattle.std.proofs.Common.{◌≡◌, ℕ, zero, suc, ◌+◌, ◌*◌, ◌≤◌, ◌<◌, List, [], ◌∷◌, ◌++◌, true, cond, set, slice_index, sym, refl, ap, ◌∙◌, subst, inl, inr, ⊎_elim, length, length-append, append-nil, eq-eqb, ne_eqb, arith}
 use Rattle.std.specs.Prelude.{All}
 use mathlib.Core.Option.{Option, some, some-injective, some-ne-none}
 use mathlib.Core.Logic.{dite}
 use native.Mathlib.Decide.{ℕ_discrete}
 use lib.ListN.{get_elem?}
-use Rattle.std.proofs.lemmas.List.{length-replicate, set-get_or}
+use Rattle.std.proofs.lemmas.List.{set-get_or}
 use Rattle.atomic_table.specs.Table.{State, Allows, carried_after}
-use Rattle.atomic_table.proofs.Lists.{at_last, set_here}
+use Rattle.atomic_table.proofs.Lists.{at_last}
 use Rattle.ring_layout.specs.declared.message.ClaimState.TheVariants.{Open}
-use Rattle.ring_layout.specs.Headers.{open_header}
 use Rattle.ring_layout.specs.Places.{index}
 use Rattle.ring_layout.proofs.ListLemmas.{at_below}
-use Rattle.ring_table.specs.Staged.{Bodies, elsewhere, StagedClaim, PlacedMessage, Padded, Stored, IsStored, AreRising, staged_end, body_word}
-use Rattle.ring_table.specs.Changes.{blank, changed, with_header}
+use Rattle.ring_table.specs.Staged.{Bodies, elsewhere, StagedClaim, PlacedMessage, Padded, Stored, IsStored, AreRising, staged_end, body_word, slot_bytes}
 use Rattle.ring_table.specs.Owners.{OwnedHistory, all_of, owned_by}
 use Rattle.ring_table.specs.Passing.{IsSettled, placed_message}
-use Rattle.ring_table.specs.Views.{View, with_claims}
-use Rattle.ring_table.specs.ProducerSteps.{Mine, HasClaim, with_changed}
+use Rattle.ring_table.specs.Views.{View}
+use Rattle.ring_table.specs.ProducerSteps.{Mine, HasClaim}
 use Rattle.ring_table.specs.Rule.{Kept}
 use Rattle.ring_table.specs.Ranges.{numbered, takes_from}
 use Rattle.ring_table.specs.Shelf.{IsClaimOf}
-use Rattle.ring_table.specs.SlotSteps.{words_of, HasBody, HasSlots, with_out, OpensBody, ReservesBody, TakesBody, LendsBody}
+use Rattle.ring_table.specs.SlotSteps.{words_of, HasBody, HasSlots, with_out, ReservesAt, ReservesBody, TakesBody, LendsBody}
 use Rattle.ring_table.proofs.RangeLemmas.{carried_takes, valid_takes}
 use Rattle.ring_table.proofs.ListLemmas.{there_or_past}
-use Rattle.ring_table.proofs.HistoryLemmas.{changed_at_place, changed_at_other, changed_there}
 use Rattle.ring_table.proofs.ReachLemmas.{stored_of}
 use Rattle.ring_table.proofs.KnowLemmas.{knows_on}
 use Rattle.ring_table.proofs.StepLemmas.{sees_top_after, becomes}
-use Rattle.ring_table.proofs.HeaderWords.{one_type, one_length}
 use Rattle.ring_table.proofs.LoadLemmas.{Ok, HasUnsettled, stands}
-use Rattle.ring_table.proofs.StoreLemmas.{FillsClaim, opens, rising, same_place, header_lies}
+use Rattle.ring_table.proofs.StoreLemmas.{rising, same_place, header_lies}
 use Rattle.ring_table.proofs.ClearLemmas.{one_end}
-use Rattle.ring_table.proofs.CarryLemmas.{Holds, was_changed, one_claim}
+use Rattle.ring_table.proofs.CarryLemmas.{Holds, one_claim}
 use Rattle.ring_table.proofs.BodyPlaces.{body_index, gathered}
 use Rattle.ring_table.proofs.OutPlaces.{own_lies, got_lies, none_at_own, none_at_got, all_home, reads_from}
+use Rattle.ring_table.proofs.SlotBytes.{length_slot}
 use Rattle.ring_table.proofs.SlotLemmas.{takes_shelf}
 
 -- ---- views and lists
@@ -45,7 +42,7 @@ set_twice (x ∷ xs) zero v w = refl
 set_twice (x ∷ xs) (suc id) v w = ap (λ l. x ∷ l) (set_twice xs id v w)
 
 -- a claim of the history is its owner's
-has_owned : (h : OwnedHistory) (n j : ℕ) (c : StagedClaim) → get_elem? h n ≡ some (j, c)
+pub has_owned : (h : OwnedHistory) (n j : ℕ) (c : StagedClaim) → get_elem? h n ≡ some (j, c)
     → (k : ℕ) × (get_elem? (owned_by j h) k ≡ some c)
 has_owned [] n j c e = absurd (some-ne-none (j, c) (sym e))
 has_owned (x ∷ xs) zero j c e =
@@ -151,8 +148,8 @@ module _ (C start : ℕ) where
       let n : ℕ = length c.message.body in
       let i : ℕ = index C c.place in
       let home = all_home C start s.words s.homes s.views r.0 r.1 c.place n l alone in
-      let right : (j y : ℕ) → j < words_of n → get_elem? s.homes (i + 1 + j) ≡ some (some y)
-      → body_word c.message.body (8 * j) ≡ y = λ j y less e.
+      let right : (j y : ℕ) → j < words_of (8 + n) → get_elem? s.homes (i + j) ≡ some (some y)
+      → body_word (slot_bytes c.message) (8 * j) ≡ y = λ j y less e.
       sym (r.1.exact c (record {
         seat = id;
         view = v;
@@ -162,15 +159,16 @@ module _ (C start : ℕ) where
         stored = subst IsStored (sym is) tt;
       }) (reads_from C start s.words s.homes s.views r.0 r.1 c.place l.body.from) (8 * j) y (omega arith) (omega arith)
       (ap (get_elem? s.homes) (body_index C r.0.consumer.head c.place n j l.body less) ∙ e)) in
-      let ys = gathered s.homes (i + 1) (words_of n) home in
+      let ys = gathered s.homes i (words_of (8 + n)) home in
+      let long = length_slot c.message in
       let m : PlacedMessage = placed_message c in
       let w : View = with_out (m ∷ []) v in
-      let body : HasBody (i + 1) c.message.body (carried_after me.1 (takes_from (i + 1) ys.0)) =
-      has_body C (i + 1) c.message.body ys.0 s.homes me.1 empty ys.1
-      (λ j y less e. right j y less (ys.2 j y e)) in (
+      let body : HasBody i (slot_bytes c.message) (carried_after me.1 (takes_from i ys.0)) =
+      has_body C i (slot_bytes c.message) ys.0 s.homes me.1 empty (ys.1 ∙ ap words_of (sym long))
+      (λ j y less e. right j y (subst (λ z. j < words_of z) long less) (ys.2 j y e)) in (
         w,
-        takes_from (i + 1) ys.0,
-        valid_takes s.homes me.1 (i + 1) ys.0 ys.2,
+        takes_from i ys.0,
+        valid_takes s.homes me.1 i ys.0 ys.2,
         (
           loaded s i (set s.views id w) (outed elsewhere C start s.words s.views r.0 id v at (m ∷ []) v.log),
           takes_shelf C start s.words s.homes s.views r.0 r.1 id v w at refl refl m me.1 ys.0 (record {
@@ -184,8 +182,8 @@ module _ (C start : ℕ) where
           λ k' c' has' is' same.
               let one : c ≡ c' = own_claim s r.0 id v at cap k c has un k' c' has' (λ z. subst IsSettled is' z) same in (
                 (λ x. with_out (placed_message (one x) ∷ []) v),
-                subst (λ (z : StagedClaim). HasBody (i + 1) z.message.body (carried_after me.1
-                    (takes_from (i + 1) ys.0))) one body,
+                subst (λ (z : StagedClaim). HasBody i (slot_bytes z.message) (carried_after me.1
+                    (takes_from i ys.0))) one body,
                 subst (λ (z : StagedClaim). All (λ b. b < 256) z.message.body) one
                     (stands elsewhere C start s.words s.views r.0 id v k c
                     (record { seat = at; claim = has; unsettled = un })).lies.message.bytes,
@@ -208,13 +206,13 @@ module _ (C start : ℕ) where
       let alone = none_at_own C start s.words s.homes s.views r.0 r.1 id v k c at none has un in
       let n : ℕ = length c.message.body in
       let i : ℕ = index C c.place in
-      let ys = gathered s.homes (i + 1) (words_of n)
+      let ys = gathered s.homes i (words_of (8 + n))
       (all_home C start s.words s.homes s.views r.0 r.1 c.place n l alone) in
       let m : PlacedMessage = placed_message c in
       let w : View = with_out (m ∷ []) v in (
         w,
-        takes_from (i + 1) ys.0,
-        valid_takes s.homes me.1 (i + 1) ys.0 ys.2,
+        takes_from i ys.0,
+        valid_takes s.homes me.1 i ys.0 ys.2,
         (
           loaded s word (set s.views id w) (outed elsewhere C start s.words s.views r.0 id v at (m ∷ []) v.log),
           takes_shelf C start s.words s.homes s.views r.0 r.1 id v w at refl refl m me.1 ys.0 (record {
@@ -229,10 +227,10 @@ module _ (C start : ℕ) where
               let one : c ≡ c' = one_newest others others' c c' (sym newest ∙ newest') in
               let here : i ≡ index v.capacity c'.place = λ x. index (sym cap x) (one x).place in (
                 (λ x. with_out (placed_message (one x) ∷ []) v),
-                subst (λ z. HasSlots (z + 1) (words_of (length c'.message.body)) (carried_after me.1
-                    (takes_from (i + 1) ys.0))) here
-                    (has_slots (i + 1) (words_of (length c'.message.body)) ys.0 me.1 empty
-                    (ys.1 ∙ ap (λ (z : StagedClaim). words_of (length z.message.body)) one)),
+                subst (λ z. HasSlots z (words_of (8 + length c'.message.body)) (carried_after me.1
+                    (takes_from i ys.0))) here
+                    (has_slots i (words_of (8 + length c'.message.body)) ys.0 me.1 empty
+                    (ys.1 ∙ ap (λ (z : StagedClaim). words_of (8 + length z.message.body)) one)),
               ),
           rising elsewhere C start s.words s.views r.0 id v at,
         ),
@@ -265,23 +263,24 @@ module _ (C start : ℕ) where
       (λ (past : length s.views ≤ p.owned.0). absurd (some-ne-none p.owned.1
       (sym owner.1 ∙ ap (λ h. get_elem? h owner.0) (r.0.seated.nobody p.owned.0 past))))
       (there_or_past s.views p.owned.0) in
-      let right : (j y : ℕ) → j < words_of n → get_elem? s.homes (i + 1 + j) ≡ some (some y)
-      → body_word m.message.body (8 * j) ≡ y = λ j y less e.
+      let right : (j y : ℕ) → j < words_of (8 + n) → get_elem? s.homes (i + j) ≡ some (some y)
+      → body_word (slot_bytes m.message) (8 * j) ≡ y = λ j y less e.
       let long : length p.owned.1.message.body ≡ n = ap (λ (z : PlacedMessage). length z.message.body) p.is in
       let place : p.owned.1.place ≡ m.place = ap (λ (z : PlacedMessage). z.place) p.is in
-      ap (λ (z : PlacedMessage). body_word z.message.body (8 * j)) (sym p.is)
+      ap (λ (z : PlacedMessage). body_word (slot_bytes z.message) (8 * j)) (sym p.is)
       ∙ sym (r.1.exact p.owned.1 of (reads_from C start s.words s.homes s.views r.0 r.1 p.owned.1.place
       (let from = l.body.from in omega arith)) (8 * j) y (omega arith) (omega arith)
-      (ap (get_elem? s.homes) (ap (λ q. index C (q + 8 + 8 * j)) place
+      (ap (get_elem? s.homes) (ap (λ q. index C (q + 8 * j)) place
       ∙ body_index C r.0.consumer.head m.place n j l.body less) ∙ e)) in
-      let ys = gathered s.homes (i + 1) (words_of n) home in
+      let ys = gathered s.homes i (words_of (8 + n)) home in
+      let long_it = length_slot m.message in
       let w : View = with_out (m ∷ []) v in
-      let body : HasBody (i + 1) m.message.body (carried_after me.1 (takes_from (i + 1) ys.0)) =
-      has_body C (i + 1) m.message.body ys.0 s.homes me.1 empty ys.1
-      (λ j y less e. right j y less (ys.2 j y e)) in (
+      let body : HasBody i (slot_bytes m.message) (carried_after me.1 (takes_from i ys.0)) =
+      has_body C i (slot_bytes m.message) ys.0 s.homes me.1 empty (ys.1 ∙ ap words_of (sym long_it))
+      (λ j y less e. right j y (subst (λ z. j < words_of z) long_it less) (ys.2 j y e)) in (
         w,
-        takes_from (i + 1) ys.0,
-        valid_takes s.homes me.1 (i + 1) ys.0 ys.2,
+        takes_from i ys.0,
+        valid_takes s.homes me.1 i ys.0 ys.2,
         (
           loaded s i (set s.views id w) (outed elsewhere C start s.words s.views r.0 id v at (m ∷ []) v.log),
           takes_shelf C start s.words s.homes s.views r.0 r.1 id v w at refl refl m me.1 ys.0 (record {
@@ -294,92 +293,45 @@ module _ (C start : ℕ) where
         λ front' m' got'.
             let same = one_end front front' m m' (sym got ∙ got') in (
               (λ x. with_out (same.1 x ∷ []) v),
-              subst (λ (z : PlacedMessage). HasBody (i + 1) z.message.body (carried_after me.1
-                  (takes_from (i + 1) ys.0))) same.1 body,
+              subst (λ (z : PlacedMessage). HasBody i (slot_bytes z.message) (carried_after me.1
+                  (takes_from i ys.0))) same.1 body,
             ),
       )
 
-  pub opens_body : (slots id : ℕ) (me : Mine) → me.0.capacity ≡ C → me.0.out ≡ [] → me.1 ≡ [] → (k : ℕ)
-      (c : StagedClaim) (type_id : ℤ) (n value : ℕ) → value ≡ open_header type_id n → HasClaim me.0 k c
-      → c.stage ≡ Padded → FillsClaim C c type_id n
-      → Allows (Holds elsewhere C start) slots id me (index C c.place) (λ _. value)
-      (λ _ me'. OpensBody (index C c.place) value me me' × AreRising me.0.producer.claims)
-  opens_body slots id me cap none empty k c type_id n value value_is has is fills s r wide at small =
+  -- the load is of the word at the claim's place
+  pub reserves_at : (slots id : ℕ) (me : Mine) → me.0.capacity ≡ C → me.0.out ≡ [] → me.1 ≡ [] → (k : ℕ)
+      (c : StagedClaim) → HasClaim me.0 k c → c.stage ≡ Padded
+      → Allows (Holds elsewhere C start) slots id me (index C c.place) (λ n. n)
+      (λ n me'. ReservesAt (index C c.place) me me' × AreRising me.0.producer.claims)
+  reserves_at slots id me cap none empty k c has is s r wide at small =
       let v : View = me.0 in
       let un : IsSettled c.stage → ⊥ = λ z. subst IsSettled is z in
       let l = own_lies C start s.words s.homes s.views r.0 r.1 id v k c at has un in
       let alone = none_at_own C start s.words s.homes s.views r.0 r.1 id v k c at none has un in
+      let n : ℕ = length c.message.body in
       let i : ℕ = index C c.place in
-      let b = l.body in
-      let from = b.from in
-      let to = b.to in
-      let within = b.within in
-      let lawful = fills.lawful in
-      let zeros : length (blank type_id n).body ≡ n = length-replicate n 0 in
-      let short : n ≤ C / 8 = omega (arith, lawful.short) in
-      let count : words_of (length c.message.body) ≡ words_of n = omega arith in
-      let ys = gathered s.homes (i + 1) (words_of (length c.message.body))
-      (all_home C start s.words s.homes s.views r.0 r.1 c.place (length c.message.body) l alone) in
-      let m : PlacedMessage = record { place = c.place; message = blank type_id n } in
-      let f : StagedClaim → StagedClaim = with_header type_id n in
-      let mid : View = with_claims (changed c.place f v.producer.claims) v in
-      let w : View = with_out (m ∷ []) mid in
-      let t = opens elsewhere C start slots id me cap k c type_id n value value_is has is fills s r.0 wide at small in
-      let mid_is : t.0 ≡ mid = t.4.1 type_id n lawful.type_fits (omega arith) value_is k c has is
-      (ap (λ z. index z c.place) cap) in
-      let kept : Kept elsewhere C start (set s.words i value) (set s.views id mid) =
-      subst (λ (z : View). Kept elsewhere C start (set s.words i value) (set s.views id z)) mid_is t.3 in
-      let kept_out : Kept elsewhere C start (set s.words i value) (set s.views id w) =
-      subst (λ l. Kept elsewhere C start (set s.words i value) l) (set_twice s.views id mid w)
-      (outed elsewhere C start (set s.words i value) (set s.views id mid) kept id mid
-      (set_here s.views id mid (at_below s.views id v at)) (m ∷ []) mid.log) in (
+      let ys = gathered s.homes i (words_of (8 + n))
+      (all_home C start s.words s.homes s.views r.0 r.1 c.place n l alone) in
+      let m : PlacedMessage = placed_message c in
+      let w : View = with_out (m ∷ []) v in (
         w,
-        takes_from (i + 1) ys.0,
-        valid_takes s.homes me.1 (i + 1) ys.0 ys.2,
+        takes_from i ys.0,
+        valid_takes s.homes me.1 i ys.0 ys.2,
         (
-          kept_out,
+          loaded s i (set s.views id w) (outed elsewhere C start s.words s.views r.0 id v at (m ∷ []) v.log),
           takes_shelf C start s.words s.homes s.views r.0 r.1 id v w at refl refl m me.1 ys.0 (record {
             was = none;
             now = refl;
-            kind = inl (record {
-              nth = k;
-              claim = f c;
-              there = changed_there c.place f v.producer.claims k c has refl;
-              unsettled = λ z. z;
-              place = refl;
-              long = refl;
-            });
-            claims = λ k' c' has' stored.
-                let d = was_changed c.place f v.producer.claims k' c' has' in
-                dite (ℕ_discrete d.0.place c.place)
-                (λ here.
-                let new : f d.0 ≡ c' = sym (changed_at_place c.place f d.0 here) ∙ d.2 in
-                inl (
-                  ap (λ (z : StagedClaim). z.place) (sym new) ∙ here,
-                  ap (λ (z : StagedClaim). length z.message.body) (sym new),
-                ))
-                (λ there. inr (d.1 ∙ ap some (sym (changed_at_other c.place f d.0 there) ∙ d.2)));
-          }) (record {
-            some = b.some;
-            whole = b.whole;
-            place8 = b.place8;
-            from = b.from;
-            to = omega arith;
-            within = omega arith;
-          }) (ys.1 ∙ omega arith),
+            kind = inl (record { nth = k; claim = c; there = has; unsettled = un; place = refl; long = refl });
+            claims = λ k' c' has' stored. inr has';
+          }) l.body ys.1,
         ),
         (
-          λ type_id' n' fits' small' same.
-              let same' = sym value_is ∙ same in
-              let types : type_id ≡ type_id' =
-              one_type type_id n type_id' n' lawful.type_fits (omega arith) fits' small' same' in
-              let lengths : n ≡ n' = one_length type_id n type_id' n' (omega arith) small' same' in (
-                has_slots (i + 1) (words_of n') ys.0 me.1 empty (ys.1 ∙ count ∙ ap words_of lengths),
-                λ k' c' has' is' here.
-                    let one : c ≡ c' = own_claim s r.0 id v at cap k c has un k' c' has'
-                    (λ z. subst IsSettled is' z) here in
-                    λ x. with_out ((record { place = (one x).place; message = blank (types x) (lengths x) }) ∷ [])
-                    (with_changed (one x).place (with_header (types x) (lengths x)) v),
+          λ k' c' has' is' same.
+              let one : c ≡ c' = own_claim s r.0 id v at cap k c has un k' c' has' (λ z. subst IsSettled is' z) same in (
+                (λ x. with_out (placed_message (one x) ∷ []) v),
+                has_slots i (words_of (8 + length c'.message.body)) ys.0 me.1 empty
+                    (ys.1 ∙ ap (λ (z : StagedClaim). words_of (8 + length z.message.body)) one),
               ),
           rising elsewhere C start s.words s.views r.0 id v at,
         ),

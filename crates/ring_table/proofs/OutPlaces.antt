@@ -152,13 +152,13 @@ module _ (C start : ℕ) (words : List ℕ) (homes : List (Option ℕ)) (views :
       o.whose
 
   -- the slots of such a body are at home
-  pub all_home : (place n : ℕ) → Lies C r.consumer.head r.hist place n → NoneAt place → (i : ℕ) → i < words_of n
-      → (y : ℕ) × (get_elem? homes (index C place + 1 + i) ≡ some (some y))
+  pub all_home : (place n : ℕ) → Lies C r.consumer.head r.hist place n → NoneAt place → (i : ℕ) → i < words_of (8 + n)
+      → (y : ℕ) × (get_elem? homes (index C place + i) ≡ some (some y))
   all_home place n l alone i less =
-      let k : ℕ = index C place + 1 in
+      let k : ℕ = index C place in
       s.home (k + i) (body_below C r.consumer.head place n i l.body less) (λ j u there o.
       let out = out_lies j u o.message there o.out_is in
-      let slot : index C (o.message.place + 8 + o.at) ≡ index C (place + 8 + 8 * i) =
+      let slot : index C (o.message.place + o.at) ≡ index C (place + 8 * i) =
       o.slot_is ∙ sym (body_index C r.consumer.head place n i l.body less) in
       let one = one_slot C start r.consumer.head r.hist r.memory.placed o.message.place
       (length o.message.message.body) place n out.lies l o.at (8 * i) (o.aligned, o.inside)

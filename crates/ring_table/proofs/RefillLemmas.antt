@@ -1,22 +1,18 @@
 -- The walk that puts bodies beside their headers.
-use Rattle.std.proofs.Common.{◌≡◌, ◌≢◌, ℕ, ◌+◌, ◌-◌, ◌*◌, ◌/◌, ◌%◌, ◌^◌, ◌≤◌, ◌<◌, ◌⊎◌, pos, List, [], ◌∷◌, ◌++◌, cond, slice_index, sym, refl, ap, ◌∙◌, subst, inl, inr, ⊎_elim, length, lt-ltb, le-ltb, append_assoc, append-nil, arith}
+use Rattle.std.proofs.Common.{◌≡◌, ℕ, ◌+◌, ◌-◌, ◌*◌, ◌/◌, ◌%◌, ◌^◌, ◌≤◌, ◌<◌, ◌⊎◌, pos, List, [], ◌∷◌, ◌++◌, slice_index, sym, refl, ap, ◌∙◌, subst, inl, inr, ⊎_elim, length, lt-ltb, le-ltb, append_assoc, append-nil, arith}
 use Rattle.std.proofs.lemmas.Bool.{cases_lt, cond-true, cond-false}
 use Rattle.std.proofs.lemmas.Nat.{mod_below}
 use Rattle.ring_layout.specs.declared.message.ClaimState.TheVariants.{Open, Committed, Aborted}
 use Rattle.ring_layout.specs.Headers.{header, header_of, padding_type}
-use Rattle.ring_layout.specs.Layout.{ring_words}
-use Rattle.ring_layout.specs.Places.{IsCapacity, index, next_place}
+use Rattle.ring_layout.specs.Places.{IsCapacity, index, next_place, rounded}
 use Rattle.ring_layout.proofs.Laps.{LieInLap, mod_aligned, index_outside}
 use Rattle.ring_layout.proofs.PlaceLemmas.{next_le, next_within}
-use Rattle.ring_table.specs.ConsumerSteps.{rounded}
-use Rattle.ring_table.specs.Staged.{in_words, StagedClaim, PlacedMessage, Stage, Moved, Padded, Stored, IsStored, LiesAfter, claim_of, claim_end, stage_state, staged_span, masked_record, staged_word, staged_word_at, ArePlaced, staged_end}
+use Rattle.ring_table.specs.Staged.{in_words, StagedClaim, Stage, Moved, Padded, Stored, IsStored, LiesAfter, claim_of, claim_end, stage_state, staged_span, masked_record, staged_word, staged_word_at, ArePlaced, staged_end}
 use Rattle.ring_table.specs.Passing.{IsSettled, placed_message, shown_at, placed_committed_of}
 use Rattle.ring_table.specs.Refilling.{FillsOver, FillsTo, Filled, FitAll, FitsBody, all_filled, filled, filled_message}
 use Rattle.ring_table.specs.Walk.{IsCopied}
-use Rattle.ring_table.proofs.BodyPlaces.{BodyIn, body_index}
+use Rattle.ring_table.proofs.BodyPlaces.{BodyIn, behind_header}
 use Rattle.ring_table.proofs.HeaderReads.{halves, type_below}
-use Rattle.ring_table.proofs.ReachLemmas.{stored_of}
-use Rattle.ring_table.proofs.RestLemmas.{stored_record}
 use Rattle.ring_table.proofs.SettleLemmas.{snoc_before, snoc_end, snoc_placed, snoc_there}
 use Rattle.ring_table.proofs.StagedPlaces.{capacity_aligned, end_le, nothing_behind}
 use Rattle.ring_table.proofs.StagedWords.{staged_word-header, staged_word-in_words}
@@ -233,7 +229,7 @@ module _ (C head : ℕ) (cap : IsCapacity C) (slots : List ℕ) (F : ℕ → Lis
                 let i : ℕ = (p - s - 8) / 8 in
                 let p_is : p ≡ s + 8 + 8 * i = omega arith in
                 let slot : index C p ≡ index C s + 1 + i =
-                ap (index C) p_is ∙ body_index C head s len i b (omega arith) in
+                ap (index C) p_is ∙ behind_header C head s len i b (omega arith) in
                 let claim_p : p ≡ c.place + 8 + 8 * i = omega arith in
                 copy.inside (index C p) (omega arith) (omega arith)
                 ∙ ap (λ q. slice_index slots (index C q)) claim_p

@@ -9,7 +9,7 @@ use Rattle.ring_table.specs.Closed.{restarted}
 use Rattle.ring_table.specs.Owners.{OwnedHistory, all_of}
 use Rattle.ring_table.specs.Rescued.{HadHistory, IsSaved, Rescues, Settles, ShowsClaims}
 use Rattle.ring_table.specs.Rule.{IsMemory, IsService, Kept}
-use Rattle.ring_table.specs.Staged.{Bodies, StagedClaim, ArePlaced, staged_end, staged_word_at}
+use Rattle.ring_table.specs.Staged.{Bodies, in_words, elsewhere, StagedClaim, ArePlaced, staged_end, staged_word_at}
 use Rattle.ring_table.specs.Views.{ConsumerView, View}
 use Rattle.ring_table.specs.declared.view.Key.{Key}
 use Rattle.ring_table.proofs.MemoryLemmas.{head_bounds}
@@ -18,11 +18,17 @@ use Rattle.ring_table.proofs.RestLemmas.{Splits, splits}
 -- a table had the history of its last state
 pub had_history : (B : Bodies) (k : Key) (v : View) (closed : Closed ℕ Global) → IsSaved B k v closed
     → (hist : OwnedHistory) × (drawn : ℕ) × HadHistory B k v closed hist drawn
-had_history B k v closed saved =
+had_history in_words k v closed saved =
     let f = saved.final in (
       f.1.0.0.hist,
       f.1.0.0.drawn,
-      record { id = saved.id; final = (f.0, (((f.1.0.0, refl, refl), f.1.0.1), f.1.1), f.2, f.3, f.4) },
+      record { id = saved.id; final = (f.0, ((f.1.0.0, refl, refl), f.1.1), f.2, f.3, f.4) },
+    )
+had_history elsewhere k v closed saved =
+    let f = saved.final in (
+      f.1.0.kept.hist,
+      f.1.0.kept.drawn,
+      record { id = saved.id; final = (f.0, ((f.1.0, refl, refl), f.1.1), f.2, f.3, f.4) },
     )
 
 module _ (B : Bodies) (C start : ℕ) (words : List ℕ) (views : List View) (r : Kept B C start words views) (id : ℕ)

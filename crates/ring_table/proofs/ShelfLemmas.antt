@@ -1,15 +1,16 @@
 -- The slots as views change and homes stay.
 use Rattle.std.specs.Prelude.{⊤}
-use Rattle.std.proofs.Common.{◌≡◌, ◌≢◌, ℕ, zero, suc, ◌+◌, ◌≤◌, ◌<◌, ◌⊎◌, List, [], ◌∷◌, ◌++◌, Bool, true, false, cond, ltb, set, sym, refl, ap, ◌∙◌, subst, inl, inr, ⊎_elim, length, arith}
+use Rattle.std.proofs.Common.{◌≡◌, ◌≢◌, ℕ, ◌≤◌, ◌⊎◌, List, [], ◌∷◌, ◌++◌, true, set, sym, refl, ap, ◌∙◌, subst, inl, ⊎_elim, length, arith}
 use mathlib.Core.Option.{Option, some, some-injective, some-ne-none}
 use mathlib.Core.Logic.{dite}
 use native.Mathlib.Decide.{ℕ_discrete}
 use lib.ListN.{get_elem?}
 use Rattle.atomic_table.proofs.Lists.{at_set, set_here, set_else, at_longer, at_last}
 use Rattle.ring_table.specs.Staged.{Bodies, in_words, elsewhere, StagedClaim, PlacedMessage, IsStored}
+use Rattle.ring_layout.specs.declared.message.Message.{Message}
 use Rattle.ring_table.specs.Views.{View}
 use Rattle.ring_table.specs.ProducerSteps.{HasClaim}
-use Rattle.ring_table.specs.Shelf.{IsOut, IsOneOut, IsClaimOf, ReadsFrom, HasReader, HasRight, IsShelf, HasShelf}
+use Rattle.ring_table.specs.Shelf.{IsOut, IsOneOut, IsClaimOf, ReadsFrom, HasReader, HasRight, IsShelf}
 use Rattle.ring_layout.proofs.ListLemmas.{at_below}
 use Rattle.ring_table.proofs.ListLemmas.{at_more}
 
@@ -17,7 +18,7 @@ use Rattle.ring_table.proofs.ListLemmas.{at_more}
 pub record IsAsWas (d c : StagedClaim) : Type 0 where
   pub stored : IsStored d.stage
   pub place : d.place ≡ c.place
-  pub body : d.message.body ≡ c.message.body
+  pub message : d.message ≡ c.message
 
 -- a view has the claim as it was
 pub record HasWas (v : View) (c : StagedClaim) : Type 0 where
@@ -76,7 +77,7 @@ follows C homes views views' f s = record {
       let r = (f.fed reads.seat reads.view reads.there).reads reads.consumes in
       let head = reads.head in
       let place : t.claim.place ≡ c.place = t.was.place in
-      subst (λ (z : ℕ × List ℕ). HasRight C homes z.0 z.1) (λ i. (t.was.place i, t.was.body i))
+      subst (λ (z : ℕ × Message). HasRight C homes z.0 z.1) (λ i. (t.was.place i, t.was.message i))
       (s.exact t.claim t.has (record {
         seat = r.seat;
         view = r.view;
@@ -109,7 +110,7 @@ fed_same views id u at out = record {
   claims = λ k d has stored. record {
     claim = d;
     has = record { seat = id; view = u; nth = k; there = at; has = has; stored = stored };
-    was = record { stored = stored; place = refl; body = refl };
+    was = record { stored = stored; place = refl; message = refl };
   };
   reads = λ consumes. record { seat = id; view = u; there = at; consumes = consumes; head = omega arith };
   out = out;

@@ -9,7 +9,7 @@ use Rattle.atomic_table.specs.Table.{homes_after}
 use Rattle.atomic_table.proofs.Lists.{at_set, at_map, set_here, set_else}
 use Rattle.ring_layout.proofs.ListLemmas.{at_below}
 use Rattle.ring_layout.specs.Places.{index}
-use Rattle.ring_table.specs.Staged.{elsewhere, StagedClaim, PlacedMessage, IsStored, body_word}
+use Rattle.ring_table.specs.Staged.{elsewhere, StagedClaim, PlacedMessage, IsStored, body_word, slot_bytes}
 use Rattle.ring_table.specs.Views.{ConsumerView, View}
 use Rattle.ring_table.specs.ProducerSteps.{HasClaim}
 use Rattle.ring_table.specs.Rule.{Kept}
@@ -102,10 +102,10 @@ module _ (C start : ℕ) (words : List ℕ) (homes : List (Option ℕ)) (views :
           → ((c.place ≡ m.place) × (length c.message.body ≡ length m.message.body)) ⊎ HasClaim v k c
 
     pub takes_shelf : (m : PlacedMessage) (carried : List (ℕ × ℕ)) (ys : List ℕ) → TakesOut m
-        → BodyIn C r.consumer.head m.place (length m.message.body) → length ys ≡ words_of (length m.message.body)
-        → IsShelf C (homes_after homes carried (takes_from (index C m.place + 1) ys)) (set views id w)
+        → BodyIn C r.consumer.head m.place (length m.message.body) → length ys ≡ words_of (8 + length m.message.body)
+        → IsShelf C (homes_after homes carried (takes_from (index C m.place) ys)) (set views id w)
     takes_shelf m carried ys t b_in count =
-        let k : ℕ = index C m.place + 1 in
+        let k : ℕ = index C m.place in
         let n : ℕ = length m.message.body in
         let homes' : List (Option ℕ) = homes_after homes carried (takes_from k ys) in
         record {
@@ -130,17 +130,17 @@ module _ (C start : ℕ) (words : List ℕ) (homes : List (Option ℕ)) (views :
           exact = λ c of reads at_byte y a8 inside e.
               let reads' = reads_before c.place reads in
               let old = λ (have : IsClaimOf views c). s.exact c have reads' at_byte y a8 inside
-              (taken_was homes carried k ys (index C (c.place + 8 + at_byte)) y e) in
+              (taken_was homes carried k ys (index C (c.place + at_byte)) y e) in
               ⊎_elim
               (λ (z : (of.seat ≡ id) × (w ≡ of.view)). ⊎_elim
               (λ (new : (c.place ≡ m.place) × (length c.message.body ≡ n)).
               let i : ℕ = at_byte / 8 in
               let whole : at_byte ≡ 8 * i = omega arith in
               let long = new.1 in
-              let slot : index C (c.place + 8 + at_byte) ≡ k + i =
-              (λ x. index C (new.0 x + 8 + whole x))
+              let slot : index C (c.place + at_byte) ≡ k + i =
+              (λ x. index C (new.0 x + whole x))
               ∙ body_index C r.consumer.head m.place n i b_in (omega arith) in
-              absurd (taken_gone homes carried k ys i (index C (c.place + 8 + at_byte)) y (omega arith) slot e))
+              absurd (taken_gone homes carried k ys i (index C (c.place + at_byte)) y (omega arith) slot e))
               (λ (has : HasClaim v of.nth c).
               old (record { seat = id; view = v; nth = of.nth; there = at; has = has; stored = of.stored }))
               (t.claims of.nth c (subst (λ (x : View). HasClaim x of.nth c) (sym z.1) of.has) of.stored))
@@ -169,7 +169,8 @@ module _ (C start : ℕ) (words : List ℕ) (homes : List (Option ℕ)) (views :
       pub now : w.out ≡ []
       pub old : (k : ℕ) (c : StagedClaim) → HasClaim w k c → IsStored c.stage → c.place ≢ m.place → HasClaim v k c
       pub right : (c : StagedClaim) → IsClaimOf (set views id w) c → c.place ≡ m.place
-          → AreWordsOf c.message.body ws × (words_of (length c.message.body) ≡ words_of (length m.message.body))
+          → AreWordsOf (slot_bytes c.message) ws
+          × (words_of (8 + length c.message.body) ≡ words_of (8 + length m.message.body))
 
     claim_was : (m : PlacedMessage) (ws : List ℕ) → GivesOut m ws → (c : StagedClaim) → IsClaimOf (set views id w) c
         → c.place ≢ m.place → IsClaimOf views c
@@ -193,10 +194,10 @@ module _ (C start : ℕ) (words : List ℕ) (homes : List (Option ℕ)) (views :
         (at_set views id of.seat w of.view of.there)
 
     pub gives_shelf : (m : PlacedMessage) (ws : List ℕ) → GivesOut m ws
-        → Lies C r.consumer.head r.hist m.place (length m.message.body) → length ws ≡ words_of (length m.message.body)
-        → IsShelf C (laid (index C m.place + 1) (map some ws) homes) (set views id w)
+        → Lies C r.consumer.head r.hist m.place (length m.message.body) → length ws ≡ words_of (8 + length m.message.body)
+        → IsShelf C (laid (index C m.place) (map some ws) homes) (set views id w)
     gives_shelf m ws g l count =
-        let k : ℕ = index C m.place + 1 in
+        let k : ℕ = index C m.place in
         let n : ℕ = length m.message.body in
         let many : length (map some ws) ≡ length ws = length-map ws (λ (z : ℕ). some z) in
         let homes' : List (Option ℕ) = laid k (map some ws) homes in
@@ -221,8 +222,8 @@ module _ (C start : ℕ) (words : List ℕ) (homes : List (Option ℕ)) (views :
               let q : ℕ = o.at / 8 in
               let a8 = o.aligned in
               let whole : o.at ≡ 8 * q = omega arith in
-              let lt : o.at < n = subst (λ (z : PlacedMessage). o.at < length z.message.body) is o.inside in
-              let slot : i ≡ k + q = sym o.slot_is ∙ (λ x. index C ((is x).place + 8 + whole x))
+              let lt : o.at < 8 + n = subst (λ (z : PlacedMessage). o.at < 8 + length z.message.body) is o.inside in
+              let slot : i ≡ k + q = sym o.slot_is ∙ (λ x. index C ((is x).place + whole x))
               ∙ body_index C r.consumer.head m.place n q l.body (omega arith) in
               not_outside k (length ws) i q (omega arith) slot h)
               (λ other. free j u (set_else views id j w other ∙ there) o)) in
@@ -235,26 +236,26 @@ module _ (C start : ℕ) (words : List ℕ) (homes : List (Option ℕ)) (views :
               dite (ℕ_discrete c.place m.place)
               (λ same.
               let right = g.right c of same in
-              let slot : index C (c.place + 8 + at_byte) ≡ k + i = (λ x. index C (same x + 8 + whole x))
+              let slot : index C (c.place + at_byte) ≡ k + i = (λ x. index C (same x + whole x))
               ∙ body_index C r.consumer.head m.place n i l.body (omega arith) in
               let b = here i (omega arith) in
               let value : y ≡ b.0 = same_value (get_elem? homes' (k + i)) y b.0
               (ap (get_elem? homes') (sym slot) ∙ e) b.2 in
-              value ∙ sym (right.0 i b.0 b.1) ∙ ap (body_word c.message.body) (sym whole))
+              value ∙ sym (right.0 i b.0 b.1) ∙ ap (body_word (slot_bytes c.message)) (sym whole))
               (λ other.
               let have = claim_was m ws g c of other in
               let h = in_history C start words homes views r s have.seat have.view have.nth c have.there have.has in
               let lies = claim_lies elsewhere C start words views r h.nth (have.seat, c) h.there
               (reads_above C start words homes views r s c.place reads') in
               s.exact c have reads' at_byte y a8 inside (sym (laid_else k (map some ws) homes
-              (index C (c.place + 8 + at_byte)) (⊎_elim
-              (λ (z : (j : ℕ) × (j < length (map some ws)) × (index C (c.place + 8 + at_byte) ≡ k + j)).
+              (index C (c.place + at_byte)) (⊎_elim
+              (λ (z : (j : ℕ) × (j < length (map some ws)) × (index C (c.place + at_byte) ≡ k + j)).
               let one = one_slot C start r.consumer.head r.hist r.memory.placed c.place (length c.message.body)
               m.place n lies l at_byte (8 * z.0) (a8, inside) (omega arith, omega arith)
               (z.2 ∙ sym (body_index C r.consumer.head m.place n z.0 l.body (omega arith))) in
               absurd (other one.0))
-              (λ (z : Outside k (length (map some ws)) (index C (c.place + 8 + at_byte))). z)
-              (in_or_out k (length (map some ws)) (index C (c.place + 8 + at_byte))))) ∙ e));
+              (λ (z : Outside k (length (map some ws)) (index C (c.place + at_byte))). z)
+              (in_or_out k (length (map some ws)) (index C (c.place + at_byte))))) ∙ e));
           outs = λ j u there. ⊎_elim
               (λ (z : (j ≡ id) × (w ≡ u)). subst IsOneOut z.1 (inl g.now))
               (λ (z : (j ≢ id) × (get_elem? views j ≡ some u)). s.outs j u z.1)

@@ -1,5 +1,5 @@
 -- What the consumer's seat alone knows of a table with slots: which bodies are at home, and what the words become.
-use Rattle.std.proofs.Common.{◌≡◌, ◌≢◌, ℕ, zero, suc, ◌+◌, ◌*◌, ◌/◌, ◌%◌, ◌≤◌, ◌<◌, List, [], ◌∷◌, ◌++◌, cond, true, length, slice_index, sym, refl, ap, ◌∙◌, subst, ⊎_elim, eq-eqb, ne_eqb, eqb, arith, All}
+use Rattle.std.proofs.Common.{◌≡◌, ℕ, zero, suc, ◌+◌, ◌*◌, ◌/◌, ◌%◌, ◌≤◌, ◌<◌, List, [], ◌∷◌, ◌++◌, cond, true, length, slice_index, sym, refl, ap, ◌∙◌, subst, ⊎_elim, eq-eqb, ne_eqb, eqb, arith, All}
 use Rattle.std.specs.Prelude.{⊤}
 use Rattle.std.proofs.lemmas.Bool.{cond-true, cond-false}
 use mathlib.Core.Option.{Option, some, some-injective, some-ne-none}
@@ -9,18 +9,17 @@ use lib.ListN.{get_elem?}
 use Rattle.ring_layout.specs.declared.message.Message.{Message}
 use Rattle.ring_layout.specs.declared.message.ClaimState.TheVariants.{Open, Committed, Aborted}
 use Rattle.ring_layout.specs.Layout.{head_index, tail_index}
-use Rattle.ring_layout.specs.Places.{index, max_position, next_place}
+use Rattle.ring_layout.specs.Places.{index, max_position}
 use Rattle.ring_layout.proofs.PlaceLemmas.{next_le}
 use Rattle.ring_table.specs.Closed.{restarted}
 use Rattle.ring_table.specs.Owners.{OwnedHistory, all_of, owned_by}
 use Rattle.ring_table.specs.Passing.{IsSettled, AreSettled, placed_message, shown_at, placed_committed_of}
-use Rattle.ring_table.specs.ProducerSteps.{HasClaim}
-use Rattle.ring_table.specs.Refilling.{FillsTo, Filled, FitAll, FitsBody, MayFill, all_filled, filled, filled_message}
-use Rattle.ring_table.specs.Rescued.{AreTight, Settles, ShowsClaims}
+use Rattle.ring_table.specs.Refilling.{FillsTo, Filled, FitAll, FitsBody, MayFill, all_filled, filled_message}
+use Rattle.ring_table.specs.Rescued.{AreTight, Settles}
 use Rattle.ring_table.specs.Rule.{Kept}
 use Rattle.ring_table.specs.Shelf.{IsClaimOf, IsShelf}
 use Rattle.ring_table.specs.SlotSteps.{words_of}
-use Rattle.ring_table.specs.Staged.{in_words, elsewhere, StagedClaim, PlacedMessage, Stage, Moved, Padded, Stored, ArePlaced, body_word, claim_end, staged_end, staged_span, unplaced}
+use Rattle.ring_table.specs.Staged.{elsewhere, StagedClaim, PlacedMessage, Stage, Moved, Padded, Stored, ArePlaced, body_word, claim_end, staged_end, staged_span}
 use Rattle.ring_table.specs.Views.{View}
 use Rattle.ring_table.proofs.BlankLemmas.{all_blanked, as_long, blank_count, blank_end, blank_silent, blanked}
 use Rattle.ring_table.proofs.BodyPlaces.{body_index, claim_lies}
@@ -31,6 +30,12 @@ use Rattle.ring_table.proofs.ReachLemmas.{stored_of}
 use Rattle.ring_table.proofs.RescueLemmas.{head_there, left, left_parts, same_head, shows_left}
 use Rattle.ring_table.proofs.RestLemmas.{staged_word_at-claims_of}
 use Rattle.ring_table.proofs.SettleLemmas.{are_stored}
+use Rattle.ring_table.proofs.SlotBytes.{first_word_of, slot_later}
+use Rattle.ring_table.proofs.StagedPlaces.{lies_in}
+use Rattle.ring_table.proofs.MarkWords.{committed_small}
+use Rattle.ring_table.proofs.DecodeLemmas.{HeadAt, all_filled_out, filled_ends, filled_placed, filled_settled_one, settles_as}
+use Rattle.ring_table.proofs.LastMarks.{heads_all, heads_rest, heads_restarted}
+use Rattle.ring_layout.specs.Headers.{committed_header}
 
 -- ---- which bodies are at home
 
@@ -60,6 +65,16 @@ have_restarted : (C head : ℕ) (xs : List ℕ) (s : ℕ) (rest : List StagedCla
     → AllHave C head xs (restarted s rest)
 have_restarted C head xs s [] all = tt
 have_restarted C head xs s (c ∷ rest) all = all
+
+-- those of settled claims stay as open ones are filled
+have_filled : (C head : ℕ) (xs : List ℕ) (cs : List StagedClaim) → AllHave C head xs cs
+    → AllHave C head xs (all_filled_out cs)
+have_filled C head xs [] all = tt
+have_filled C head xs (c ∷ cs) all = (
+  λ done above. subst (λ (m : Message). SlotsHave C xs c.place m.body)
+      (sym (filled_settled_one c.stage c.message done)) (all.0 done above),
+  have_filled C head xs cs all.1,
+)
 
 -- a claim of the history is one of its owner's
 owned_in : (id : ℕ) (h : OwnedHistory) (k : ℕ) (x : ℕ × StagedClaim) → get_elem? h k ≡ some x → x.0 ≡ id
@@ -110,20 +125,51 @@ module _ (C start : ℕ) (words : List ℕ) (homes : List (Option ℕ)) (views :
   slot_right k x there done above off off8 less =
       let n : ℕ = length x.1.message.body in
       let place : ℕ = x.1.place in
-      let i : ℕ = off / 8 in
+      let i : ℕ = off / 8 + 1 in
       let lies = claim_lies elsewhere C start words views r k x there above in
       let none = none_at_got C start words homes views r s id v (placed_message x.1) at_id bare consumes
       (record { nth = k; owned = x; there = there; settled = done; is = refl }) in
-      let inside : i < words_of n = omega arith in
+      let inside : i < words_of (8 + n) = omega arith in
       let home = all_home C start words homes views r s place n lies none i inside in
-      let off_is : place + 8 + off ≡ place + 8 + 8 * i = omega arith in
-      let slot : index C (place + 8 + off) ≡ index C place + 1 + i =
+      let off_is : place + 8 + off ≡ place + 8 * i = omega arith in
+      let whole : place + (8 + off) ≡ place + 8 + off = omega arith in
+      let slot : index C (place + 8 + off) ≡ index C place + i =
       ap (index C) off_is ∙ body_index C r.consumer.head place n i lies.body inside in
       let at_home : get_elem? homes (index C (place + 8 + off)) ≡ some (some home.0) =
       ap (get_elem? homes) slot ∙ home.1 in
       read_at xs (index C (place + 8 + off)) home.0 (values (index C (place + 8 + off)) home.0 at_home)
-      ∙ s.exact x.1 (claim_of_view k x there done) (reads_from C start words homes views r s place above) off home.0
-      off8 less at_home
+      ∙ s.exact x.1 (claim_of_view k x there done) (reads_from C start words homes views r s place above) (8 + off) home.0
+      (omega arith) (omega arith) (ap (λ z. get_elem? homes (index C z)) whole ∙ at_home)
+      ∙ slot_later x.1.message off
+
+  -- the first slot of such a claim has its header
+  slot_head : (k : ℕ) (x : ℕ × StagedClaim) → get_elem? r.hist k ≡ some x → IsSettled x.1.stage
+      → r.consumer.head ≤ x.1.place
+      → slice_index xs (index C x.1.place) ≡ committed_header x.1.message.type_id (length x.1.message.body)
+  slot_head k x there done above =
+      let n : ℕ = length x.1.message.body in
+      let place : ℕ = x.1.place in
+      let lies = claim_lies elsewhere C start words views r k x there above in
+      let none = none_at_got C start words homes views r s id v (placed_message x.1) at_id bare consumes
+      (record { nth = k; owned = x; there = there; settled = done; is = refl }) in
+      let home = all_home C start words homes views r s place n lies none 0 (omega arith) in
+      let slot : index C place + 0 ≡ index C place = omega arith in
+      let whole : place + 0 ≡ place = omega arith in
+      let at_home : get_elem? homes (index C place) ≡ some (some home.0) =
+      ap (get_elem? homes) (sym slot) ∙ home.1 in
+      let message = (lies_in C start r.hist k x r.memory.placed there).message in
+      read_at xs (index C place) home.0 (values (index C place) home.0 at_home)
+      ∙ s.exact x.1 (claim_of_view k x there done) (reads_from C start words homes views r s place above) 0 home.0
+      refl (omega arith) (ap (λ z. get_elem? homes (index C z)) whole ∙ at_home)
+      ∙ first_word_of (committed_header x.1.message.type_id n) x.1.message.body
+      (committed_small C x.1.message r.lawful.capacity.most message)
+
+  pub heads_left : (taken rest : List StagedClaim) → all_of r.hist ≡ taken ++ rest → (head : ℕ) → (p : ℕ)
+      → r.consumer.head ≤ p → HeadAt p (slice_index xs (index C p)) (restarted head rest)
+  heads_left taken rest whole head p from = heads_restarted p (slice_index xs (index C p)) head rest
+      (heads_rest p (slice_index xs (index C p)) taken rest (subst (HeadAt p (slice_index xs (index C p))) whole
+      (heads_all p (slice_index xs (index C p)) r.hist (λ k x there done place.
+      ap (λ z. slice_index xs (index C z)) (sym place) ∙ slot_head k x there done (omega arith)))))
 
   pub have_left : (taken rest : List StagedClaim) → all_of r.hist ≡ taken ++ rest → (head : ℕ)
       → head ≡ r.consumer.head → AllHave C head xs (restarted head rest)
@@ -288,36 +334,54 @@ module _ (C start : ℕ) (words : List ℕ) (homes : List (Option ℕ)) (views :
   abbrev pub the_left : List StagedClaim
   the_left = left elsewhere C start words views r id v at_id consumes rests
 
-  have_it : AllHave C v.consumer.head xs the_left
+  -- with open claims that fill their records
+  abbrev pub the_filled : List StagedClaim
+  the_filled = all_filled_out the_left
+
+  pub heads_it : (p : ℕ) → r.consumer.head ≤ p → HeadAt p (slice_index xs (index C p)) the_left
+  heads_it p from =
+      let q = left_parts elsewhere C start words views r id v at_id consumes rests in
+      subst (HeadAt p (slice_index xs (index C p))) (sym q.3)
+      (heads_left C start words homes views r s id v at_id consumes bare xs values q.0 q.1 q.2 v.consumer.head p from)
+
+  have_it : AllHave C v.consumer.head xs the_filled
   have_it =
       let p = left_parts elsewhere C start words views r id v at_id consumes rests in
-      subst (AllHave C v.consumer.head xs) (sym p.3)
+      have_filled C v.consumer.head xs the_left (subst (AllHave C v.consumer.head xs) (sym p.3)
       (have_left C start words homes views r s id v at_id consumes bare xs values p.0 p.1 p.2 v.consumer.head
-      (same_head elsewhere C start words views r id v at_id consumes rests))
+      (same_head elsewhere C start words views r id v at_id consumes rests)))
 
   module _ (one two : List ℕ) (e1 : slice_index one (head_index C) ≡ slice_index words (head_index C))
       (e2 : slice_index two (head_index C) ≡ slice_index one (head_index C))
       (t2 : slice_index two (tail_index C) ≡ slice_index words (tail_index C)) (claims silent : ℕ)
-      (k : Settles C (slice_index one (head_index C)) (all_blanked the_left) two claims silent) where
-    placed_one : ArePlaced C (slice_index one (head_index C)) the_left
-    placed_one = subst (λ z. ArePlaced C z the_left) (sym e1)
-        (shows_left elsewhere C start words views r id v at_id consumes rests).placed
+      (k : Settles C (slice_index one (head_index C)) (all_blanked the_filled) two claims silent) where
+    placed_one : ArePlaced C (slice_index one (head_index C)) the_filled
+    placed_one = subst (λ z. ArePlaced C z the_filled) (sym e1)
+        (filled_placed C (slice_index words (head_index C)) the_left r.lawful.capacity
+        (shows_left elsewhere C start words views r id v at_id consumes rests).placed)
 
-    pub may_fill_left : MayFill C xs (body_at the_left) k.now two
+    pub may_fill_left : MayFill C xs (body_at the_filled) k.now two
     may_fill_left =
         let q = shows_left elsewhere C start words views r id v at_id consumes rests in
         let head_is = head_there elsewhere C start words views r id v at_id consumes rests in
-        may_fill C (slice_index one (head_index C)) xs (body_at the_left) two the_left claims silent (sym e2)
-        (t2 ∙ q.tail_is ∙ ap (λ z. staged_end z the_left) (sym e1))
+        let head : ℕ = slice_index words (head_index C) in
+        let ends : staged_end head the_filled ≡ staged_end head the_left = filled_ends head the_left in
+        let room = q.room in
+        let limit = q.limit in
+        let room_now : staged_end head the_filled ≤ head + C = omega arith in
+        let limit_now : staged_end head the_filled ≤ max_position = omega arith in
+        may_fill C (slice_index one (head_index C)) xs (body_at the_filled) two the_filled claims silent (sym e2)
+        (t2 ∙ q.tail_is ∙ sym ends ∙ ap (λ z. staged_end z the_filled) (sym e1))
         (ap (λ z. z % 8) e1 ∙ q.aligned)
-        (subst (λ z. staged_end z the_left ≤ z + C) (sym e1) q.room)
-        (subst (λ z. staged_end z the_left ≤ max_position) (sym e1) q.limit) placed_one
-        (subst (λ z. AllHave C z xs the_left) (sym (e1 ∙ head_is)) have_it) (λ p le. refl) k
+        (subst (λ z. staged_end z the_filled ≤ z + C) (sym e1) room_now)
+        (subst (λ z. staged_end z the_filled ≤ max_position) (sym e1) limit_now) placed_one
+        (subst (λ z. AllHave C z xs the_filled) (sym (e1 ∙ head_is)) have_it) (λ p le. refl) k
 
-    pub settles_left : (three : List ℕ) → Filled C (slice_index two (head_index C)) (body_at the_left) k.now three
+    pub settles_left : (three : List ℕ) → Filled C (slice_index two (head_index C)) (body_at the_filled) k.now three
         → Settles C (slice_index words (head_index C)) the_left three claims silent
     settles_left three f =
-        subst (λ z. Settles C z the_left three claims silent) e1
-        (settles_filled C (slice_index one (head_index C)) xs (body_at the_left) two three the_left claims silent
+        settles_as C (slice_index words (head_index C)) the_left three claims silent
+        (subst (λ z. Settles C z the_filled three claims silent) e1
+        (settles_filled C (slice_index one (head_index C)) xs (body_at the_filled) two three the_filled claims silent
         placed_one (λ p le. refl) k
-        (subst (λ z. Filled C z (body_at the_left) k.now three) e2 f))
+        (subst (λ z. Filled C z (body_at the_filled) k.now three) e2 f)))

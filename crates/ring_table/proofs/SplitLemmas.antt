@@ -12,7 +12,7 @@ use Rattle.ring_table.specs.Staged.{staged_end}
 use Rattle.ring_table.specs.Owners.{OwnedHistory, all_of, owned_by, interleaved, handed_over}
 use Rattle.ring_layout.specs.Lists.{total}
 use Rattle.ring_table.specs.Services.{Service, times, times_drawn}
-use Rattle.ring_table.specs.Views.{ConsumerView, View, Wanted, without_consumer, consumer_alone, with_consumer_of, without_share, producer_alone, with_producer_of, spent}
+use Rattle.ring_table.specs.Views.{ConsumerView, View, without_consumer, consumer_alone, with_consumer_of, without_share, producer_alone, with_producer_of, spent}
 use Rattle.ring_table.specs.Rule.{IsMemory, Knows, IsSeated, Kept, shares_of}
 use Rattle.ring_table.proofs.OwnerLemmas.{all_of-handed_over, owned_by-handed_over, owned_by-handed_away, owned_by-handed_over_other}
 use Rattle.ring_table.proofs.ServiceLemmas.{served_append}

@@ -1,6 +1,6 @@
 -- The places of claims.
 use Rattle.ring_table.specs.Staged.{Bodies}
-use Rattle.std.proofs.Common.{◌≡◌, ℕ, zero, suc, ◌%◌, ◌≤◌, ◌<◌, List, [], ◌∷◌, cond, length, sym, refl, ap, ◌∙◌, subst, arith, lt-ltb, le-ltb}
+use Rattle.std.proofs.Common.{◌≡◌, ℕ, zero, suc, ◌%◌, ◌≤◌, ◌<◌, List, [], ◌∷◌, cond, sym, refl, ap, ◌∙◌, subst, arith, lt-ltb, le-ltb}
 use mathlib.Core.Option.{some, some-injective, some-ne-none}
 use lib.ListN.{get_elem?}
 use Rattle.ring_layout.specs.History.{IsMessage}

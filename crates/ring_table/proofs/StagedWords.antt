@@ -11,7 +11,7 @@ use Rattle.ring_layout.specs.History.{span}
 use Rattle.ring_layout.specs.Places.{next_place}
 use Rattle.ring_layout.specs.Headers.{header, header_of, padding_type}
 use Rattle.ring_table.specs.Staged.{StagedClaim, Stage, Moved, Padded, Stored, claim_of, stage_state, masked_padding, masked_record, padding_word, part_word, record_word, staged_word, body_word, in_words, elsewhere, IsStored}
-use Rattle.ring_table.specs.Changes.{moved_claim, fresh_stage, recorded, staged, with_header, with_body, with_body_word, with_word}
+use Rattle.ring_table.specs.Changes.{moved_claim, fresh_stage, stored_as, staged, with_header, with_body, with_body_word, with_word}
 use Rattle.ring_table.proofs.BodyWords.{length-with_word, body_word-with_word_other, body_word-zeros}
 
 pub staged_word-header : (B : Bodies) → (c : StagedClaim) (p : ℕ) → p ≡ c.place
@@ -176,12 +176,13 @@ staged_word-with_body c body p p8 place8 ne =
           staged_word-body elsewhere d p at (omega arith) ∙ sym (staged_word-body elsewhere c p at (omega arith))
     ]
 
--- nor does one that is committed at once
-pub staged_word-recorded : (c : StagedClaim) (type_id : ℤ) (body : List ℕ) (p : ℕ) → p % 8 ≡ 0 → c.place % 8 ≡ 0
-    → p ≢ c.place → c.stage ≡ Padded → staged_word elsewhere (recorded type_id body c) p ≡ staged_word elsewhere c p
-staged_word-recorded c type_id body p p8 place8 ne is =
+-- nor does one that is stored at once
+pub staged_word-stored_as : (s : ClaimState) (c : StagedClaim) (type_id : ℤ) (body : List ℕ) (p : ℕ) → p % 8 ≡ 0
+    → c.place % 8 ≡ 0 → p ≢ c.place → c.stage ≡ Padded
+    → staged_word elsewhere (stored_as s type_id body c) p ≡ staged_word elsewhere c p
+staged_word-stored_as s c type_id body p p8 place8 ne is =
     let d : StagedClaim = with_header type_id (length body) c in
-    staged_word-staged elsewhere (with_body body d) (Stored Committed) p p8 place8 ne (λ word. refl) (λ _. refl)
+    staged_word-staged elsewhere (with_body body d) (Stored s) p p8 place8 ne (λ word. refl) (λ _. refl)
     ∙ staged_word-with_body d body p p8 place8 ne
     ∙ staged_word-opened elsewhere c type_id (length body) p p8 place8 ne is
 

@@ -7,7 +7,6 @@ use Rattle.ring_layout.specs.declared.message.ClaimState.TheVariants.{Open}
 use Rattle.ring_layout.specs.History.{span}
 use Rattle.ring_layout.specs.Places.{index}
 use Rattle.ring_layout.specs.Headers.{header_of}
-use Rattle.ring_layout.proofs.PlaceLemmas.{span_bounds}
 use Rattle.ring_table.specs.Staged.{StagedClaim, Stored, claim_of, masked_record, staged_word_at, AreRising, IsStored}
 use Rattle.ring_table.specs.Changes.{with_body, with_body_word, changed}
 use Rattle.ring_table.specs.Owners.{all_of}

@@ -2,6 +2,7 @@
 use Rattle.std.specs.Prelude.{ℕ, ◌-◌, ℤ, List, [], ◌∷◌, Bool, true, false, length, take, replicate, if◌then◌else◌, ◌==◌}
 use Rattle.std.specs.Int.{to_le_bytes, w64}
 use Rattle.ring_layout.specs.declared.message.Message.{Message}
+use Rattle.ring_layout.specs.declared.message.ClaimState.{ClaimState}
 use Rattle.ring_layout.specs.declared.message.ClaimState.TheVariants.{Committed, Open}
 use Rattle.ring_layout.specs.History.{span, overwritten}
 use Rattle.ring_layout.specs.Places.{next_place}
@@ -28,15 +29,19 @@ staged t c = record { from = c.from; place = c.place; message = c.message; stage
 abbrev pub with_header : ℤ → ℕ → StagedClaim → StagedClaim
 with_header type_id n c = record { from = c.from; place = c.place; message = blank type_id n; stage = Stored Open }
 
--- the claim with its message, committed
-abbrev pub recorded : ℤ → List ℕ → StagedClaim → StagedClaim
-recorded type_id body c =
+-- the claim with its message, in this state
+abbrev pub stored_as : ClaimState → ℤ → List ℕ → StagedClaim → StagedClaim
+stored_as s type_id body c =
     record {
       from = c.from;
       place = c.place;
       message = record { type_id = type_id; body = body };
-      stage = Stored Committed;
+      stage = Stored s;
     }
+
+-- committed
+abbrev pub recorded : ℤ → List ℕ → StagedClaim → StagedClaim
+recorded = stored_as Committed
 
 -- the body with the bytes of a word in place of its own from `at` on, as far as it goes
 abbrev pub with_word : ℕ → ℕ → List ℕ → List ℕ

@@ -13,7 +13,8 @@ use Rattle.ring_table.specs.Staged.{Bodies, in_words, StagedClaim, unplaced, Are
 use Rattle.ring_table.specs.Passing.{AreSettled, placed_committed_of}
 use Rattle.ring_table.specs.Services.{times_drawn, once_below, AreServed}
 use Rattle.ring_table.specs.Views.{View}
-use Rattle.ring_table.specs.Rule.{IsLawful, IsMemory, IsService, Keeps}
+use Rattle.ring_table.specs.Rule.{IsLawful, IsMemory, IsService}
+use Rattle.ring_table.specs.Marks.{Keeps}
 use Rattle.ring_table.specs.declared.view.Key.{Key}
 
 pub record IsFresh (C start : ℕ) (words : List ℕ) : Type 0 where

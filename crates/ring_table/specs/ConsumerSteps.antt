@@ -1,10 +1,10 @@
 -- What the consumer learns by its steps: v is its view before, w after, n the number found.
-use Rattle.std.specs.Prelude.{if◌then◌else◌, ◌==◌, ◌≡◌, ◌≢◌, ℕ, ◌+◌, ◌*◌, ◌/◌, ◌%◌, ◌^◌, ◌≤◌, ◌<◌, ℤ, pos, ◌≤ℤ◌, FitsSigned, List, [], ◌∷◌, ◌++◌, length}
+use Rattle.std.specs.Prelude.{◌≡◌, ◌≢◌, ℕ, ◌+◌, ◌*◌, ◌/◌, ◌%◌, ◌^◌, ◌≤◌, ◌<◌, ℤ, pos, ◌≤ℤ◌, FitsSigned, List, [], ◌∷◌, ◌++◌, length}
 use Rattle.std.specs.Int.{w32}
 use mathlib.Core.Option.{some}
 use lib.ListN.{get_elem?}
-use Rattle.ring_layout.specs.History.{IsMessage, span}
-use Rattle.ring_layout.specs.Places.{index, max_position}
+use Rattle.ring_layout.specs.History.{IsMessage}
+use Rattle.ring_layout.specs.Places.{index, max_position, rounded}
 use Rattle.ring_layout.specs.Headers.{header, padding_type}
 use Rattle.ring_table.specs.Staged.{PlacedMessage, body_word}
 use Rattle.ring_table.specs.Views.{View, logged, with_consumer, scanned, cleared_to, stands_at}
@@ -12,10 +12,6 @@ use Rattle.ring_table.specs.Views.{View, logged, with_consumer, scanned, cleared
 -- the read has come to `scan` and has got these messages
 abbrev pub with_scan : ℕ → ℕ → ℕ → List PlacedMessage → View → View
 with_scan word n scan got v = with_consumer (scanned scan got v.consumer) (logged word n v)
-
--- bytes rounded up to a multiple of 8
-abbrev pub rounded : ℕ → ℕ
-rounded n = (n + 7) / 8 * 8
 
 -- n bytes from the position p on end below the last position, and do not cross a multiple of the capacity
 pub record IsInside (C p n : ℕ) : Type 0 where
@@ -69,26 +65,6 @@ pub record LoadsPassed (v : View) (n : ℕ) (w : View) : Type 0 where
   pub zero : n ≡ 0 → ClearsWord v w
   pub other : n ≢ 0 → w ≡ v
 
--- the end of the record at the position p, of a message that was got, otherwise of the word there
-unfoldable pub record_end : ℕ → List PlacedMessage → ℕ
-record_end p [] = p + 8
-record_end p (m ∷ ms) = if m.place == p then p + span (length m.message.body) else record_end p ms
-
--- the next record to clear has this many bytes
-pub record HasSpan (v : View) (bytes : ℕ) : Type 0 where
-  pub some : 8 ≤ bytes
-  pub ends : record_end v.consumer.cleared v.consumer.got ≡ v.consumer.cleared + bytes
-
--- if bodies are elsewhere, the header of a message at the next word to clear has that record's length
-pub record LoadsRecord (v : View) (n : ℕ) (w : View) : Type 0 where
-  pub zero : n ≡ 0 → ClearsWord v w
-  pub other : n ≢ 0 → w ≡ v
-  pub message : n ≢ 0 → n < 2 ^ 63 → HasSpan v (rounded (n % 2 ^ 32))
-
--- so only the header is cleared: the words after it are 0
-abbrev pub ClearsRecord : View → View → Type 0
-ClearsRecord v w = w ≡ with_consumer (cleared_to (record_end v.consumer.cleared v.consumer.got) v.consumer) v
-
 abbrev pub StoresHead : View → View → Type 0
 StoresHead v w = w ≡ with_consumer (stands_at v.consumer.scan v.consumer.got v.consumer) v
 
@@ -97,10 +73,9 @@ abbrev pub StoresHeadBefore : View → View → Type 0
 StoresHeadBefore v w = (got : List PlacedMessage) (m : PlacedMessage) → v.consumer.got ≡ got ++ m ∷ []
     → w ≡ with_consumer (stands_at m.place got v.consumer) v
 
--- m is the last message that the read has got, and all words before it are cleared
+-- the last message that the read has got is at the position `head`
 pub record StandsBefore (head : ℕ) (v : View) : Type 0 where
   pub front : List PlacedMessage
   pub last : PlacedMessage
   pub got : v.consumer.got ≡ front ++ last ∷ []
   pub place : last.place ≡ head
-  pub cleared : v.consumer.cleared ≡ head

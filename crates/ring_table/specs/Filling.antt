@@ -4,7 +4,7 @@ use Rattle.atomic_table.specs.declared.shared.Seat.{Seat}
 use Rattle.ring_table.specs.Views.{View}
 use Rattle.ring_table.specs.Ranges.{numbered}
 use Rattle.ring_table.specs.SlotSteps.{AreWordsOf, HasBody}
-use Rattle.ring_table.specs.Staged.{body_word}
+use Rattle.ring_table.specs.Staged.{body_word, headed}
 use mathlib.Core.Option.{some}
 use lib.ListN.{get_elem?}
 
@@ -21,16 +21,16 @@ pub record Filling (first k n : ℕ) (body : List ℕ) (held : List (ℕ × ℕ)
 abbrev pub Begins : List ℕ → List ℕ → Type 0
 Begins body bytes = (j : ℕ) → j < length body → slice_index bytes j ≡ slice_index body j
 
--- k of n slots were copied, and went after the others
+-- The slots of a header and of n words. The header and k words went after the others, and the k words were copied
 pub record Copying (first k n : ℕ) (scratch : List ℕ) (before held : List (ℕ × ℕ)) : Type 0 where
   pub left : List ℕ
   pub done : List ℕ
-  pub held_is : held ≡ numbered (first + k) left ++ numbered first done
+  pub held_is : held ≡ numbered (first + (k + 1)) left ++ numbered first done
   pub before_is : before ≡ numbered first (done ++ left)
-  pub gone : length done ≡ k
+  pub gone : length done ≡ k + 1
   pub count : length left + k ≡ n
-  pub copies : (body : List ℕ) → AreWordsOf body (done ++ left) → All (λ b. b < 256) body → (j : ℕ) → j < length body → j < 8 * k
-      → slice_index scratch j ≡ slice_index body j
+  pub copies : (h : ℕ) (body : List ℕ) → AreWordsOf (headed h body) (done ++ left) → All (λ b. b < 256) body
+      → (j : ℕ) → j < length body → j < 8 * k → slice_index scratch j ≡ slice_index body j
 
 -- the same seat with the same view
 pub record IsSameTable (old new : Seat ℕ View) : Type 0 where

@@ -19,3 +19,4 @@ pub mod Walk
 pub mod Rescued
 pub mod Settling
 pub mod Refilling
+pub mod Marks

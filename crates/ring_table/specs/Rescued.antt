@@ -6,13 +6,14 @@ use Rattle.ring_layout.specs.Layout.{tail_index, head_index, ring_words}
 use Rattle.ring_layout.specs.Lists.{total}
 use Rattle.ring_layout.specs.Picture.{IsPicture}
 use Rattle.ring_layout.specs.Places.{index, max_position}
-use Rattle.ring_table.specs.Staged.{Bodies, StagedClaim, Stage, Moved, Padded, Stored, ArePlaced, claim_end, staged_end, staged_span, staged_word_at, unplaced}
+use Rattle.ring_table.specs.Staged.{Bodies, in_words, elsewhere, StagedClaim, Stage, Moved, Padded, Stored, ArePlaced, claim_end, staged_end, staged_span, staged_word_at, unplaced}
 use Rattle.ring_table.specs.Passing.{AreSettled, placed_committed_of}
 use Rattle.ring_table.specs.Owners.{OwnedHistory, all_of, owned_by}
 use Rattle.ring_table.specs.Closed.{restarted}
-use Rattle.ring_table.specs.Rule.{IsLawful, IsService, Keeps, Kept}
-use Rattle.ring_table.specs.Shelf.{HasShelf}
+use Rattle.ring_table.specs.Rule.{IsLawful, IsService, Kept}
+use Rattle.ring_table.specs.Marks.{Keeps, KeepsMarks}
 use Rattle.ring_table.specs.declared.view.Key.{Key}
+use mathlib.Core.Option.{Option}
 use Rattle.std.specs.Slots.{slots_items, IsFull}
 use Rattle.std.specs.declared.alloc.Global.{Global}
 use Rattle.atomic_table.specs.Table.{Final, Seen}
@@ -62,8 +63,8 @@ pub record ShowsClaims (B : Bodies) (C : ℕ) (words : List ℕ) (cs : List Stag
   pub shows : (p : ℕ) → p % 8 ≡ 0 → slice_index words (head_index C) ≤ p → p < slice_index words (head_index C) + C
       → slice_index words (index C p) ≡ staged_word_at B cs p
 
--- The words show settled claims from the head on. The committed ones are those of cs, with their places, in their order;
--- `claims` claims of cs were not settled, and `silent` bytes had no header
+-- The words show settled claims from the head on. The committed ones are those of cs, with their places, in their
+-- order; `claims` claims of cs were not settled, and `silent` bytes had no header
 pub record Settles (C head : ℕ) (cs : List StagedClaim) (words : List ℕ) (claims silent : ℕ) : Type 0 where
   pub now : List StagedClaim
   pub placed : ArePlaced C head now
@@ -86,16 +87,19 @@ pub record IsSaved (bodies : Bodies) (k : Key) (v : View) (closed : Closed ℕ G
       (slots_items closed.words) (slots_items closed.slots)
 
 -- the rule holds with this history of all claims, and with this number of draws
-abbrev pub KeptWith : Bodies → ℕ → ℕ → OwnedHistory → ℕ → List ℕ → List View → Type 0
-KeptWith B C start hist n words views = (r : Kept B C start words views) × (r.hist ≡ hist) × (r.drawn ≡ n)
+abbrev pub KeptWith : Bodies → ℕ → ℕ → OwnedHistory → ℕ → List ℕ → List (Option ℕ) → List View → Type 0
+KeptWith in_words C start hist n words homes views =
+    (r : Kept in_words C start words views) × (r.hist ≡ hist) × (r.drawn ≡ n)
+KeptWith elsewhere C start hist n words homes views =
+    (r : KeepsMarks C start words homes views) × (r.kept.hist ≡ hist) × (r.kept.drawn ≡ n)
 
 -- The table that left this had this history and this number of draws: the rule held with them of its last state, in
 -- which a seat knew v. What was not read of the history is in the words that the table left, or in its slots
 pub record HadHistory (bodies : Bodies) (k : Key) (v : View) (closed : Closed ℕ Global) (hist : OwnedHistory)
     (drawn : ℕ) : Type 0 where
   pub id : ℕ
-  pub final : Final (Seen (λ s. KeptWith bodies k.capacity k.start hist drawn s.words s.views
-      × HasShelf bodies k.capacity s.homes s.views) id v) (slots_items closed.words) (slots_items closed.slots)
+  pub final : Final (Seen (λ s. KeptWith bodies k.capacity k.start hist drawn s.words s.homes s.views) id v)
+      (slots_items closed.words) (slots_items closed.slots)
 
 -- What is left of a table whose other seats may be lost, which had this history and this number of draws, and one seat
 -- of which knew v and consumes. v's own claims are its part of the history. The messages that v's consumer took are the

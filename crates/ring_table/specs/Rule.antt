@@ -1,6 +1,6 @@
 -- The rule of a shared ring, which holds between any two steps.
 use Rattle.std.specs.Prelude.{◌≡◌, ℕ, ◌+◌, ◌%◌, ◌^◌, ◌≤◌, ◌<◌, List, [], ◌∷◌, true, length, slice_index, if◌then◌else◌, nat_lt}
-use mathlib.Core.Option.{Option, some}
+use mathlib.Core.Option.{some}
 use lib.ListN.{get_elem?}
 use Rattle.ring_layout.specs.Places.{IsCapacity, index, max_position}
 use Rattle.ring_layout.specs.Layout.{ring_words, tail_index, head_cache_index, head_index, correlation_index, heartbeat_index, IsUnnamed}
@@ -10,8 +10,7 @@ use Rattle.ring_table.specs.Passing.{Reaches}
 use Rattle.ring_layout.specs.Lists.{total}
 use Rattle.ring_layout.specs.Refusals.{all_shares}
 use Rattle.ring_table.specs.Services.{times_drawn, once_below, AreServed}
-use Rattle.ring_table.specs.Views.{Key, ProducerView, ConsumerView, View}
-use Rattle.ring_table.specs.Shelf.{HasShelf}
+use Rattle.ring_table.specs.Views.{ProducerView, ConsumerView, View}
 
 -- a capacity and a start that a ring may have
 pub record IsLawful (C start : ℕ) : Type 0 where
@@ -94,7 +93,3 @@ pub record Kept (B : Bodies) (C start : ℕ) (words : List ℕ) (views : List Vi
   pub memory : IsMemory B C start words (all_of hist) consumer
   pub service : IsService C words consumer drawn
   pub seated : IsSeated (staged_end start (all_of hist)) hist reader consumer drawn views
-
--- the rule: that, and what the slots have
-abbrev pub Keeps : Bodies → Key → List ℕ → List (Option ℕ) → List View → Type 0
-Keeps B k words homes views = Kept B k.capacity k.start words views × HasShelf B k.capacity homes views

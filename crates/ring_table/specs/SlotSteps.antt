@@ -9,19 +9,19 @@ use Rattle.ring_layout.specs.declared.message.ClaimState.TheVariants.{Open}
 use Rattle.ring_layout.specs.History.{span}
 use Rattle.ring_layout.specs.Places.{IsCapacity, index}
 use Rattle.ring_layout.specs.Layout.{ring_words}
-use Rattle.ring_layout.specs.Headers.{committed_header, open_header}
-use Rattle.ring_table.specs.Staged.{StagedClaim, PlacedMessage, Padded, Stored, body_word, staged_span}
-use Rattle.ring_table.specs.Changes.{blank, recorded, with_body, with_header}
+use Rattle.ring_table.specs.Staged.{StagedClaim, PlacedMessage, Padded, Stored, body_word, slot_bytes, staged_span}
+use Rattle.ring_layout.specs.declared.message.ClaimState.{ClaimState}
+use Rattle.ring_table.specs.Changes.{stored_as, with_body}
 use Rattle.ring_table.specs.Passing.{placed_message}
 use Rattle.ring_table.specs.Views.{Key, View}
 use Rattle.ring_table.specs.ProducerSteps.{Mine, HasClaim, with_changed}
 use Rattle.ring_table.specs.Ranges.{numbered}
 
--- the words of a body of n bytes
+-- the words of n bytes
 abbrev pub words_of : ℕ → ℕ
 words_of n = (n + 7) / 8
 
--- words that are the body's, from its start
+-- words that are those of the bytes, from their start
 abbrev pub AreWordsOf : List ℕ → List ℕ → Type 0
 AreWordsOf body ws = (i y : ℕ) → get_elem? ws i ≡ some y → body_word body (8 * i) ≡ y
 
@@ -31,7 +31,7 @@ pub record HasSlots (i n : ℕ) (held : List (ℕ × ℕ)) : Type 0 where
   pub held_is : held ≡ numbered i values
   pub count : length values ≡ n
 
--- the slots from the index i on, in order, have the words of this body
+-- the slots from the index i on, in order, have the words of these bytes
 pub record HasBody (i : ℕ) (body : List ℕ) (held : List (ℕ × ℕ)) : Type 0 where
   pub values : List ℕ
   pub held_is : held ≡ numbered i values
@@ -42,52 +42,55 @@ pub record HasBody (i : ℕ) (body : List ℕ) (held : List (ℕ × ℕ)) : Type
 abbrev pub with_out : List PlacedMessage → View → View
 with_out ms v = record v { out = ms }
 
--- the claimed header is stored, and the slots of the body are taken
-abbrev pub OpensBody : ℕ → ℕ → Mine → Mine → Type 0
-OpensBody word value me me' = (type_id : ℤ) (n : ℕ) → FitsSigned w32 type_id → 8 + n < 2 ^ 31
-    → value ≡ open_header type_id n → HasSlots (word + 1) (words_of n) me'.1
-    × ((k : ℕ) (c : StagedClaim) → HasClaim me.0 k c → c.stage ≡ Padded → index me.0.capacity c.place ≡ word
-    → me'.0 ≡ with_out ((record { place = c.place; message = blank type_id n }) ∷ [])
-    (with_changed c.place (with_header type_id n) me.0))
+-- the slots of the own claim at this word, whose mark is not stored, are taken
+abbrev pub ReservesAt : ℕ → Mine → Mine → Type 0
+ReservesAt word me me' = (k : ℕ) (c : StagedClaim) → HasClaim me.0 k c → c.stage ≡ Padded
+    → index me.0.capacity c.place ≡ word → (me'.0 ≡ with_out (placed_message c ∷ []) me.0)
+    × HasSlots word (words_of (8 + length c.message.body)) me'.1
 
 -- the slots of the newest claim, whose header is not stored, are taken
 abbrev pub ReservesBody : Mine → Mine → Type 0
 ReservesBody me me' = (others : List StagedClaim) (c : StagedClaim) → me.0.producer.claims ≡ others ++ c ∷ []
     → c.stage ≡ Padded → (me'.0 ≡ with_out (placed_message c ∷ []) me.0)
-    × HasSlots (index me.0.capacity c.place + 1) (words_of (length c.message.body)) me'.1
+    × HasSlots (index me.0.capacity c.place) (words_of (8 + length c.message.body)) me'.1
 
--- the committed header of the own claim whose body is out is stored, and the slots go home. The claim gets the type id
--- of the header and the body whose words they have
-abbrev pub CommitsBody : ℕ → Mine → Mine → Type 0
-CommitsBody value me me' = (me'.1 ≡ []) × ((m : PlacedMessage) (i : ℕ) (type_id : ℤ) (body : List ℕ)
-    → me.0.out ≡ m ∷ [] → FitsSigned w32 type_id → 8 + length body < 2 ^ 31
-    → value ≡ committed_header type_id (length body) → All (λ b. b < 256) body → HasBody i body me.1
-    → me'.0 ≡ with_out [] (with_changed m.place (recorded type_id body) me.0))
+-- the mark of the own claim whose slots are out is stored, and they go home. The claim gets this state, and the type id
+-- and the body that they have
+abbrev pub StoresRecord : ClaimState → Mine → Mine → Type 0
+StoresRecord s me me' = (me'.1 ≡ []) × ((m : PlacedMessage) (i : ℕ) (type_id : ℤ) (body : List ℕ)
+    → me.0.out ≡ m ∷ [] → FitsSigned w32 type_id → 8 + length body < 2 ^ 31 → All (λ b. b < 256) body
+    → HasBody i (slot_bytes (record { type_id = type_id; body = body })) me.1
+    → me'.0 ≡ with_out [] (with_changed m.place (stored_as s type_id body) me.0))
 
 -- the slots of the own open claim whose header has this word are taken
 abbrev pub TakesBody : ℕ → Mine → Mine → Type 0
 TakesBody word me me' = (k : ℕ) (c : StagedClaim) → HasClaim me.0 k c → c.stage ≡ Stored Open
     → index me.0.capacity c.place ≡ word
-    → (me'.0 ≡ with_out (placed_message c ∷ []) me.0) × HasBody (word + 1) c.message.body me'.1
+    → (me'.0 ≡ with_out (placed_message c ∷ []) me.0) × HasBody word (slot_bytes c.message) me'.1
     × All (λ b. b < 256) c.message.body
 
 -- the own open claim whose body is out gets the body whose words the slots have, and they go home
 abbrev pub GivesBody : Mine → Mine → Type 0
 GivesBody me me' = (me'.1 ≡ []) × ((m : PlacedMessage) (i : ℕ) (body : List ℕ) → me.0.out ≡ m ∷ []
-    → length body ≡ length m.message.body → All (λ b. b < 256) body → HasBody i body me.1
+    → length body ≡ length m.message.body → All (λ b. b < 256) body
+    → HasBody i (slot_bytes (record { type_id = m.message.type_id; body = body })) me.1
     → me'.0 ≡ with_out [] (with_changed m.place (with_body body) me.0))
 
 -- the slots of the message that the read got last are taken
 abbrev pub LendsBody : ℕ → Mine → Mine → Type 0
 LendsBody word me me' = (front : List PlacedMessage) (m : PlacedMessage) → me.0.consumer.got ≡ front ++ m ∷ []
-    → (me'.0 ≡ with_out (m ∷ []) me.0) × HasBody (word + 1) m.message.body me'.1
+    → (me'.0 ≡ with_out (m ∷ []) me.0) × HasBody word (slot_bytes m.message) me'.1
 
 -- the first k words of the body of m as loads of a log
 abbrev pub body_loads : ℕ → PlacedMessage → ℕ → List (ℕ × ℕ)
 body_loads C m zero = []
 body_loads C m (suc k) = body_loads C m k ++ (index C (m.place + 8 + 8 * k), body_word m.message.body (8 * k)) ∷ []
 
--- they go home, and the log has their words as if each was loaded
+-- they go home
+abbrev pub ReturnsSlots : Mine → Mine → Type 0
+ReturnsSlots me me' = (me'.1 ≡ []) × ((m : PlacedMessage) → me.0.out ≡ m ∷ [] → me'.0 ≡ with_out [] me.0)
+
+-- they go home, and the log has the words of the body as if each was loaded
 abbrev pub ReturnsBody : Mine → Mine → Type 0
 ReturnsBody me me' = (me'.1 ≡ []) × ((m : PlacedMessage) → me.0.out ≡ m ∷ []
     → me'.0 ≡ record me.0 {
@@ -125,14 +128,15 @@ pub record IsTaken (C place : ℕ) (body : List ℕ) (me : Mine) : Type 0 where
   pub there : HasClaim me.0 nth claim
   pub stage : claim.stage ≡ Stored Open
   pub at_place : claim.place ≡ place
+  pub type_is : claim.message.type_id ≡ message.message.type_id
   pub long : length claim.message.body ≡ length message.message.body
   pub same_length : length body ≡ length message.message.body
   pub bytes : All (λ b. b < 256) body
-  pub slots : HasBody (index C place + 1) body me.1
+  pub slots : HasBody (index C place) (slot_bytes (record { type_id = message.message.type_id; body = body })) me.1
 
 -- the slots of the own claim at this place, whose header is not stored, are out, and have the words of `body`, which
 -- has the right span
-pub record IsReserved (C place : ℕ) (body : List ℕ) (me : Mine) : Type 0 where
+pub record IsReserved (C place : ℕ) (type_id : ℤ) (body : List ℕ) (me : Mine) : Type 0 where
   pub nth : ℕ
   pub claim : StagedClaim
   pub there : HasClaim me.0 nth claim
@@ -141,13 +145,13 @@ pub record IsReserved (C place : ℕ) (body : List ℕ) (me : Mine) : Type 0 whe
   pub out_is : me.0.out ≡ placed_message claim ∷ []
   pub same_span : span (length body) ≡ staged_span claim
   pub bytes : All (λ b. b < 256) body
-  pub slots : HasBody (index C place + 1) body me.1
+  pub slots : HasBody (index C place) (slot_bytes (record { type_id = type_id; body = body })) me.1
 
 -- the body of the message that the read got last is out, and the slots have its words
 pub record IsLent (C place : ℕ) (me : Mine) : Type 0 where
   pub last : HasLast place me.0
   pub out_is : me.0.out ≡ last.message ∷ []
-  pub slots : HasBody (index C place + 1) last.message.message.body me.1
+  pub slots : HasBody (index C place) (slot_bytes last.message.message) me.1
 
 -- the seat is one of this table, which is a ring of this capacity, and may have a body out
 pub record IsHolderOf (id : TableId) (key : Key) (capacity : ℕ) (s : Seat ℕ View) : Type 0 where

@@ -1,12 +1,13 @@
 -- Claims whose headers may not be stored yet, and the words that they make.
-use Rattle.std.specs.Prelude.{◌≡◌, ℕ, ◌+◌, ◌-◌, ◌/◌, ◌^◌, ◌<◌, ℤ, pos, negsuc, List, [], ◌∷◌, length, drop, if◌then◌else◌, nat_lt, ◌==◌, ⊤}
-use Rattle.std.specs.Int.{from_le_bytes, w64}
+use Rattle.std.specs.Prelude.{◌≡◌, ℕ, ◌+◌, ◌-◌, ◌/◌, ◌^◌, ◌<◌, ℤ, pos, negsuc, List, [], ◌∷◌, ◌++◌, length, drop, if◌then◌else◌, nat_lt, ◌==◌, ⊤}
+use Rattle.std.specs.Int.{from_le_bytes, to_le_bytes, w64}
+use Rattle.ring_layout.specs.declared.message.Message.{Message}
 use Rattle.ring_layout.specs.declared.message.Claim.{Claim}
 use Rattle.ring_layout.specs.declared.message.ClaimState.{ClaimState}
 use Rattle.ring_layout.specs.declared.message.ClaimState.TheVariants.{Open}
 use Rattle.ring_layout.specs.History.{IsMessage, span}
 use Rattle.ring_layout.specs.Places.{next_place}
-use Rattle.ring_layout.specs.Headers.{header, header_of, padding_header}
+use Rattle.ring_layout.specs.Headers.{header, header_of, committed_header, padding_header}
 pub use Rattle.ring_table.specs.declared.claim.StagedClaim.{StagedClaim}
 pub use Rattle.ring_table.specs.declared.claim.PlacedMessage.{PlacedMessage}
 pub use Rattle.ring_table.specs.declared.claim.Stage.{Stage}
@@ -83,6 +84,14 @@ staged_word B c p =
 -- the word of a body from the offset `at` on
 unfoldable pub body_word : List ℕ → ℕ → ℕ
 body_word body at = from_le_bytes w64 (drop at body)
+
+-- a header and a body as bytes
+unfoldable pub headed : ℕ → List ℕ → List ℕ
+headed h body = to_le_bytes w64 h ++ body
+
+-- the bytes that the slots of a message's record have: the header as if the claim was committed, and the body
+abbrev pub slot_bytes : Message → List ℕ
+slot_bytes m = headed (committed_header m.type_id (length m.body)) m.body
 
 -- the word at position p of claims that are one after the other, 0 after them
 abbrev pub staged_word_at : Bodies → List StagedClaim → ℕ → ℕ

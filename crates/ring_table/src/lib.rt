@@ -8,6 +8,8 @@
 
 mod bodies;
 mod claim;
+mod decode;
+mod headers;
 mod laws;
 mod mode;
 mod picture;
@@ -23,6 +25,8 @@ pub use bodies::{
     copy_slots, fill_slots, fill_zeros, read_slots, store_claimed_slots, write_slots,
 };
 pub use claim::{PlacedMessage, Stage, StagedClaim};
+pub use decode::decode_mark;
+pub use headers::Headers;
 pub use laws::{
     last_claim_stands_last, newest_claim_changes_alone, open_claims_are_counted,
     stored_claims_show_one_picture,
@@ -33,20 +37,20 @@ pub use putting::put_slots;
 pub use rescue::{Unsettled, rescue_slots, rescue_words, settle_words};
 pub use rule::RingRule;
 pub use steps::consumer::{
-    clear_word, load_body_word, load_first_header, load_next_header, load_passed_word, store_head,
-    store_head_before,
+    clear_word, load_body_word, load_passed_word, store_head, store_head_before,
 };
+pub use steps::marks::{store_head_before_mark, store_head_past_marks};
 pub use steps::producer::{
-    load_head, load_own_word, load_tail, move_tail, store_aborted_header, store_body_word,
-    store_claimed_header, store_committed_header, store_padding_header, store_tail,
+    load_head, load_own_word, load_tail, move_tail, store_body_word, store_claimed_header,
+    store_tail,
 };
 pub use steps::seats::{join_consumer, join_producer, split_consumer, split_producer};
 pub use steps::service::{
     draw_correlation_id, load_cache, load_heartbeat, store_cache, store_heartbeat,
 };
 pub use steps::slots::{
-    clear_record, commit_body, give_body, lend_body, load_passed_header, open_body, reserve_body,
-    return_body, take_body,
+    commit_record, give_body, lend_body, open_record, reserve_at, reserve_body, return_body,
+    take_body,
 };
 pub use steps::{RingSeat, SharedRing};
 pub use table::{RingTable, open, open_slots};

@@ -1,19 +1,30 @@
 //! The words of a closed ring whose bodies lie in slots, in the ring's format.
-ghost use Rattle.std.specs.Prelude.{◌≡◌, ◌+◌, ◌/◌, ◌%◌, ◌≤◌, ◌<◌, vec_len};
+ghost use Rattle.std.specs.Prelude.{◌≡◌, ℕ, List, ◌+◌, ◌/◌, ◌%◌, ◌≤◌, ◌<◌, vec_len};
 ghost use Rattle.std.specs.Slots.{slots_items, slots_len, IsFull};
 ghost use Rattle.ring_layout.specs.Layout.{ring_words};
 ghost use Rattle.ring_table.specs.declared.view.Key.{Key as TheKey};
 ghost use Rattle.ring_table.specs.Closed.{IsClosed, IsLeft, LeavesRest};
 ghost use Rattle.ring_table.specs.Owners.{all_of};
-ghost use Rattle.ring_table.specs.Staged.{elsewhere, staged_end};
+ghost use Rattle.ring_table.specs.Staged.{elsewhere, shown_header, staged_end};
 ghost use Rattle.ring_table.specs.Views.{View};
 ghost use Rattle.ring_table.specs.Walk.{IsCopied, Parts, Walked};
 
-use crate::mode::{InSlots, Mode};
+use crate::decode::decode_marks;
 use atomic_table::Closed;
 use ring_layout::ring_buffer_descriptor::{HEAD_POSITION_WORD, TAIL_POSITION_WORD, TRAILER_WORDS};
 use ring_layout::{align8, word_index};
 use std::alloc::Global;
+
+/// A header as the formats have it.
+pub(crate) fn formatted(header: u64) -> u64
+    ensures { result ≡ shown_header elsewhere header }
+{
+    if header / 0x1_0000_0000 == 0xffff_fffe {
+        header + 0x1_0000_0000
+    } else {
+        header
+    }
+}
 
 /// Copies the words of a table that was closed.
 pub fn copy_words(closed: &Closed<u64, Global>, words: &mut Vec<u64>)
@@ -47,17 +58,17 @@ pub(crate) fn copy_range(
 fn show_record(closed: &Closed<u64, Global>, words: &mut Vec<u64>, capacity: u32, at: u64) -> u64
     requires slots { IsFull closed.now.slots × (slots_len closed.now.slots ≡ capacity / 8) }
     requires words { vec_len words.old ≡ ring_words capacity }
-    requires walk { (t : Parts capacity (slots_items closed.now.words) (slots_items closed.now.slots))
+    requires walk { (heads : List ℕ) × (t : Parts capacity heads (slots_items closed.now.slots))
         × Walked capacity t at words.old.items × (at < staged_end t.start (all_of t.hist)) }
     ensures rises { at < result }
     ensures words { vec_len words.new ≡ vec_len words.old }
-    ensures walks { (t : Parts capacity (slots_items closed.now.words) (slots_items closed.now.slots))
+    ensures walks { (heads : List ℕ) (t : Parts capacity heads (slots_items closed.now.slots))
         → Walked capacity t at words.old.items → at < staged_end t.start (all_of t.hist)
         → Walked capacity t result words.new.items }
 {
     let index = word_index(capacity, at);
     let header = words[index];
-    let shown = InSlots::formatted(header);
+    let shown = formatted(header);
     let bytes = align8(shown % 0x1_0000_0000);
     if shown == header {
         copy_range(closed, words, index + 1, bytes as usize / 8 - 1);
@@ -67,12 +78,12 @@ fn show_record(closed: &Closed<u64, Global>, words: &mut Vec<u64>, capacity: u32
     at + bytes
 }
 
-/// Adds the bodies to the words of a table that was closed, which show headers alone.
+/// Adds the bodies to words that show the headers alone of a table that was closed.
 fn show_bodies(closed: &Closed<u64, Global>, words: &mut Vec<u64>, capacity: u32)
     requires slots { IsFull closed.now.slots × (slots_len closed.now.slots ≡ capacity / 8) }
-    requires words { (vec_len words.old ≡ ring_words capacity) × (words.old.items ≡ slots_items closed.now.words) }
-    requires parts { Parts capacity (slots_items closed.now.words) (slots_items closed.now.slots) }
-    ensures { (t : Parts capacity (slots_items closed.now.words) (slots_items closed.now.slots))
+    requires words { vec_len words.old ≡ ring_words capacity }
+    requires parts { Parts capacity words.old.items (slots_items closed.now.slots) }
+    ensures { (t : Parts capacity words.old.items (slots_items closed.now.slots))
         → Walked capacity t (staged_end t.start (all_of t.hist)) words.new.items }
 {
     let tail = words[capacity as usize / 8 + TAIL_POSITION_WORD];
@@ -106,6 +117,7 @@ pub fn show_slots(closed: Closed<u64, Global>, room: Vec<u64>) -> Vec<u64>
     let mut words = room;
     copy_words(&closed, &mut words);
     let capacity = ((words.len() - TRAILER_WORDS) * 8) as u32;
+    decode_marks(&closed, &mut words, capacity);
     show_bodies(&closed, &mut words, capacity);
     free_slots(closed);
     words

@@ -97,7 +97,7 @@ pub fn put_slots(
     ensures rising { AreRising producer.old.me.0.producer.claims }
 {
     take_body(ring, producer, capacity, place);
-    let first = word_index(capacity, place) + 1;
-    merge_slots(ring, producer, first, len, offset, bytes);
+    let first = word_index(capacity, place);
+    merge_slots(ring, producer, first, 8 + len, 8 + offset, bytes);
     give_body(ring, producer, capacity, place);
 }

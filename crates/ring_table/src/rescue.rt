@@ -11,8 +11,8 @@ ghost use Rattle.ring_table.specs.Views.{View};
 ghost use Rattle.ring_table.specs.Owners.{OwnedHistory};
 ghost use Rattle.ring_table.specs.Rescued.{settled_word, HadHistory, IsSaved, Rescues, Settles, ShowsClaims};
 
-use crate::mode::{InSlots, Mode};
-use crate::picture::{copy_range, copy_words, free_slots};
+use crate::decode::decode_marks;
+use crate::picture::{copy_range, copy_words, formatted, free_slots};
 use atomic_table::Closed;
 use ring_layout::ring_buffer_descriptor::{HEAD_POSITION_WORD, TAIL_POSITION_WORD};
 use ring_layout::{align8, padding_header, word_index};
@@ -109,7 +109,7 @@ fn format_headers(words: &mut Vec<u64>, records: usize)
     ensures trailer { (i : ℕ) → records ≤ i → slice_index words.new.items i ≡ slice_index words.old.items i }
 {
     for i in 0..records {
-        words[i] = InSlots::formatted(words[i]);
+        words[i] = formatted(words[i]);
     }
 }
 
@@ -171,6 +171,7 @@ pub fn rescue_slots(
 {
     let mut words = room;
     copy_words(&closed, &mut words);
+    decode_marks(&closed, &mut words, capacity);
     format_headers(&mut words, capacity as usize / 8);
     let unsettled = settle_words(&mut words, capacity);
     add_bodies(&closed, &mut words, capacity);

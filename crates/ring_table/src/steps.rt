@@ -1,5 +1,6 @@
 //! One small function for each kind of step. Each is one load, store, exchange or addition of one word.
 pub mod consumer;
+pub mod marks;
 pub mod producer;
 pub mod seats;
 pub mod service;

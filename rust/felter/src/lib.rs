@@ -1,6 +1,6 @@
 //! Rings, boards, counters and conductors for the threads of one process, proved for every interleaving. A board is a
-//! broadcast buffer. The bodies of messages are stored separately from the words of headers and positions. So rings do
-//! not have the memory layout of Agrona's rings.
+//! broadcast buffer. The headers and the bodies of messages are stored separately from the words that threads share. So
+//! rings do not have the memory layout of Agrona's rings.
 //!
 //! ```
 //! let (mut producer, mut consumer) = felter::many_to_one(65_536)?;

@@ -43,9 +43,9 @@ fn a_ring_lies_in_its_file() {
     assert_eq!(fs::metadata(path).expect("it is there").len(), felter::ring_memory(1024).expect("a capacity") as u64);
     assert_eq!(&fs::read(path).expect("it is there")[..8], b"FELTERIM");
     assert_eq!((scratch.word(16), scratch.word(24), scratch.word(32), scratch.word(48)), (2, 1024, 128, 1920));
-    // the headers of the message and of the claim, the body, and the tail
-    assert_eq!(scratch.word(128), 7 << 32 | 13);
-    assert_eq!(scratch.word(144), 9 << 32 | u64::from((-12_i32) as u32));
+    // the marks of the message and of the open claim, their headers, the body, and the tail
+    assert_eq!((scratch.word(128), scratch.word(144)), (16, 32 + 2));
+    assert_eq!((scratch.word(1920), scratch.word(1936)), (7 << 32 | 13, 9 << 32 | 12));
     assert_eq!(&fs::read(path).expect("it is there")[1928..1933], b"hello");
     assert_eq!(scratch.word(128 + 1024 + 128), 32);
     let message = consumer.read_owned().expect("it is whole").expect("it is there");
@@ -56,7 +56,7 @@ fn a_ring_lies_in_its_file() {
     drop(consumer);
     assert!(!scratch.is_mapped());
     // the claim was aborted, and the file stays
-    assert_eq!(scratch.word(144) >> 32, u64::from((-1_i32) as u32));
+    assert_eq!((scratch.word(144), scratch.word(1936)), (32 + 3, 9 << 32 | 12));
 }
 
 #[test]
@@ -71,7 +71,7 @@ fn a_ring_that_ends_leaves_its_file() {
     assert_eq!(consumer.finish().expect("it is closed"), 1);
     assert!(!scratch.is_mapped());
     // the message that was left is still in the file
-    assert_eq!((scratch.word(16), scratch.word(128), scratch.word(144)), (1, 0, 4 << 32 | 12));
+    assert_eq!((scratch.word(16), scratch.word(144), scratch.word(1408 + 16)), (1, 32, 4 << 32 | 12));
 }
 
 #[test]

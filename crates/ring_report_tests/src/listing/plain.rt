@@ -1,13 +1,11 @@
-//! Rings whose bodies lie apart.
+//! Plain rings, whose words have marks and whose slots have headers and bodies.
 use crate::listing::random::Numbers;
 use crate::listing::words::words_of;
-use ring_snapshot::{RecordState, RingFinding, RingSnapshot, formatted_header, join_bodies};
+use ring_layout::is_capacity;
+use ring_snapshot::{Record, RecordState, RingFinding, RingSnapshot, header_at, join_bodies};
 use ring_words::{Action, Handler, SoloRing};
 use std::alloc::Global;
 use std::process::Abort;
-
-/// The header of 8 bytes of padding, as the words of such a ring have it: the type id is -2.
-const APART_PADDING: u64 = 0xffff_fffe_0000_0008;
 
 /// The header of 8 bytes of padding in the format, or of an aborted record without a message: the type id is -1.
 const PADDING: u64 = 0xffff_ffff_0000_0008;
@@ -18,45 +16,149 @@ const COMMITTED: u64 = 0x0000_0005_0000_0010;
 /// The header of an open record of type 6 with 9 bytes: the length 17 is negated.
 const OPEN: u64 = 0x0000_0006_ffff_ffef;
 
+/// The header of the same record once it is committed, which its slot has.
+const OPENED: u64 = 0x0000_0006_0000_0011;
+
+/// The header of an aborted record with 8 bytes.
+const ABORTED: u64 = 0xffff_ffff_0000_0010;
+
+/// The header of a mark that makes no sense, whose length is 1.
+const BAD: u64 = 1;
+
 #[test]
-fn joins_headers_and_bodies(rt: HostRuntime) {
-    // (from 104 on a committed record, padding at 120, then an open one from 128 on, whose bytes go up to 152)
-    let (mut words, mut slots) = ([0u64; 112], [0xaaaa_aaaa_aaaa_aaaau64; 16]);
+fn joins_marks_and_slots(rt: HostRuntime) {
+    // (from 104 on a committed record, padding at 120, then an open one from 128 on, whose bytes go up to 152. The last
+    // one was aborted)
+    let (mut words, mut slots) = ([40u64; 112], [0xaaaa_aaaa_aaaa_aaaau64; 16]);
     words[16 + 48] = 104;
     words[16 + 16] = 160;
-    words[13] = COMMITTED;
-    words[15] = APART_PADDING;
-    words[0] = OPEN;
-    words[3] = PADDING;
+    words[13] = 120;
+    words[15] = 128 + 1;
+    words[0] = 152 + 2;
+    words[3] = 160 + 3;
+    slots[13] = COMMITTED;
     slots[14] = 0x1111;
+    slots[0] = OPENED;
     slots[1] = 0x2222;
     slots[2] = 0x33;
+    slots[3] = 0x0000_0007_0000_0008;
     let mut wanted = words;
+    wanted[4..13].fill(0);
+    wanted[13] = COMMITTED;
     wanted[14] = 0x1111;
     wanted[15] = PADDING;
+    wanted[0] = OPEN;
     wanted[1] = 0x2222;
     wanted[2] = 0x33;
+    wanted[3] = PADDING;
     assert_eq!(rt; join_bodies(&mut words, &slots), Ok(()));
     assert_eq!(rt; words.as_slice(), wanted.as_slice());
 }
 
 #[test]
-fn changes_only_padding(rt: HostRuntime) {
-    assert_eq!(rt; formatted_header(APART_PADDING), PADDING);
-    for header in [PADDING, COMMITTED, OPEN, 0, u64::MAX] {
-        assert_eq!(rt; formatted_header(header), header);
+fn padding_has_zeros_after_its_header(rt: HostRuntime) {
+    let (mut words, slots) = ([0u64; 112], [7u64; 16]);
+    words[16 + 48] = 104;
+    words[16 + 16] = 128;
+    words[13] = 128 + 1;
+    words[14] = 88;
+    words[15] = 120;
+    let mut wanted = words;
+    wanted[13] = 0xffff_ffff_0000_0018;
+    wanted[14] = 0;
+    wanted[15] = 0;
+    assert_eq!(rt; join_bodies(&mut words, &slots), Ok(()));
+    assert_eq!(rt; words.as_slice(), wanted.as_slice());
+}
+
+/// The header at the position 128 of a plain ring, at which the word and the slot are these.
+fn header_of(rt: &impl Abort, word: u64, slot: u64) -> u64 {
+    assert!(rt; is_capacity(128));
+    let (mut words, mut slots) = ([0u64; 112], [0u64; 16]);
+    words[0] = word;
+    slots[0] = slot;
+    header_at(&words, &slots, 128, 128)
+}
+
+#[test]
+fn headers_of_marks(rt: HostRuntime) {
+    let wanted = [
+        (0, COMMITTED, 0),
+        (16, COMMITTED, 0),
+        (128, COMMITTED, 0),
+        (144, COMMITTED, COMMITTED),
+        (144 + 1, COMMITTED, 0xffff_ffff_0000_0010),
+        (152 + 2, OPENED, OPEN),
+        (144 + 3, COMMITTED, ABORTED),
+    ];
+    for (word, slot, header) in wanted {
+        assert_eq!(rt; header_of(&rt, word, slot), header);
     }
 }
 
 #[test]
-fn stops_where_no_record_is(rt: HostRuntime) {
-    let (mut words, slots) = ([0u64; 112], [7u64; 16]);
+fn marks_that_make_no_sense(rt: HostRuntime) {
+    let wrong = [
+        (144 + 4, COMMITTED),
+        (144 + 7, COMMITTED),
+        (u64::MAX, COMMITTED),
+        (152, COMMITTED),
+        (136, COMMITTED),
+        (128 + 2, COMMITTED),
+        (144, OPEN),
+        (144, ABORTED),
+        (144, 0x0000_0000_0000_0010),
+        (144 + 3, 0),
+        ((1 << 40) + 1, COMMITTED),
+    ];
+    for (word, slot) in wrong {
+        assert_eq!(rt; header_of(&rt, word, slot), BAD);
+    }
+}
+
+/// The finding about a plain ring with 64 bytes from 128 on, of which the first word and its slot are these.
+fn finding_of(rt: &impl Abort, word: u64, slot: u64) -> Option<RingFinding> {
+    let (mut words, mut slots) = ([0u64; 112], [0u64; 16]);
+    words[16 + 48] = 128;
+    words[16 + 16] = 192;
+    words[0] = word;
+    slots[0] = slot;
+    assert_eq!(rt; join_bodies(&mut words, &slots), Ok(()));
+    let ring = RingSnapshot::new(&words).expect(rt, "a ring");
+    let mut records = ring.records().expect(rt, "records");
+    records.next()?.err()
+}
+
+#[test]
+fn a_mark_that_makes_no_sense_is_a_finding(rt: HostRuntime) {
+    let wanted = [
+        (144 + 4, COMMITTED, 1),
+        (152, COMMITTED, 1),
+        (128 + 1, COMMITTED, 0),
+        (200, 0x0000_0005_0000_0048, 72),
+        (200 + 1, COMMITTED, 72),
+        (1 << 40, COMMITTED, 1),
+    ];
+    for (word, slot, length) in wanted {
+        let finding = RingFinding::BadLength { index: 0, length };
+        assert_eq!(rt; finding_of(&rt, word, slot), Some(finding));
+    }
+    assert_eq!(rt; finding_of(&rt, 144, COMMITTED), None);
+}
+
+#[test]
+fn stops_where_no_mark_is(rt: HostRuntime) {
+    let (mut words, slots) = ([5u64; 112], [COMMITTED; 16]);
+    words[16 + 48] = 0;
     words[16 + 16] = 64;
-    words[0] = COMMITTED;
-    words[2] = 0xffff_fffe_0000_0007;
-    words[4] = COMMITTED;
+    words[0] = 16;
+    words[2] = 16;
+    words[4] = 48;
     let mut wanted = words;
-    wanted[1] = 7;
+    wanted[0] = COMMITTED;
+    wanted[1] = COMMITTED;
+    wanted[2] = 0;
+    wanted[8..16].fill(0);
     assert_eq!(rt; join_bodies(&mut words, &slots), Ok(()));
     assert_eq!(rt; words.as_slice(), wanted.as_slice());
 }
@@ -67,7 +169,7 @@ fn refuses_other_numbers_of_words(rt: HostRuntime) {
     assert_eq!(rt; join_bodies(&mut [1u64; 111], &[2u64; 16]), Err(no_ring));
     let mut words = [0u64; 112];
     words[16 + 16] = 16;
-    words[0] = COMMITTED;
+    words[0] = 16;
     let (many, few) = ([2u64; 17], [2u64; 15]);
     for slots in [many.as_slice(), few.as_slice()] {
         let refused = RingFinding::BadBodies { words: slots.len() };
@@ -120,47 +222,91 @@ fn use_ring(ring: &mut SoloRing, numbers: &mut Numbers) {
     }
 }
 
-/// The words and the slots of the same ring with its bodies apart.
+/// The words and the slots of the same ring as a plain ring.
 #[derive(Drop)]
 struct Parts {
     words: Vec<u64>,
     slots: Vec<u64>,
 }
 
-/// Takes the bodies out of words. Slots that have none get any words; what may be padding is it if it has no bytes.
-fn part(rt: &impl Abort, alloc: Global, words: &[u64], numbers: &mut Numbers) -> Parts {
-    let ring = RingSnapshot::new(words).expect(rt, "a ring");
+/// Stores a word at an index.
+fn store(words: &mut Vec<u64>, index: usize, value: u64) {
+    if let Some(word) = words.get_mut(index) {
+        *word = value;
+    }
+}
+
+/// The word at an index, or 0.
+fn load(words: &[u64], index: usize) -> u64 {
+    words.get(index).copied().unwrap_or(0)
+}
+
+/// Words of earlier laps, and slots with any words.
+fn leftover(rt: &impl Abort, alloc: Global, whole: &[u64], numbers: &mut Numbers) -> Parts {
     let mut parts = Parts {
-        words: Vec::from_slice(alloc, words).expect(rt, "memory"),
+        words: Vec::from_slice(alloc, whole).expect(rt, "memory"),
         slots: Vec::new(alloc),
     };
-    for _ in 0..16 {
+    let head = load(whole, 16 + 48);
+    for k in 0..16u64 {
+        let position = head.wrapping_add(8 * k);
+        let word = match position.checked_add(1) {
+            Some(above) => numbers.next() % above,
+            None => 0,
+        };
+        store(&mut parts.words, (position % 128 / 8) as usize, word);
         parts.slots.push(numbers.next()).expect(rt, "memory");
-    }
-    for entry in ring.records().expect(rt, "records") {
-        let record = entry.expect(rt, "a record");
-        let first = record.index as usize / 8;
-        let mut is_empty = true;
-        for index in first + 1..first + (record.length as usize).div_ceil(8) {
-            if let (Some(word), Some(slot)) = (
-                parts.words.get_mut(index),
-                parts.slots.get_mut(index),
-            ) {
-                is_empty = is_empty && *word == 0;
-                *slot = *word;
-                *word = 0;
-            }
-        }
-        if record.state == RecordState::AbortedOrPadding && is_empty {
-            if let Some(word) = parts.words.get_mut(first) {
-                *word = word.wrapping_sub(1 << 32);
-            }
-        }
     }
     parts
 }
 
-/// Takes the bodies of a ring out of its words, and joins them again.
+/// The kind of a record with this state. Without bytes it may be padding.
+fn kind_of(state: RecordState, may_be_padding: bool) -> u64 {
+    match state {
+        RecordState::AbortedOrPadding if may_be_padding => 1,
+        RecordState::Open => 2,
+        RecordState::Aborted | RecordState::AbortedOrPadding => 3,
+        RecordState::Committed | RecordState::Unstored => 0,
+    }
+}
+
+/// Stores the mark of a record, and its header and body in the slots.
+fn part_record(parts: &mut Parts, whole: &[u64], record: &Record<'_>, numbers: &mut Numbers) {
+    let first = record.index as usize / 8;
+    let count = record.length.div_ceil(8);
+    let mut is_empty = true;
+    for index in first + 1..first + count as usize {
+        let word = load(whole, index);
+        is_empty = is_empty && word == 0;
+        store(&mut parts.slots, index, word);
+    }
+    let kind = kind_of(record.state, is_empty && numbers.next() % 2 == 0);
+    let type_id = if record.type_id < 0 {
+        1 + numbers.next() % 1000
+    } else {
+        record.type_id as u64
+    };
+    let end = record.place.wrapping_add(8 * u64::from(count));
+    store(&mut parts.words, first, end.wrapping_add(kind));
+    if kind != 1 {
+        let header = (type_id << 32) | u64::from(record.length);
+        store(&mut parts.slots, first, header);
+    }
+}
+
+/// Makes a plain ring of words. What an earlier lap left is in the other words, and slots without a record have any
+/// words.
+fn part(rt: &impl Abort, alloc: Global, whole: &[u64], numbers: &mut Numbers) -> Parts {
+    let ring = RingSnapshot::new(whole).expect(rt, "a ring");
+    let mut parts = leftover(rt, alloc, whole, numbers);
+    for entry in ring.records().expect(rt, "records") {
+        let record = entry.expect(rt, "a record");
+        part_record(&mut parts, whole, &record, numbers);
+    }
+    parts
+}
+
+/// Makes a plain ring of a ring, and joins its words and slots again.
 fn part_and_join(rt: &impl Abort, alloc: Global, ring: &SoloRing, numbers: &mut Numbers) {
     let whole = words_of(rt, alloc, ring);
     let mut parts = part(rt, alloc, whole.as_slice(), numbers);

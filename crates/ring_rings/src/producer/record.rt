@@ -10,11 +10,11 @@ ghost use Rattle.std.specs.Prelude.{◌≡◌, ℕ, ◌+◌, ◌≤◌, List, []
 
 use crate::bodies::Bodies;
 use ring_layout::Admission;
-use ring_table::{Mode, RingSeat, SharedRing, Wanted, store_padding_header};
+use ring_table::{Headers, RingSeat, SharedRing, Wanted};
 
 /// Stores the header of the padding before the newest claim, if there is padding.
 #[inline(always)]
-pub(crate) fn store_padding<M: Mode>(
+pub(crate) fn store_padding<M: Headers>(
     words: &SharedRing<M>,
     seat: &mut RingSeat,
     capacity: u32,
@@ -30,7 +30,7 @@ pub(crate) fn store_padding<M: Mode>(
 {
     let Admission { tail, place, .. } = admission;
     if place > tail {
-        store_padding_header(words, seat, capacity, tail, place);
+        M::store_padding_header(words, seat, capacity, tail, place);
     }
 }
 

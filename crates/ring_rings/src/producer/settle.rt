@@ -16,14 +16,12 @@ use crate::bodies::Bodies;
 use crate::claim::Claim;
 use crate::ring::{Producer, Ring};
 use ring_layout::ClaimState;
-use ring_table::{
-    Mode, RingSeat, SharedRing, Wanted, store_aborted_header, store_committed_header,
-};
+use ring_table::{Headers, RingSeat, SharedRing, Wanted};
 use ring_words::PutRange;
 
 /// Stores the header of an open claim, which is then committed or aborted.
 #[inline]
-fn store_settled_header<M: Mode>(
+fn store_settled_header<M: Headers>(
     words: &SharedRing<M>,
     seat: &mut RingSeat,
     capacity: u32,
@@ -40,9 +38,9 @@ fn store_settled_header<M: Mode>(
     ensures rising { AreRising seat.old.me.0.producer.claims }
 {
     match state {
-        ClaimState::Aborted => store_aborted_header(words, seat, capacity, place, wanted),
+        ClaimState::Aborted => M::store_aborted_header(words, seat, capacity, place, wanted),
         ClaimState::Committed | ClaimState::Open => {
-            store_committed_header(words, seat, capacity, place, wanted);
+            M::store_committed_header(words, seat, capacity, place, wanted);
         }
     }
 }

@@ -1,31 +1,22 @@
-//! The words of a ring whose bodies are stored separately. Its own words have only headers. Slots have the words of the
-//! bodies at the same indexes.
-ghost use Rattle.std.specs.Prelude.{◌≡◌, ◌≢◌, ℕ, ◌+◌, ◌-◌, ◌/◌, ◌≤◌, ◌==◌, if◌then◌else◌, length, slice_index, Err, IfErr, IfOk, None, Some};
+//! The words of a plain ring. Its own words have marks. Slots have the headers and the words of the bodies at the same
+//! indexes.
+ghost use Rattle.std.specs.Prelude.{◌≡◌, ◌≢◌, ℕ, ◌+◌, ◌-◌, ◌/◌, ◌≤◌, ◌==◌, if◌then◌else◌, List, length, replicate, set, slice_index, Err, IfErr, IfOk, None, Some};
+ghost use Rattle.ring_layout.specs.declared.message.Claim.{Claim};
+ghost use Rattle.ring_layout.specs.History.{overwritten};
 ghost use Rattle.ring_layout.specs.Places.{index, IsCapacity};
 ghost use Rattle.ring_layout.specs.Layout.{ring_words};
 ghost use Rattle.ring_layout.specs.Refusals.{IsRefusedBy};
 ghost use Rattle.ring_snapshot.specs.declared.ring_finding.RingFinding.TheVariants.{BadBodies, BadSize};
-ghost use Rattle.ring_snapshot.specs.PlainWords.{formatted, header_at, joined, joined_from, span_at, with_record};
+ghost use Rattle.ring_snapshot.specs.Marks.{header_at};
+ghost use Rattle.ring_snapshot.specs.PlainRecords.{IsPlain, LiesBetween};
+ghost use Rattle.ring_snapshot.specs.PlainWords.{joined, joined_from, span_at, with_body, with_record, with_zeros};
 
 use crate::ring::RingSnapshot;
+use crate::ring::mark::header_at;
 use crate::ring_finding::RingFinding;
+use ring_layout::mark_descriptor::PADDING_KIND;
 use ring_layout::record_descriptor::PADDING_MSG_TYPE_ID;
 use ring_layout::{align8, unpack_header, word_index};
-
-/// The type id of padding in words without bodies, which is the high half of a header.
-const PADDING_MARK: u64 = 0xffff_fffe;
-
-/// Returns a header as the format has it. In words without bodies, padding has the type id -2. In the format it has the
-/// type id of an aborted record. All other headers are the same.
-pub fn formatted_header(header: u64) -> u64
-    ensures { result ≡ formatted header }
-{
-    if header / 0x1_0000_0000 == PADDING_MARK {
-        header + 0x1_0000_0000
-    } else {
-        header
-    }
-}
 
 impl<'a> RingSnapshot<'a> {
     ghost use Rattle.std.specs.Prelude.{◌≡◌, ◌+◌, ◌≤◌};
@@ -48,40 +39,62 @@ impl<'a> RingSnapshot<'a> {
     }
 }
 
-/// Writes the record at a position in the format. Returns the number of bytes that the record takes, or 0 if there is
-/// no record.
+/// Sets `count` words from an index on to 0.
+fn fill_zeros(words: &mut [u64], index: usize, count: usize)
+    requires inside { index + count ≤ length words.old }
+    ensures words { words.new ≡ overwritten index (replicate count 0) words.old }
+    ensures length { length words.new ≡ length words.old }
+    ensures others { (i : ℕ) → index + count ≤ i → slice_index words.new i ≡ slice_index words.old i }
+{
+    words[index..index + count].fill(0);
+}
+
+/// Writes the `count` words after the header at an index in the format. They are zeros in padding, and otherwise those
+/// of the slots.
+fn join_body(words: &mut [u64], slots: &[u64], index: usize, count: usize)
+    requires inside { (index + 1 + count ≤ length slots.now) × (length slots.now ≤ length words.old) }
+    ensures words { words.new ≡ with_body slots.now index count words.old }
+    ensures length { length words.new ≡ length words.old }
+    ensures others { (i : ℕ) → length slots.now ≤ i → slice_index words.new i ≡ slice_index words.old i }
+{
+    let (from, end) = (index + 1, index + 1 + count);
+    if words[index] % 8 == PADDING_KIND {
+        fill_zeros(words, from, count);
+    } else {
+        words[from..end].copy_from_slice(&slots[from..end]);
+    }
+}
+
+/// Writes the record at a position in the format, or only its header if no record has this header. Returns the number
+/// of bytes that the record takes, or 0 if there is no record.
 fn join_record(words: &mut [u64], slots: &[u64], capacity: u32, tail: u64, at: u64) -> u64
     requires lawful { IsCapacity capacity }
     requires sizes { (length words.old ≡ ring_words capacity) × (length slots.now ≡ capacity / 8) }
     requires order { at ≤ tail }
-    ensures span { result ≡ span_at capacity tail at (header_at capacity words.old at) }
+    ensures span { result ≡ span_at capacity tail at (header_at capacity words.old slots.now at) }
     ensures words { words.new
-        ≡ (if result == 0 then words.old else with_record capacity slots.now at result words.old) }
+        ≡ (if result == 0 then set words.old (index capacity at) (header_at capacity words.old slots.now at)
+        else with_record capacity slots.now at result words.old) }
     ensures inside { at + result ≤ tail }
     ensures length { length words.new ≡ length words.old }
     ensures trailer { (i : ℕ) → capacity / 8 ≤ i → slice_index words.new i ≡ slice_index words.old i }
 {
     let index = word_index(capacity, at);
-    let header = words[index];
-    let shown = formatted_header(header);
+    let header = header_at(&*words, slots, capacity, at);
     let ring = RingSnapshot {
         capacity,
         words: &*words,
     };
-    let bytes = ring.span_at(tail, at, shown);
+    let bytes = ring.span_at(tail, at, header);
     if bytes > 0 {
-        if shown == header {
-            let end = index + bytes as usize / 8;
-            words[index + 1..end].copy_from_slice(&slots[index + 1..end]);
-        } else {
-            words[index] = shown;
-        }
+        join_body(words, slots, index, bytes as usize / 8 - 1);
     }
+    words[index] = header;
     bytes
 }
 
 /// Writes the records between these positions in the format, up to the first header that no record has.
-#[tactic(auto, using(crate::proofs::JoinLemmas::joined_goes, crate::proofs::JoinLemmas::joined_stops))]
+#[tactic(auto, using(crate::proofs::JoinLemmas::joined_goes, crate::proofs::JoinLemmas::joined_over, crate::proofs::JoinLemmas::joined_stops))]
 fn join_records(words: &mut [u64], slots: &[u64], capacity: u32, head: u64, tail: u64)
     requires lawful { IsCapacity capacity }
     requires sizes { (length words.old ≡ ring_words capacity) × (length slots.now ≡ capacity / 8) }
@@ -92,6 +105,9 @@ fn join_records(words: &mut [u64], slots: &[u64], capacity: u32, head: u64, tail
 {
     let mut at = head;
     for _k in 0..(tail - head) / 8 {
+        if at >= tail {
+            return;
+        }
         let bytes = join_record(words, slots, capacity, tail, at);
         if bytes == 0 {
             return;
@@ -100,13 +116,30 @@ fn join_records(words: &mut [u64], slots: &[u64], capacity: u32, head: u64, tail
     }
 }
 
-/// Makes the words of a ring in the format from `words`, which have only headers, and from `slots`. The slots are
-/// `capacity / 8` words, which have the bodies at the same indexes. All listings can read the result.
+/// Sets `count` words from a position on to 0. After the end of the buffer the words go on at its start.
+fn clear_words(words: &mut [u64], capacity: u32, at: u64, count: usize)
+    requires lawful { IsCapacity capacity }
+    requires sizes { (length words.old ≡ ring_words capacity) × (count ≤ capacity / 8) }
+    ensures words { words.new ≡ with_zeros capacity at count words.old }
+    ensures length { length words.new ≡ length words.old }
+    ensures trailer { (i : ℕ) → capacity / 8 ≤ i → slice_index words.new i ≡ slice_index words.old i }
+{
+    let index = word_index(capacity, at);
+    let first = count.min(capacity as usize / 8 - index);
+    fill_zeros(words, index, first);
+    fill_zeros(words, 0, count - first);
+}
+
+/// Makes the words of a ring in the format from the words of a plain ring and from `slots`. The slots are
+/// `capacity / 8` words, which have the headers and the bodies at the same indexes. All listings can read the result.
 ///
-/// The call goes from the head to the tail, one record after another. Padding, which has the type id -2, gets the type
-/// id that it has in the format. Any other record gets its body, in each state. The call ends at a header that no
-/// record has, and leaves the header as it is. All other words stay as they are. No word is changed if the positions
-/// make no sense.
+/// The call goes from the head to the tail, one record after another. Padding gets its header, and zeros after it. Any
+/// other record gets its header and its body, in each state. The call ends at a word that is no mark, which becomes 0,
+/// and at a mark that makes no sense. [`header_at`] says which marks these are, and what they become. A mark also makes
+/// no sense if its record would cross the end of the buffer or the tail. The words after these two stay as they are.
+/// All words of the buffer that are not between the head and the tail become 0. No word is changed if the positions
+/// make no sense. If the words and the slots have a history between the head and the tail, the result has the words of
+/// the history.
 ///
 /// Returns `BadSize` if no ring has this many words. Otherwise returns `BadBodies` if there are not as many slots as
 /// words of the buffer. After an error no word is changed.
@@ -118,6 +151,8 @@ pub fn join_bodies(words: &mut [u64], slots: &[u64]) -> Result<(), RingFinding>
     ensures same { IfErr result (λ _. words.new ≡ words.old) }
     ensures joined { (C : ℕ) → IsCapacity C → length words.old ≡ ring_words C
         → IfOk result (λ _. words.new ≡ joined C slots.now words.old) }
+    ensures history { (C : ℕ) (h : List Claim) → IsCapacity C → length words.old ≡ ring_words C
+        → IsPlain C words.old slots.now h → IfOk result (λ _. LiesBetween C words.old words.new h) }
     ensures length { length words.new ≡ length words.old }
     ensures trailer { (i : ℕ) → length words.old ≤ i + 96 → slice_index words.new i ≡ slice_index words.old i }
 {
@@ -128,6 +163,8 @@ pub fn join_bodies(words: &mut [u64], slots: &[u64]) -> Result<(), RingFinding>
         return Err(RingFinding::BadBodies { words: slots.len() });
     }
     if is_ordered {
+        let rest = (u64::from(capacity) - (tail - head)) / 8;
+        clear_words(words, capacity, tail, rest as usize);
         join_records(words, slots, capacity, head, tail);
     }
     Ok(())

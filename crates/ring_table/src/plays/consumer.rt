@@ -1,35 +1,26 @@
 //! What the steps of the consumer say.
 ghost use Rattle.std.specs.Prelude.{◌≡◌};
-ghost use Rattle.ring_table.specs.Staged.{shown_header};
 ghost use Rattle.ring_table.specs.Views.{Logs, logged};
 ghost use Rattle.ring_table.specs.ConsumerSteps.{LoadsHeader, LoadsBody, LoadsPassed, ClearsWord};
 ghost use Rattle.ring_table.specs.ConsumerSteps.{StoresHead, StoresHeadBefore};
 
-use crate::mode::Mode;
 use crate::view::View;
 use atomic_table::Play;
-use std::marker::PhantomData;
 
-/// The view gets the header as the formats have it.
-pub struct LoadFirstHeader<M> {
-    pub mode: PhantomData<M>,
-}
+pub struct LoadFirstHeader;
 
-impl<M: Mode> Play<u64, View> for LoadFirstHeader<M> {
+impl Play<u64, View> for LoadFirstHeader {
     ghost then = { λ st me n me'. (me'.1 ≡ me.1)
-        × LoadsHeader me.0.capacity me.0.consumer.head me.0.consumer.taken me.0 (shown_header M.bodies n) me'.0
-        × Logs st.word (shown_header M.bodies n) me.0 me'.0 };
+        × LoadsHeader me.0.capacity me.0.consumer.head me.0.consumer.taken me.0 n me'.0
+        × Logs st.word n me.0 me'.0 };
 }
 
-/// The same.
-pub struct LoadNextHeader<M> {
-    pub mode: PhantomData<M>,
-}
+pub struct LoadNextHeader;
 
-impl<M: Mode> Play<u64, View> for LoadNextHeader<M> {
+impl Play<u64, View> for LoadNextHeader {
     ghost then = { λ st me n me'. (me'.1 ≡ me.1)
-        × LoadsHeader me.0.capacity me.0.consumer.scan me.0.consumer.got me.0 (shown_header M.bodies n) me'.0
-        × Logs st.word (shown_header M.bodies n) me.0 me'.0 };
+        × LoadsHeader me.0.capacity me.0.consumer.scan me.0.consumer.got me.0 n me'.0
+        × Logs st.word n me.0 me'.0 };
 }
 
 pub struct LoadBody;

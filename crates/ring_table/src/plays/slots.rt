@@ -1,17 +1,18 @@
 //! What the steps on slots say.
 ghost use Rattle.std.specs.Prelude.{◌≡◌};
 ghost use Rattle.ring_table.specs.Staged.{AreRising};
-ghost use Rattle.ring_table.specs.ConsumerSteps.{ClearsRecord, LoadsRecord};
-ghost use Rattle.ring_table.specs.SlotSteps.{CommitsBody, GivesBody, LendsBody, OpensBody, ReservesBody, ReturnsBody};
-ghost use Rattle.ring_table.specs.SlotSteps.{TakesBody};
+ghost use Rattle.ring_layout.specs.declared.message.ClaimState.TheVariants.{Committed, Open};
+ghost use Rattle.ring_table.specs.Marks.{LoadsMark};
+ghost use Rattle.ring_table.specs.SlotSteps.{GivesBody, LendsBody, ReservesAt, ReservesBody, ReturnsBody};
+ghost use Rattle.ring_table.specs.SlotSteps.{ReturnsSlots, StoresRecord, TakesBody};
 
 use crate::view::View;
 use atomic_table::Play;
 
-pub struct OpenBody;
+pub struct ReserveAt;
 
-impl Play<u64, View> for OpenBody {
-    ghost then = { λ st me n me'. OpensBody st.word st.first me me' × AreRising me.0.producer.claims };
+impl Play<u64, View> for ReserveAt {
+    ghost then = { λ st me n me'. ReservesAt st.word me me' × AreRising me.0.producer.claims };
 }
 
 pub struct ReserveBody;
@@ -20,10 +21,16 @@ impl Play<u64, View> for ReserveBody {
     ghost then = { λ st me n me'. ReservesBody me me' × AreRising me.0.producer.claims };
 }
 
-pub struct CommitBody;
+pub struct OpenRecord;
 
-impl Play<u64, View> for CommitBody {
-    ghost then = { λ st me n me'. CommitsBody st.first me me' × AreRising me.0.producer.claims };
+impl Play<u64, View> for OpenRecord {
+    ghost then = { λ st me n me'. StoresRecord Open me me' × AreRising me.0.producer.claims };
+}
+
+pub struct CommitRecord;
+
+impl Play<u64, View> for CommitRecord {
+    ghost then = { λ st me n me'. StoresRecord Committed me me' × AreRising me.0.producer.claims };
 }
 
 pub struct TakeBody;
@@ -50,14 +57,20 @@ impl Play<u64, View> for ReturnBody {
     ghost then = { λ st me n me'. ReturnsBody me me' };
 }
 
-pub struct LoadRecord;
+pub struct ReturnSlots;
 
-impl Play<u64, View> for LoadRecord {
-    ghost then = { λ st me n me'. (me'.1 ≡ me.1) × LoadsRecord me.0 n me'.0 };
+impl Play<u64, View> for ReturnSlots {
+    ghost then = { λ st me n me'. ReturnsSlots me me' };
 }
 
-pub struct ClearRecord;
+pub struct LoadFirstMark;
 
-impl Play<u64, View> for ClearRecord {
-    ghost then = { λ st me n me'. (me'.1 ≡ me.1) × ClearsRecord me.0 me'.0 };
+impl Play<u64, View> for LoadFirstMark {
+    ghost then = { λ st me n me'. LoadsMark me.0.capacity me.0.consumer.head me.0.consumer.taken me n me' };
+}
+
+pub struct LoadNextMark;
+
+impl Play<u64, View> for LoadNextMark {
+    ghost then = { λ st me n me'. LoadsMark me.0.capacity me.0.consumer.scan me.0.consumer.got me n me' };
 }

@@ -6,7 +6,7 @@ ghost use Rattle.ring_table.specs.ConsumerSteps.{ClearsWord, LoadsBody, LoadsHea
 ghost use Rattle.ring_table.specs.ConsumerSteps.{StandsBefore, StoresHead, StoresHeadBefore};
 ghost use Rattle.ring_table.specs.Seats.{IsSameSeat, IsSeatOf};
 
-use crate::mode::{InWords, Mode};
+use crate::mode::InWords;
 use crate::plays::consumer::{
     ClearWord, LoadBody, LoadFirstHeader, LoadNextHeader, LoadPassed, StoreHead, StoreHeadBefore,
 };
@@ -15,8 +15,8 @@ use ring_layout::ring_buffer_descriptor::HEAD_POSITION_WORD;
 use ring_layout::word_index;
 
 /// Loads the header at the head, as a read begins. What an earlier read got beyond the head is forgotten.
-pub fn load_first_header<M: Mode>(
-    ring: &SharedRing<M>,
+pub(crate) fn load_first_word(
+    ring: &SharedRing<InWords>,
     consumer: &mut RingSeat,
     capacity: u32,
     head: u64,
@@ -29,12 +29,12 @@ pub fn load_first_header<M: Mode>(
     ensures told { LoadsHeader capacity head consumer.old.me.0.consumer.taken
         consumer.old.me.0 result consumer.new.me.0 }
 {
-    M::formatted(ring.load::<LoadFirstHeader<M>>(consumer, word_index(capacity, head)))
+    ring.load::<LoadFirstHeader>(consumer, word_index(capacity, head))
 }
 
 /// Loads the header that the running read has reached.
-pub fn load_next_header<M: Mode>(
-    ring: &SharedRing<M>,
+pub(crate) fn load_next_word(
+    ring: &SharedRing<InWords>,
     consumer: &mut RingSeat,
     capacity: u32,
     scan: u64,
@@ -46,7 +46,7 @@ pub fn load_next_header<M: Mode>(
     ensures seat { IsSameSeat consumer.old consumer.new }
     ensures told { LoadsHeader capacity scan consumer.old.me.0.consumer.got consumer.old.me.0 result consumer.new.me.0 }
 {
-    M::formatted(ring.load::<LoadNextHeader<M>>(consumer, word_index(capacity, scan)))
+    ring.load::<LoadNextHeader>(consumer, word_index(capacity, scan))
 }
 
 /// Loads the word at a position, which says what a message that the running read has got has there. Its index in the
@@ -70,8 +70,8 @@ pub fn load_body_word(
 
 /// Loads the next word that the read has passed and not yet cleared. If it is 0 it counts as cleared, since no other
 /// thread stores to it. Its index in the buffer is `target`.
-pub fn load_passed_word<M: Mode>(
-    ring: &SharedRing<M>,
+pub fn load_passed_word(
+    ring: &SharedRing<InWords>,
     consumer: &mut RingSeat,
     capacity: u32,
     cleared: u64,
@@ -89,8 +89,8 @@ pub fn load_passed_word<M: Mode>(
 }
 
 /// Sets the next word that the read has passed to 0. Its index in the buffer is `target`.
-pub fn clear_word<M: Mode>(
-    ring: &SharedRing<M>,
+pub fn clear_word(
+    ring: &SharedRing<InWords>,
     consumer: &mut RingSeat,
     capacity: u32,
     cleared: u64,
@@ -108,7 +108,7 @@ pub fn clear_word<M: Mode>(
 }
 
 /// Stores the head after all that the read has passed, which is cleared.
-pub fn store_head<M: Mode>(ring: &SharedRing<M>, consumer: &mut RingSeat, capacity: u32, head: u64)
+pub fn store_head(ring: &SharedRing<InWords>, consumer: &mut RingSeat, capacity: u32, head: u64)
     requires seat { IsSeatOf ring.now.table_id ring.now.key capacity consumer.old }
     requires consumes { consumer.old.me.0.consumes ≡ true }
     requires scan { consumer.old.me.0.consumer.scan ≡ head }
@@ -119,9 +119,10 @@ pub fn store_head<M: Mode>(ring: &SharedRing<M>, consumer: &mut RingSeat, capaci
     ring.store::<StoreHead>(consumer, trailer_word(capacity, HEAD_POSITION_WORD), head);
 }
 
-/// Stores the head before the last message that the read has got, which stays in the ring.
-pub fn store_head_before<M: Mode>(
-    ring: &SharedRing<M>,
+/// Stores the head before the last message that the read has got, which stays in the ring. All words before the message
+/// are cleared.
+pub fn store_head_before(
+    ring: &SharedRing<InWords>,
     consumer: &mut RingSeat,
     capacity: u32,
     head: u64,
@@ -129,6 +130,7 @@ pub fn store_head_before<M: Mode>(
     requires seat { IsSeatOf ring.now.table_id ring.now.key capacity consumer.old }
     requires consumes { consumer.old.me.0.consumes ≡ true }
     requires last { StandsBefore head consumer.old.me.0 }
+    requires cleared { consumer.old.me.0.consumer.cleared ≡ head }
     ensures seat { IsSameSeat consumer.old consumer.new }
     ensures told { StoresHeadBefore consumer.old.me.0 consumer.new.me.0 }
 {

@@ -19,7 +19,7 @@ use crate::plays::producer::{
 use crate::steps::{RingSeat, SharedRing, trailer_word};
 use crate::view::Wanted;
 use ring_layout::ring_buffer_descriptor::{HEAD_POSITION_WORD, TAIL_POSITION_WORD};
-use ring_layout::{aborted_header, committed_header, open_header, word_index};
+use ring_layout::{aborted_header, committed_header, open_header, padding_header, word_index};
 
 /// Loads the tail, in bytes. A producer that has all shares finds the tail that it has seen.
 pub fn load_tail<M: Mode>(ring: &SharedRing<M>, producer: &mut RingSeat, capacity: u32) -> u64
@@ -79,8 +79,8 @@ pub fn store_tail<M: Mode>(
 }
 
 /// Stores the header of the padding that is from `from` up to the claim's place, both in bytes.
-pub fn store_padding_header<M: Mode>(
-    ring: &SharedRing<M>,
+pub(crate) fn store_padding_word(
+    ring: &SharedRing<InWords>,
     producer: &mut RingSeat,
     capacity: u32,
     from: u64,
@@ -93,7 +93,7 @@ pub fn store_padding_header<M: Mode>(
     ensures view { producer.new.me.0 ≡ with_changed place (staged Padded) producer.old.me.0 }
     ensures rising { AreRising producer.old.me.0.producer.claims }
 {
-    let header = M::padding(place - from);
+    let header = padding_header(place - from);
     ring.store::<StorePadding>(producer, word_index(capacity, from), header);
 }
 
@@ -118,8 +118,8 @@ pub fn store_claimed_header(
 }
 
 /// Stores the header of a claim that is committed.
-pub fn store_committed_header<M: Mode>(
-    ring: &SharedRing<M>,
+pub(crate) fn store_committed_word(
+    ring: &SharedRing<InWords>,
     producer: &mut RingSeat,
     capacity: u32,
     place: u64,
@@ -137,8 +137,8 @@ pub fn store_committed_header<M: Mode>(
 }
 
 /// Stores the header of a claim that is aborted: the type id of padding.
-pub fn store_aborted_header<M: Mode>(
-    ring: &SharedRing<M>,
+pub(crate) fn store_aborted_word(
+    ring: &SharedRing<InWords>,
     producer: &mut RingSeat,
     capacity: u32,
     place: u64,

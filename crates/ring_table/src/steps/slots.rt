@@ -1,49 +1,38 @@
-//! The steps of a ring whose bodies lie in slots. Some take the slots of a body and give them back: between them the
-//! seat reads and writes the slots as plain memory. The others clear a record whose header alone is not 0.
+//! The steps of a ring whose bodies lie in slots that take the slots of a record and give them back: between them the
+//! seat reads and writes the slots as plain memory.
 ghost use Rattle.std.specs.Prelude.{◌≡◌, ◌+◌, ◌/◌, ◌<◌, [], ◌∷◌, List, ℕ, length, true};
-ghost use Rattle.ring_layout.specs.Headers.{committed_header};
+ghost use Rattle.ring_layout.specs.declared.message.ClaimState.TheVariants.{Committed, Open};
 ghost use Rattle.ring_layout.specs.History.{IsMessage};
 ghost use Rattle.ring_layout.specs.Places.{index};
 ghost use Rattle.ring_table.specs.Staged.{AreRising};
-ghost use Rattle.ring_table.specs.Changes.{blank, with_header};
-ghost use Rattle.ring_table.specs.ConsumerSteps.{ClearsRecord, LoadsRecord};
-ghost use Rattle.ring_table.specs.ProducerSteps.{with_changed, HasClaimAt, HasNewestAt, NeedsHeader};
+ghost use Rattle.ring_table.specs.Changes.{blank};
+ghost use Rattle.ring_table.specs.ProducerSteps.{HasClaimAt, HasNewestAt};
 ghost use Rattle.ring_table.specs.Seats.{IsSameSeat, IsSeatOf};
-ghost use Rattle.ring_table.specs.SlotSteps.{with_out, words_of, GivesBody, HasLast, HasSlots, IsHolderOf, IsLent};
-ghost use Rattle.ring_table.specs.SlotSteps.{CommitsBody, IsOpen, IsPadded, IsReserved, IsSameHolder, IsTaken};
-ghost use Rattle.ring_table.specs.SlotSteps.{LendsBody, ReservesBody, ReturnsBody, TakesBody};
+ghost use Rattle.ring_table.specs.SlotSteps.{GivesBody, HasLast, IsHolderOf, IsLent};
+ghost use Rattle.ring_table.specs.SlotSteps.{IsOpen, IsPadded, IsReserved, IsSameHolder, IsTaken};
+ghost use Rattle.ring_table.specs.SlotSteps.{LendsBody, ReservesAt, ReservesBody, ReturnsBody, ReturnsSlots, StoresRecord, TakesBody};
 
 use crate::mode::InSlots;
 use crate::plays::slots::{
-    ClearRecord, CommitBody, GiveBody, LendBody, LoadRecord, OpenBody, ReserveBody, ReturnBody,
+    CommitRecord, GiveBody, LendBody, OpenRecord, ReserveAt, ReserveBody, ReturnBody, ReturnSlots,
     TakeBody,
 };
+use crate::steps::marks::record_mark;
 use crate::steps::{RingSeat, SharedRing, trailer_word};
 use crate::view::Wanted;
+use ring_layout::mark_descriptor::{COMMITTED_KIND, OPEN_KIND};
 use ring_layout::ring_buffer_descriptor::HEAD_CACHE_POSITION_WORD;
-use ring_layout::{committed_header, open_header, word_index};
+use ring_layout::word_index;
 
-/// Stores the header of a claim of `len` bytes, its length negated, and takes the slots of its body. The claim is open
-/// from then on.
-pub fn open_body(
-    ring: &SharedRing<InSlots>,
-    producer: &mut RingSeat,
-    capacity: u32,
-    place: u64,
-    wanted: Wanted,
-)
+/// Takes the slots of the own claim at a place, whose mark is not stored.
+pub fn reserve_at(ring: &SharedRing<InSlots>, producer: &mut RingSeat, capacity: u32, place: u64)
     requires seat { IsSeatOf ring.now.table_id ring.now.key capacity producer.old }
-    requires message { IsMessage capacity (blank wanted.type_id wanted.len) }
-    requires claim { HasClaimAt producer.old.me.0 place (NeedsHeader wanted.len) }
+    requires claim { HasClaimAt producer.old.me.0 place IsPadded }
     ensures seat { IsSameHolder producer.old producer.new }
-    ensures slots { HasSlots (index capacity place + 1) (words_of wanted.len) producer.new.me.1 }
-    ensures view { producer.new.me.0
-        ≡ with_out ((record { place = place; message = blank wanted.type_id wanted.len }) ∷ [])
-        (with_changed place (with_header wanted.type_id wanted.len) producer.old.me.0) }
+    ensures reserves { ReservesAt (index capacity place) producer.old.me producer.new.me }
     ensures rising { AreRising producer.old.me.0.producer.claims }
 {
-    let header = open_header(wanted.type_id, wanted.len);
-    ring.store::<OpenBody>(producer, word_index(capacity, place), header);
+    ring.load::<ReserveAt>(producer, word_index(capacity, place));
 }
 
 /// Takes the slots of the newest claim, whose header is not stored.
@@ -54,14 +43,14 @@ pub fn reserve_body(ring: &SharedRing<InSlots>, producer: &mut RingSeat, capacit
     ensures reserves { ReservesBody producer.old.me producer.new.me }
     ensures rising { AreRising producer.old.me.0.producer.claims }
 {
-    // Any word would do. This one was loaded for the claim, while the claim's own header is on a line that the consumer
-    // wrote last: it would be fetched to be read, and once more to be stored.
+    // Any word would do. This one was loaded for the claim, while the word of the claim's mark is on a line that other
+    // threads used last: the line would be fetched to be read, and once more to be stored.
     ring.load::<ReserveBody>(producer, trailer_word(capacity, HEAD_CACHE_POSITION_WORD));
 }
 
-/// Stores the committed header of an own claim, which had none, and gives its slots back with the words of a body of
-/// `wanted.len` bytes. The claim is committed from then on, and has this body.
-pub fn commit_body(
+/// Stores the mark of an own claim, which had none, and gives its slots back with the words of a body of `wanted.len`
+/// bytes. The claim is open from then on, and has this body.
+pub fn open_record(
     ring: &SharedRing<InSlots>,
     producer: &mut RingSeat,
     capacity: u32,
@@ -70,13 +59,35 @@ pub fn commit_body(
 )
     requires seat { IsHolderOf ring.now.table_id ring.now.key capacity producer.old }
     requires message { IsMessage capacity (blank wanted.type_id wanted.len) }
-    requires body { (body : List ℕ) × (length body ≡ wanted.len) × IsReserved capacity place body producer.old.me }
+    requires body { (body : List ℕ) × (length body ≡ wanted.len)
+        × IsReserved capacity place wanted.type_id body producer.old.me }
     ensures seat { IsSameHolder producer.old producer.new }
-    ensures commits { CommitsBody (committed_header wanted.type_id wanted.len) producer.old.me producer.new.me }
+    ensures stores { StoresRecord Open producer.old.me producer.new.me }
     ensures rising { AreRising producer.old.me.0.producer.claims }
 {
-    let header = committed_header(wanted.type_id, wanted.len);
-    ring.store::<CommitBody>(producer, word_index(capacity, place), header);
+    let mark = record_mark(place, wanted.len, OPEN_KIND);
+    ring.store::<OpenRecord>(producer, word_index(capacity, place), mark);
+}
+
+/// Stores the mark of an own claim, which had none, and gives its slots back with the words of a body of `wanted.len`
+/// bytes. The claim is committed from then on, and has this body.
+pub fn commit_record(
+    ring: &SharedRing<InSlots>,
+    producer: &mut RingSeat,
+    capacity: u32,
+    place: u64,
+    wanted: Wanted,
+)
+    requires seat { IsHolderOf ring.now.table_id ring.now.key capacity producer.old }
+    requires message { IsMessage capacity (blank wanted.type_id wanted.len) }
+    requires body { (body : List ℕ) × (length body ≡ wanted.len)
+        × IsReserved capacity place wanted.type_id body producer.old.me }
+    ensures seat { IsSameHolder producer.old producer.new }
+    ensures stores { StoresRecord Committed producer.old.me producer.new.me }
+    ensures rising { AreRising producer.old.me.0.producer.claims }
+{
+    let mark = record_mark(place, wanted.len, COMMITTED_KIND);
+    ring.store::<CommitRecord>(producer, word_index(capacity, place), mark);
 }
 
 /// Takes the slots of an own open claim, which have the words of its body.
@@ -123,41 +134,18 @@ pub fn return_body(ring: &SharedRing<InSlots>, consumer: &mut RingSeat, capacity
     ring.load::<ReturnBody>(consumer, word_index(capacity, place));
 }
 
-/// Loads the next word that the read has passed and not yet cleared. If it is 0 it counts as cleared. If it is a message's
-/// header it says how long that record is. Its index in the buffer is `target`.
-pub fn load_passed_header(
+/// Gives the slots of that message back, as they were, and logs nothing.
+pub(crate) fn return_slots(
     ring: &SharedRing<InSlots>,
     consumer: &mut RingSeat,
     capacity: u32,
-    cleared: u64,
-    target: usize,
-) -> u64
-    requires seat { IsSeatOf ring.now.table_id ring.now.key capacity consumer.old }
-    requires target { target ≡ index capacity cleared }
-    requires consumes { consumer.old.me.0.consumes ≡ true }
-    requires cleared { consumer.old.me.0.consumer.cleared ≡ cleared }
-    requires passed { cleared < consumer.old.me.0.consumer.scan }
-    ensures seat { IsSameSeat consumer.old consumer.new }
-    ensures told { LoadsRecord consumer.old.me.0 result consumer.new.me.0 }
-{
-    ring.load::<LoadRecord>(consumer, target)
-}
-
-/// Sets that word to 0. If a message's record begins there it is cleared to its end, since its other words are 0.
-pub fn clear_record(
-    ring: &SharedRing<InSlots>,
-    consumer: &mut RingSeat,
-    capacity: u32,
-    cleared: u64,
-    target: usize,
+    place: u64,
 )
-    requires seat { IsSeatOf ring.now.table_id ring.now.key capacity consumer.old }
-    requires target { target ≡ index capacity cleared }
+    requires seat { IsHolderOf ring.now.table_id ring.now.key capacity consumer.old }
     requires consumes { consumer.old.me.0.consumes ≡ true }
-    requires cleared { consumer.old.me.0.consumer.cleared ≡ cleared }
-    requires passed { cleared < consumer.old.me.0.consumer.scan }
-    ensures seat { IsSameSeat consumer.old consumer.new }
-    ensures told { ClearsRecord consumer.old.me.0 consumer.new.me.0 }
+    requires last { IsLent capacity place consumer.old.me }
+    ensures seat { IsSameHolder consumer.old consumer.new }
+    ensures returns { ReturnsSlots consumer.old.me consumer.new.me }
 {
-    ring.store::<ClearRecord>(consumer, target, 0);
+    ring.load::<ReturnSlots>(consumer, word_index(capacity, place));
 }

@@ -1,9 +1,9 @@
-use Rattle.std.proofs.Common.{◌≡◌, ℕ, ◌+◌, ◌*◌, ◌/◌, ◌<◌, ◌≤◌, List, [], ◌∷◌, ◌++◌, length, refl, subst, sym, ap, ◌∙◌, arith}
+use Rattle.std.proofs.Common.{◌≡◌, ℕ, ◌+◌, ◌*◌, ◌<◌, ◌≤◌, List, [], ◌∷◌, ◌++◌, length, refl, subst, sym, ap, ◌∙◌, arith}
 use Rattle.std.specs.Int.{to_le_bytes, w64}
 use Rattle.ring_layout.specs.History.{overwritten}
 use Rattle.ring_layout.proofs.WordBytes.{length-overwritten}
 use Rattle.ring_table.specs.Filling.{Copying}
-use Rattle.ring_table.proofs.FillLemmas.{copy_front, copy_more, copy_end}
+use Rattle.ring_table.proofs.FillLemmas.{copy_first, copy_front, copy_start, copy_more, copy_end}
 use Rattle.ring_table.proofs.bodies.copy_slots.Goals as goal
 
 -- the scratch with a word more
@@ -21,17 +21,17 @@ Reads slot held held' w = (old : ℕ) (rest : List (ℕ × ℕ)) → held ≡ (s
 
 module _ (first k n : ℕ) (scratch : List ℕ) (before h0 : List (ℕ × ℕ)) (less : k + 1 + 1 + 1 < n)
     (room : 8 * n ≤ length scratch) (t : Copying first k n scratch before h0) where
-  module _ (w : ℕ) (h1 : List (ℕ × ℕ)) (read : Reads (first + k) h0 h1 w) where
+  module _ (w : ℕ) (h1 : List (ℕ × ℕ)) (read : Reads (first + 1 + k) h0 h1 w) where
     one : Copying first (k + 1) n (put k w scratch) before h1
     one = copy_more first k n w scratch before h0 h1 (omega arith) (omega arith) t read
 
-    module _ (x : ℕ) (h2 : List (ℕ × ℕ)) (read_x : Reads (first + (k + 1)) h1 h2 x) where
+    module _ (x : ℕ) (h2 : List (ℕ × ℕ)) (read_x : Reads (first + 1 + (k + 1)) h1 h2 x) where
       two : Copying first (k + 1 + 1) n (put (k + 1) x (put k w scratch)) before h2
       two =
           let long = long_put k w scratch (omega arith) in
           copy_more first (k + 1) n x (put k w scratch) before h1 h2 (omega arith) (omega arith) one read_x
 
-      module _ (y : ℕ) (h3 : List (ℕ × ℕ)) (read_y : Reads (first + (k + 1 + 1)) h2 h3 y) where
+      module _ (y : ℕ) (h3 : List (ℕ × ℕ)) (read_y : Reads (first + 1 + (k + 1 + 1)) h2 h3 y) where
         three : Copying first (k + 1 + 1 + 1) n (put (k + 1 + 1) y (put (k + 1) x (put k w scratch))) before h3
         three =
             let long = long_put k w scratch (omega arith) in
@@ -39,7 +39,7 @@ module _ (first k n : ℕ) (scratch : List ℕ) (before h0 : List (ℕ × ℕ)) 
             copy_more first (k + 1 + 1) n y (put (k + 1) x (put k w scratch)) before h2 h3 (omega arith) (omega arith)
             two read_y
 
-        four : (z : ℕ) (h4 : List (ℕ × ℕ)) → Reads (first + (k + 1 + 1 + 1)) h3 h4 z
+        four : (z : ℕ) (h4 : List (ℕ × ℕ)) → Reads (first + 1 + (k + 1 + 1 + 1)) h3 h4 z
             → Copying first (k + 1 + 1 + 1 + 1) n
             (put (k + 1 + 1 + 1) z (put (k + 1 + 1) y (put (k + 1) x (put k w scratch)))) before h4
         four z h4 read_z =
@@ -48,6 +48,17 @@ module _ (first k n : ℕ) (scratch : List ℕ) (before h0 : List (ℕ × ℕ)) 
             let long_y = long_put (k + 1 + 1) y (put (k + 1) x (put k w scratch)) (omega arith) in
             copy_more first (k + 1 + 1 + 1) n z (put (k + 1 + 1) y (put (k + 1) x (put k w scratch))) before h3 h4
             (omega arith) (omega arith) three read_z
+
+pub look_slot-requires-clause-front : goal.look_slot-requires-clause-front
+look_slot-requires-clause-front c = copy_first c.args.first c.args.count c.args.seat.now.me.1 c.requires.has
+
+pub loop-turn-init : goal.loop-turn-init
+loop-turn-init c = (
+  copy_start c.args.first c.args.count c.args.scratch.now c.args.seat.now.me.1 c.look_slot.new.seat.me.1 c.requires.has
+      (λ old rest e. (c.look_slot.ensures.keeps old rest e).1),
+  c.look_slot.ensures.seat,
+  refl,
+)
 
 pub look_slot-w-requires-clause-front : goal.look_slot-w-requires-clause-front
 look_slot-w-requires-clause-front c =

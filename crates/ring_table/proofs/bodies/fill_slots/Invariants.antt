@@ -1,7 +1,9 @@
-use Rattle.std.proofs.Common.{◌≡◌, length}
+use Rattle.std.proofs.Common.{◌+◌, length}
 use Rattle.ring_table.specs.SlotSteps.{words_of}
+use Rattle.ring_table.specs.Staged.{headed}
 use Rattle.ring_table.specs.Filling.{Filling, IsSameTable}
 use Rattle.ring_table.proofs.bodies.fill_slots.Given as goal
 
 abbrev pub invariant-loop-k : goal.invariant-loop-k
-invariant-loop-k l = Filling l.first l.k (words_of (length l.body)) l.body l.seat.me.1 × IsSameTable l.fn.seat l.seat
+invariant-loop-k l = Filling l.first (l.k + 1) (words_of (8 + length l.body)) (headed l.header l.body) l.seat.me.1
+    × IsSameTable l.fn.seat l.seat

@@ -1,8 +1,10 @@
-use Rattle.std.proofs.Common.{replicate}
+use Rattle.std.proofs.Common.{◌+◌, replicate}
 use Rattle.ring_table.specs.SlotSteps.{words_of}
+use Rattle.ring_table.specs.Staged.{headed}
 use Rattle.ring_table.specs.Filling.{Filling, IsSameTable}
 use Rattle.ring_table.proofs.bodies.fill_zeros.Given as goal
 
 abbrev pub invariant-loop-k : goal.invariant-loop-k
 invariant-loop-k l =
-    Filling l.first l.k (words_of l.len) (replicate l.len 0) l.seat.me.1 × IsSameTable l.fn.seat l.seat
+    Filling l.first (l.k + 1) (words_of (8 + l.len)) (headed l.header (replicate l.len 0)) l.seat.me.1
+    × IsSameTable l.fn.seat l.seat

@@ -10,7 +10,9 @@ use Rattle.ring_table.specs.Passing.{placed_message}
 use Rattle.ring_table.specs.ProducerSteps.{with_changed, HasClaim}
 use Rattle.ring_table.specs.Ranges.{numbered}
 use Rattle.ring_table.specs.SlotSteps.{HasBody, with_out, words_of}
+use Rattle.ring_table.specs.Staged.{headed}
 use Rattle.ring_table.specs.Views.{View}
+use Rattle.ring_table.proofs.HeaderCalls.{packs_recorded}
 use Rattle.ring_table.proofs.SlotBodies.{body_given}
 use Rattle.ring_table.proofs.bodies.write_slots.Goals as goal
 
@@ -32,19 +34,22 @@ fill_slots-requires-clause-has c =
     let t = (c.reserve_body.ensures.reserves h.others h.claim h.claims_are h.holds.stage).1 in
     let here : index c.args.producer.now.me.0.capacity h.claim.place ≡ index c.args.capacity c.args.place =
     λ i. index (c.requires.seat.view_is i) (h.at_place i) in
-    let many : words_of (length h.claim.message.body) ≡ words_of (length c.args.body.now) = omega arith in
+    let many : words_of (8 + length h.claim.message.body) ≡ words_of (8 + length c.args.body.now) = omega arith in
     record {
       values = t.values;
-      held_is = t.held_is ∙ ap (λ i. numbered (i + 1) t.values) (here ∙ sym c.word_index.ensures);
+      held_is = t.held_is ∙ ap (λ i. numbered i t.values) (here ∙ sym c.word_index.ensures);
       count = t.count ∙ many;
     }
 
-pub commit_body-requires-clause-body : goal.commit_body-requires-clause-body
-commit_body-requires-clause-body c =
+pub commit_record-requires-clause-body : goal.commit_record-requires-clause-body
+commit_record-requires-clause-body c =
     let h = c.requires.newest in
     let body : List ℕ = c.args.body.now in
     let len = c.requires.len in
     let same_span = h.holds.same_span in
+    let header_is : c.committed_header-header.result ≡ committed_header c.args.wanted.type_id (length body) =
+    packs_recorded c.committed_header-header.result c.args.wanted.len c.args.wanted.type_id c.requires.message.type_fits
+    c.committed_header-header.ensures ∙ ap (committed_header c.args.wanted.type_id) (sym len) in
     let same = c.fill_slots.ensures.seat.view
     ∙ (c.reserve_body.ensures.reserves h.others h.claim h.claims_are h.holds.stage).0 in (
       body,
@@ -59,8 +64,8 @@ commit_body-requires-clause-body c =
         out_is = ap (λ (v : View). v.out) same;
         same_span = omega arith;
         bytes = All-from_get_or (λ b. b < 256) body 0 (λ i _. omega (arith, c.type_inv.body i));
-        slots = subst (λ i. HasBody (i + 1) body c.fill_slots.new.seat.me.1) c.word_index.ensures
-            c.fill_slots.ensures.has;
+        slots = subst (λ (z : ℕ × ℕ). HasBody z.0 (headed z.1 body) c.fill_slots.new.seat.me.1)
+            (λ i. (c.word_index.ensures i, header_is i)) c.fill_slots.ensures.has;
       },
     )
 
@@ -77,21 +82,25 @@ returns-clause-view c =
     let same = c.fill_slots.ensures.seat.view
     ∙ (c.reserve_body.ensures.reserves h.others h.claim h.claims_are h.holds.stage).0 in
     let f = recorded c.args.wanted.type_id body in
-    let given = c.commit_body.ensures.commits.1 (placed_message h.claim) _ c.args.wanted.type_id body
-    (ap (λ (v : View). v.out) same) c.requires.message.type_fits small
-    (ap (committed_header c.args.wanted.type_id) (sym len)) bytes c.fill_slots.ensures.has in
-    body_given v c.commit_body.new.producer.me.0 (placed_message h.claim) c.args.place f c.requires.seat.home h.at_place
+    let header_is : c.committed_header-header.result ≡ committed_header c.args.wanted.type_id (length body) =
+    packs_recorded c.committed_header-header.result c.args.wanted.len c.args.wanted.type_id c.requires.message.type_fits
+    c.committed_header-header.ensures ∙ ap (committed_header c.args.wanted.type_id) (sym len) in
+    let given = c.commit_record.ensures.stores.1 (placed_message h.claim) _ c.args.wanted.type_id body
+    (ap (λ (v : View). v.out) same) c.requires.message.type_fits small bytes
+    (subst (λ z. HasBody c.word_index.result (headed z body) c.fill_slots.new.seat.me.1) header_is
+    c.fill_slots.ensures.has) in
+    body_given v c.commit_record.new.producer.me.0 (placed_message h.claim) c.args.place f c.requires.seat.home h.at_place
     (given ∙ ap (λ (z : View). with_out [] (with_changed h.claim.place f z)) same)
 
 pub returns-clause-seat : goal.returns-clause-seat
 returns-clause-seat c =
-    let g = c.commit_body.ensures in
+    let g = c.commit_record.ensures in
     let f = c.fill_slots.ensures.seat in
     let t = c.reserve_body.ensures.seat in
     record {
       table = g.seat.table ∙ f.table ∙ t.table;
       id = g.seat.id ∙ f.id ∙ t.id;
-      slots = g.commits.0 ∙ sym c.requires.seat.none;
+      slots = g.stores.0 ∙ sym c.requires.seat.none;
       capacity = g.seat.capacity ∙ ap (λ (v : View). v.capacity) f.view ∙ t.capacity;
       out = ap (λ (v : View). v.out) (returns-clause-view c);
     }

@@ -1,4 +1,4 @@
-use Rattle.std.proofs.Common.{◌≡◌, ◌≢◌, length, sym, ◌∙◌, arith, below_more, get_or-set_other, get_or-set_same}
+use Rattle.std.proofs.Common.{◌≢◌, sym, ◌∙◌, arith, below_more, get_or-set_other, get_or-set_same}
 use Rattle.ring_table.proofs.PictureWords.{read_at}
 use Rattle.ring_table.proofs.picture.copy_words.Goals as goal
 

@@ -1,5 +1,4 @@
-use Rattle.std.proofs.Common.{◌≡◌, ℕ, List, length, slice_index, sym, ap, ◌∙◌, subst, arith}
-use Rattle.std.specs.Slots.{slots_items}
+use Rattle.std.proofs.Common.{◌≡◌, ℕ, List, slice_index, sym, ◌∙◌, subst, arith}
 use Rattle.atomic_table.proofs.Lists.{at_index}
 use Rattle.ring_layout.specs.Layout.{tail_index, head_index}
 use Rattle.ring_table.specs.Owners.{all_of}
@@ -12,8 +11,7 @@ use Rattle.ring_table.proofs.picture.show_bodies.Goals as goal
 pub loop-at-init : goal.loop-at-init
 loop-at-init c =
     let made : List ℕ = c.args.words.now.items in
-    let wide = c.requires.words.0 in
-    let same : made ≡ slots_items c.args.closed.now.words = c.requires.words.1 in
+    let wide = c.requires.words in
     let tail : slice_index made (tail_index c.args.capacity) ≡ c.index-tail.result.now =
     read_at made (tail_index c.args.capacity) c.index-tail.result.now
     (at_index made (tail_index c.args.capacity) c.index-tail.result.now (omega arith) c.index-tail.ensures) in
@@ -23,9 +21,8 @@ loop-at-init c =
     record {
       wide = wide;
       walks = λ t. (
-        sym tail ∙ ap (λ (l : List ℕ). slice_index l (tail_index c.args.capacity)) same ∙ t.memory.tail_is,
-        subst (λ (z : ℕ × List ℕ). Walked c.args.capacity t z.0 z.1)
-            (λ i. ((sym t.memory.head_is ∙ ap (λ (l : List ℕ). slice_index l (head_index c.args.capacity)) (sym same) ∙ head) i, sym same i))
+        sym tail ∙ t.memory.tail_is,
+        subst (λ (z : ℕ). Walked c.args.capacity t z made) (sym t.memory.head_is ∙ head)
             (begins c.args.capacity _ _ t),
       );
     }
@@ -34,7 +31,7 @@ pub show_record-at-requires-clause-walk : goal.show_record-at-requires-clause-wa
 show_record-at-requires-clause-walk c =
     let t = c.requires.parts in
     let w = c.loop-at.invariant.walks t in
-    (t, w.1, omega arith)
+    (c.args.words.now.items, t, w.1, omega arith)
 
 pub loop-at-preserved : goal.loop-at-preserved
 loop-at-preserved c = record {
@@ -42,7 +39,7 @@ loop-at-preserved c = record {
   walks = λ t.
       let w = c.loop-at.invariant.walks t in
       let ends = w.0 in
-      (ends, c.show_record-at.ensures.walks t w.1 (omega arith));
+      (ends, c.show_record-at.ensures.walks c.args.words.now.items t w.1 (omega arith));
 }
 
 pub returns : goal.returns

@@ -10,7 +10,7 @@ use Rattle.ring_table.proofs.picture.show_bodies.Given as goal
 abbrev pub invariant-loop-at : goal.invariant-loop-at
 invariant-loop-at l = record {
   wide : vec_len l.words ≡ ring_words l.capacity;
-  walks : (t : Parts l.capacity (slots_items l.closed.words) (slots_items l.closed.slots))
+  walks : (t : Parts l.capacity l.initial.words.items (slots_items l.closed.slots))
       → (l.tail ≡ staged_end t.start (all_of t.hist)) × Walked l.capacity t l.at l.words.items;
 }
 

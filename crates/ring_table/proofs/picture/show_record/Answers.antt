@@ -1,7 +1,5 @@
 use Rattle.std.proofs.Common.{◌≡◌, ℕ, ◌+◌, ◌-◌, ◌*◌, ◌/◌, ◌%◌, ◌^◌, ◌≤◌, ◌<◌, List, length, set, slice_index, get_or, sym, ap, ◌∙◌, subst, arith}
-use Rattle.std.specs.Prelude.{vec_len}
 use Rattle.std.specs.Slots.{slots_items, slots_len}
-use Rattle.std.proofs.lemmas.Nat.{mod_below}
 use Rattle.atomic_table.proofs.Lists.{at_index}
 use Rattle.ring_layout.specs.Layout.{ring_words}
 use Rattle.ring_layout.specs.Places.{index}
@@ -25,16 +23,16 @@ step {C} {at} {i} {w} {u} {n} {words} {slots} {made} t walked lt i_is wide word 
 pub overflow_sub-bytes : goal.overflow_sub-bytes
 overflow_sub-bytes c =
     let k = c.requires.walk in
-    let g = step k.0 k.1 k.2 c.word_index-index.ensures (sym c.args.words.now.ok.0 ∙ c.requires.words)
+    let g = step k.1 k.2 k.3 c.word_index-index.ensures (sym c.args.words.now.ok.0 ∙ c.requires.words)
     c.index-header.ensures c.formatted-shown.ensures c.align8-bytes.ensures in
     omega arith
 
 pub copy_range-requires-clause-slots : goal.copy_range-requires-clause-slots
 copy_range-requires-clause-slots c =
     let k = c.requires.walk in
-    let g = step k.0 k.1 k.2 c.word_index-index.ensures (sym c.args.words.now.ok.0 ∙ c.requires.words)
+    let g = step k.1 k.2 k.3 c.word_index-index.ensures (sym c.args.words.now.ok.0 ∙ c.requires.words)
     c.index-header.ensures c.formatted-shown.ensures c.align8-bytes.ensures in
-    let c8 = capacity_aligned c.args.capacity k.0.lawful.capacity in
+    let c8 = capacity_aligned c.args.capacity k.1.lawful.capacity in
     omega arith
 
 pub copy_range-requires-clause-words : goal.copy_range-requires-clause-words
@@ -46,12 +44,12 @@ copy_range-requires-clause-words c =
 pub returns-clause-rises : goal.returns-clause-rises
 returns-clause-rises c =
     let k = c.requires.walk in
-    let g = step k.0 k.1 k.2 c.word_index-index.ensures (sym c.args.words.now.ok.0 ∙ c.requires.words)
+    let g = step k.1 k.2 k.3 c.word_index-index.ensures (sym c.args.words.now.ok.0 ∙ c.requires.words)
     c.index-header.ensures c.formatted-shown.ensures c.align8-bytes.ensures in
     omega arith
 
 pub returns-clause-walks : goal.returns-clause-walks
-returns-clause-walks c = λ t walked lt.
+returns-clause-walks c = λ heads t walked lt.
     let made : List ℕ = c.args.words.now.items in
     let i_is = c.word_index-index.ensures in
     let n : ℕ = c.align8-bytes.result in

@@ -1,52 +1,101 @@
-use Rattle.std.proofs.Common.{◌≡◌, ℕ, ◌-◌, ◌*◌, List, length, sym, ap, ◌∙◌, subst}
+use Rattle.std.proofs.Common.{◌≡◌, ℕ, ◌-◌, ◌*◌, ◌/◌, ◌≤◌, List, length, slice_index, sym, ap, ◌∙◌, subst}
 use Rattle.std.specs.Slots.{slots_items}
-use Rattle.ring_layout.specs.Layout.{ring_words}
+use Rattle.std.specs.declared.alloc.Global.{Global}
+use Rattle.atomic_table.specs.declared.owned.Closed.{Closed}
 use Rattle.ring_table.specs.declared.view.Key.{Key}
-use Rattle.ring_table.specs.Closed.{IsClosed}
+use Rattle.ring_table.specs.Closed.{IsClosed, IsLeft}
+use Rattle.ring_table.specs.Marks.{IsDecoded, KeepsMarks}
 use Rattle.ring_table.specs.Rule.{Kept}
-use Rattle.ring_table.specs.Shelf.{IsShelf}
 use Rattle.ring_table.specs.Staged.{elsewhere}
 use Rattle.ring_table.specs.Views.{View}
+use Rattle.ring_table.specs.Walk.{Parts}
+use Rattle.ring_layout.specs.Layout.{head_index}
 use Rattle.ring_table.proofs.CloseLemmas.{leaves_rest}
-use Rattle.ring_table.proofs.CloseSlots.{capacity_of, closed_slots, parts}
+use Rattle.ring_table.proofs.CloseSlots.{capacity_of, closed_slots, heads, hist_settled, parts}
+use Rattle.ring_table.proofs.LastMarks.{head_fits, headers_back, may_decode_all}
 use Rattle.ring_table.proofs.LawLemmas.{none_open}
 use Rattle.ring_table.proofs.picture.show_slots.Goals as goal
 
+module _ (key : Key) (v : View) (closed : Closed ℕ Global) (left : IsLeft elsewhere key v closed) (copied : List ℕ)
+    (same : copied ≡ slots_items closed.words) (n : ℕ) (long : n ≡ length copied) where
+  -- the capacity, as the code computes it
+  cap_is : key.capacity ≡ (n - 96) * 8
+  cap_is =
+      let final = left.final in
+      let m = final.1.0 in
+      capacity_of key.capacity n m.kept.lawful.capacity
+      (long ∙ ap length same ∙ ap length (sym final.2) ∙ m.encodes.wide ∙ m.kept.memory.wide)
+
+  -- the rule of the last state
+  kept_marks : KeepsMarks ((n - 96) * 8) key.start copied left.final.0.homes left.final.0.views
+  kept_marks = subst (λ (z : ℕ × List ℕ). KeepsMarks z.0 key.start z.1 left.final.0.homes left.final.0.views)
+      (λ i. (cap_is i, (left.final.2 ∙ sym same) i)) left.final.1.0
+
+  module _ (new : List ℕ) (wide : length new ≡ length copied)
+      (decodes : IsDecoded ((n - 96) * 8) (slice_index copied (head_index ((n - 96) * 8))) (slots_items closed.slots) copied new)
+      (trailer : (i : ℕ) → (n - 96) * 8 / 8 ≤ i → slice_index new i ≡ slice_index copied i) where
+    headers_are : kept_marks.headers ≡ new
+    headers_are = sym (headers_back ((n - 96) * 8) key.start copied left.final.0.homes left.final.0.views kept_marks
+        new (slots_items closed.slots)
+        (hist_settled ((n - 96) * 8) key.start kept_marks.headers left.final.0.homes left.final.0.views kept_marks.kept
+        kept_marks.shelf left.id v left.final.1.1 left.last)
+        (heads ((n - 96) * 8) key.start kept_marks.headers left.final.0.homes left.final.0.views kept_marks.kept
+        kept_marks.shelf left.id v left.final.1.1 left.last (slots_items closed.slots) left.final.4)
+        wide decodes trailer)
+
+    kept_now : Kept elsewhere ((n - 96) * 8) key.start new left.final.0.views
+    kept_now = subst (λ z. Kept elsewhere ((n - 96) * 8) key.start z left.final.0.views) headers_are kept_marks.kept
+
+    abbrev its_parts : Parts ((n - 96) * 8) new (slots_items closed.slots)
+    its_parts = parts ((n - 96) * 8) key.start new left.final.0.homes left.final.0.views kept_now kept_marks.shelf left.id v
+        left.final.1.1 left.last (slots_items closed.slots) left.final.4
+
+pub decode_marks-requires-clause-head : goal.decode_marks-requires-clause-head
+decode_marks-requires-clause-head c =
+    let l = c.requires.left in
+    let m = kept_marks l.0 l.1 c.args.closed l.2 c.copy_words.new.words.items c.copy_words.ensures c.len.result
+    (c.len.ensures ∙ c.copy_words.new.words.ok.0) in
+    head_fits _ _ _ _ _ m
+
+pub decode_marks-requires-clause-marks : goal.decode_marks-requires-clause-marks
+decode_marks-requires-clause-marks c =
+    let l = c.requires.left in
+    let m = kept_marks l.0 l.1 c.args.closed l.2 c.copy_words.new.words.items c.copy_words.ensures c.len.result
+    (c.len.ensures ∙ c.copy_words.new.words.ok.0) in
+    may_decode_all _ _ _ _ _ m
+
+pub decode_marks-requires-clause-capacity : goal.decode_marks-requires-clause-capacity
+decode_marks-requires-clause-capacity c =
+    let l = c.requires.left in
+    (kept_marks l.0 l.1 c.args.closed l.2 c.copy_words.new.words.items c.copy_words.ensures c.len.result
+    (c.len.ensures ∙ c.copy_words.new.words.ok.0)).kept.lawful.capacity
+
 pub show_bodies-requires-clause-parts : goal.show_bodies-requires-clause-parts
 show_bodies-requires-clause-parts c =
-    let left = c.requires.left.2 in
-    let key : Key = c.requires.left.0 in
-    let v : View = c.requires.left.1 in
-    let final = left.final in
-    let r = final.1.0.0 in
-    let ws : List ℕ = slots_items c.args.closed.words in
-    let copied : length c.copy_words.new.words.items ≡ length ws = ap length c.copy_words.ensures in
-    let long : c.len.result ≡ ring_words key.capacity = c.len.ensures ∙ c.copy_words.new.words.ok.0 ∙ copied
-    ∙ ap length (sym final.2) ∙ r.memory.wide in
-    let e : key.capacity ≡ (c.len.result - 96) * 8 = capacity_of key.capacity c.len.result r.lawful.capacity long in
-    parts ((c.len.result - 96) * 8) key.start ws final.0.homes final.0.views
-    (subst (λ (z : ℕ × List ℕ). Kept elsewhere z.0 key.start z.1 final.0.views) (λ i. (e i, final.2 i)) r)
-    (subst (λ (z : ℕ). IsShelf z final.0.homes final.0.views) e final.1.0.1) left.id v final.1.1
-    left.last (slots_items c.args.closed.slots) final.4
+    let l = c.requires.left in
+    its_parts l.0 l.1 c.args.closed l.2 c.copy_words.new.words.items c.copy_words.ensures c.len.result
+    (c.len.ensures ∙ c.copy_words.new.words.ok.0) c.decode_marks.new.words.items
+    (sym c.decode_marks.new.words.ok.0 ∙ c.decode_marks.ensures.long ∙ c.copy_words.new.words.ok.0)
+    c.decode_marks.ensures.headers c.decode_marks.ensures.trailer
 
 pub returns : goal.returns
 returns c = λ key v left.
-    let final = left.final in
-    let r = final.1.0.0 in
-    let ws : List ℕ = slots_items c.args.closed.words in
-    let copied : length c.copy_words.new.words.items ≡ length ws = ap length c.copy_words.ensures in
-    let long : c.len.result ≡ ring_words key.capacity = c.len.ensures ∙ c.copy_words.new.words.ok.0 ∙ copied
-    ∙ ap length (sym final.2) ∙ r.memory.wide in
-    let e : key.capacity ≡ (c.len.result - 96) * 8 = capacity_of key.capacity c.len.result r.lawful.capacity long in
-    let kept = subst (λ (z : ℕ × List ℕ). Kept elsewhere z.0 key.start z.1 final.0.views) (λ i. (e i, final.2 i)) r in
-    let shelf = subst (λ (z : ℕ). IsShelf z final.0.homes final.0.views) e final.1.0.1 in
+    let n : ℕ = c.len.result in
+    let copied : List ℕ = c.copy_words.new.words.items in
+    let long = c.len.ensures ∙ c.copy_words.new.words.ok.0 in
+    let new : List ℕ = c.decode_marks.new.words.items in
+    let wide = sym c.decode_marks.new.words.ok.0 ∙ c.decode_marks.ensures.long ∙ c.copy_words.new.words.ok.0 in
+    let e = cap_is key v c.args.closed left copied c.copy_words.ensures n long in
+    let m = kept_marks key v c.args.closed left copied c.copy_words.ensures n long in
+    let kept = kept_now key v c.args.closed left copied c.copy_words.ensures n long new wide c.decode_marks.ensures.headers
+    c.decode_marks.ensures.trailer in
+    let t = its_parts key v c.args.closed left copied c.copy_words.ensures n long new wide c.decode_marks.ensures.headers
+    c.decode_marks.ensures.trailer in
     let xs : List ℕ = slots_items c.args.closed.slots in
     let closed : IsClosed key.capacity key.start c.show_bodies.new.words.items v =
     subst (λ (z : ℕ). IsClosed z key.start c.show_bodies.new.words.items v) (sym e)
-    (closed_slots ((c.len.result - 96) * 8) key.start ws final.0.homes final.0.views kept shelf left.id
-    v final.1.1 left.last xs final.4 c.show_bodies.new.words.items
-    (c.show_bodies.ensures (parts ((c.len.result - 96) * 8) key.start ws final.0.homes final.0.views kept shelf
-    left.id v final.1.1 left.last xs final.4))) in (
+    (closed_slots ((n - 96) * 8) key.start new left.final.0.homes left.final.0.views kept m.shelf left.id
+    v left.final.1.1 left.last xs left.final.4 c.show_bodies.new.words.items (c.show_bodies.ensures t)) in (
       closed,
       leaves_rest key.capacity key.start _ _ closed
           (none_open v.producer.claims left.last.none_open).1 left.last.none_cleared,

@@ -1,8 +1,11 @@
-use Rattle.std.proofs.Common.{◌≡◌, ℕ, ◌+◌, List, [], sym, refl, ap, ◌∙◌, subst, arith}
+use Rattle.std.proofs.Common.{◌≡◌, ℕ, ◌+◌, ◌≤◌, List, [], length, sym, refl, ap, ◌∙◌, subst, arith}
+use Rattle.ring_layout.specs.declared.message.Message.{Message}
+use Rattle.ring_layout.specs.Headers.{committed_header}
 use Rattle.ring_layout.specs.History.{overwritten}
 use Rattle.ring_layout.specs.Places.{index}
 use Rattle.ring_layout.proofs.WordBytes.{length-overwritten}
-use Rattle.ring_table.specs.Staged.{StagedClaim}
+use Rattle.ring_table.specs.Staged.{StagedClaim, headed, slot_bytes}
+use Rattle.ring_table.proofs.SlotBytes.{headed_put, length_slot, small_slot}
 use Rattle.ring_table.specs.Changes.{with_body}
 use Rattle.ring_table.specs.Filling.{Takes}
 use Rattle.ring_table.specs.Passing.{placed_message}
@@ -15,24 +18,33 @@ use Rattle.ring_table.proofs.SlotBodies.{body_given}
 use Rattle.ring_table.proofs.putting.put_slots.Goals.{After-word_index-first}
 use Rattle.ring_table.proofs.putting.put_slots.Goals as goal
 
--- the slots that were taken have the claim's body
-taken : (c : After-word_index-first) → Takes (c.word_index-first.result + 1) c.args.len
-    c.requires.claim.claim.message.body c.take_body.new.producer.me.1
+-- bytes put over those of the body leave the header, since the length stays
+put_over : (m : Message) (offset : ℕ) (bytes : List ℕ) → offset + length bytes ≤ length m.body
+    → overwritten (8 + offset) bytes (slot_bytes m)
+    ≡ slot_bytes (record { type_id = m.type_id; body = overwritten offset bytes m.body })
+put_over m offset bytes room =
+    headed_put (committed_header m.type_id (length m.body)) offset bytes m.body
+    ∙ ap (λ n. headed (committed_header m.type_id n) (overwritten offset bytes m.body))
+    (sym (length-overwritten offset bytes m.body room))
+
+-- the slots that were taken have the claim's record
+taken : (c : After-word_index-first) → Takes c.word_index-first.result (8 + c.args.len)
+    (slot_bytes c.requires.claim.claim.message) c.take_body.new.producer.me.1
 taken c =
     let s = c.requires.seat in
     let h = c.requires.claim in
     let t = c.take_body.ensures.takes h.nth h.claim h.there h.holds.stage
     (λ i. index (s.view_is i) (h.at_place i)) in
     record {
-      has = subst (λ i. HasBody (i + 1) h.claim.message.body c.take_body.new.producer.me.1)
+      has = subst (λ i. HasBody i (slot_bytes h.claim.message) c.take_body.new.producer.me.1)
           (sym c.word_index-first.ensures) t.1;
-      bytes = t.2;
-      long = h.holds.len_is;
+      bytes = small_slot h.claim.message t.2;
+      long = length_slot h.claim.message ∙ ap (λ n. 8 + n) h.holds.len_is;
     }
 
 pub merge_slots-requires-clause-takes : goal.merge_slots-requires-clause-takes
 merge_slots-requires-clause-takes c = (
-  c.requires.claim.claim.message.body,
+  slot_bytes c.requires.claim.claim.message,
   taken (goal.at.merge_slots-requires-clause-takes c).After-word_index-first,
 )
 
@@ -56,11 +68,13 @@ give_body-requires-clause-body c =
         there = subst (λ (v : View). HasClaim v h.nth h.claim) (sym same) h.there;
         stage = h.holds.stage;
         at_place = h.at_place;
+        type_is = refl;
         long = refl;
         same_length = length-overwritten c.args.offset bytes old (omega arith);
         bytes = small_put c.args.offset bytes old (omega arith) (λ j. omega (arith, c.type_inv.bytes j)) t.2;
-        slots = subst (λ i. HasBody (i + 1) (overwritten c.args.offset bytes old) c.merge_slots.new.seat.me.1)
-            c.word_index-first.ensures (c.merge_slots.ensures.has old takes);
+        slots = subst (λ (z : ℕ × List ℕ). HasBody z.0 z.1 c.merge_slots.new.seat.me.1)
+            (λ i. (c.word_index-first.ensures i, put_over h.claim.message c.args.offset bytes (omega arith) i))
+            (c.merge_slots.ensures.has (slot_bytes h.claim.message) takes);
       },
     )
 
@@ -79,7 +93,8 @@ returns-clause-view c k d has at =
     let given = c.give_body.ensures.gives.1 (placed_message h.claim) _ new (ap (λ (z : View). z.out) same)
     (length-overwritten c.args.offset bytes old (omega arith))
     (small_put c.args.offset bytes old (omega arith) (λ j. omega (arith, c.type_inv.bytes j)) t.2)
-    (c.merge_slots.ensures.has old takes) in
+    (subst (λ z. HasBody c.word_index-first.result z c.merge_slots.new.seat.me.1)
+    (put_over h.claim.message c.args.offset bytes (omega arith)) (c.merge_slots.ensures.has (slot_bytes h.claim.message) takes)) in
     let told = body_given v c.give_body.new.producer.me.0 (placed_message h.claim) c.args.place (with_body new)
     s.home h.at_place (given ∙ ap (λ (z : View). with_out [] (with_changed h.claim.place (with_body new) z)) same) in
     let one : h.claim ≡ d = one_claim v.producer.claims h.nth k h.claim d c.take_body.ensures.rising h.there has

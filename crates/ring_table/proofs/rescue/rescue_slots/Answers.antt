@@ -1,133 +1,143 @@
-use Rattle.std.proofs.Common.{◌≡◌, ℕ, ◌+◌, ◌/◌, ◌≤◌, List, length, slice_index, sym, ap, ◌∙◌, subst, arith}
+use Rattle.std.proofs.Common.{◌≡◌, ℕ, ◌/◌, ◌≤◌, ◌<◌, List, [], length, slice_index, true, sym, ◌∙◌, subst, arith}
+use mathlib.Core.Option.{Option, some}
+use lib.ListN.{get_elem?}
 use Rattle.std.specs.Slots.{slots_items}
 use Rattle.ring_layout.specs.Layout.{head_index, tail_index}
-use Rattle.ring_table.specs.Refilling.{MayFill}
+use Rattle.ring_layout.specs.Places.{IsCapacity}
+use Rattle.ring_table.specs.Marks.{IsDecoded, KeepsMarks}
+use Rattle.ring_table.specs.Refilling.{MayFill, Filled}
 use Rattle.ring_table.specs.Owners.{OwnedHistory}
 use Rattle.ring_table.specs.Rescued.{KeptWith, Rescues, Settles, ShowsClaims}
-use Rattle.ring_table.specs.Rule.{Kept}
-use Rattle.ring_table.specs.Shelf.{IsShelf}
-use Rattle.ring_table.specs.Staged.{elsewhere, in_words, StagedClaim}
+use Rattle.ring_table.specs.Staged.{elsewhere, in_words, shown_header, StagedClaim}
 use Rattle.ring_table.specs.Views.{View}
 use Rattle.ring_table.proofs.BlankLemmas.{all_blanked, shows_blanked}
-use Rattle.ring_table.proofs.RescueLemmas.{left, rescues, shows_left}
-use Rattle.ring_table.proofs.SlotsRescue.{body_at, may_fill_left, settles_left}
+use Rattle.ring_table.proofs.LastMarks.{head_fits, may_decode_all, shows_decoded}
+use Rattle.ring_table.proofs.RescueLemmas.{rescues, shows_left}
+use Rattle.ring_table.proofs.SlotsRescue.{body_at, heads_it, may_fill_left, settles_left, the_filled}
 use Rattle.ring_table.proofs.rescue.rescue_slots.Goals as goal
+
+-- what the consumer's seat knows of the last state
+module _ (C start : ℕ) (words : List ℕ) (homes : List (Option ℕ)) (views : List View)
+    (m : KeepsMarks C start words homes views) (id : ℕ) (v : View) (at : get_elem? views id ≡ some v)
+    (consumes : v.consumes ≡ true) (rests : v.consumer.cleared ≡ v.consumer.head) where
+  module _ (bare : v.out ≡ []) (xs : List ℕ)
+      (values : (i y : ℕ) → get_elem? homes i ≡ some (some y) → get_elem? xs i ≡ some y) (new one : List ℕ)
+      (decodes : IsDecoded C (slice_index words (head_index C)) xs words new)
+      (trailer : (i : ℕ) → C / 8 ≤ i → slice_index new i ≡ slice_index words i)
+      (formatted : (i : ℕ) → i < C / 8 → slice_index one i ≡ shown_header elsewhere (slice_index new i))
+      (same : (i : ℕ) → C / 8 ≤ i → slice_index one i ≡ slice_index new i) where
+    abbrev cs : List StagedClaim
+    cs = the_filled C start m.headers homes views m.kept m.shelf id v at consumes rests bare xs values
+
+    shows_one : ShowsClaims in_words C one (all_blanked cs)
+    shows_one = shows_blanked C new one cs m.kept.lawful.capacity formatted same
+        (shows_decoded C start words homes views m new xs _
+        (shows_left elsewhere C start m.headers views m.kept id v at consumes rests) decodes trailer
+        (heads_it C start m.headers homes views m.kept m.shelf id v at consumes rests bare xs values))
+
+    module _ (two : List ℕ) (claims silent : ℕ) (after : (i : ℕ) → C / 8 ≤ i → slice_index two i ≡ slice_index one i)
+        (k : Settles C (slice_index one (head_index C)) (all_blanked cs) two claims silent) where
+      e1 : slice_index one (head_index C) ≡ slice_index m.headers (head_index C)
+      e1 = same (head_index C) (omega arith) ∙ trailer (head_index C) (omega arith)
+          ∙ m.encodes.trailer (head_index C) (omega arith)
+
+      t2 : slice_index two (tail_index C) ≡ slice_index m.headers (tail_index C)
+      t2 = after (tail_index C) (omega arith) ∙ same (tail_index C) (omega arith) ∙ trailer (tail_index C) (omega arith)
+          ∙ m.encodes.trailer (tail_index C) (omega arith)
+
+      fills : MayFill C xs (body_at cs) k.now two
+      fills = may_fill_left C start m.headers homes views m.kept m.shelf id v at consumes rests bare xs values one two e1
+          (after (head_index C) (omega arith)) t2 claims silent k
+
+      rescued : (three : List ℕ) → length three ≡ length words
+          → ((i : ℕ) → C / 8 ≤ i → slice_index three i ≡ slice_index two i)
+          → Filled C (slice_index two (head_index C)) (body_at cs) k.now three
+          → Rescues C start v m.kept.hist m.kept.drawn three claims silent
+      rescued three long last f = rescues elsewhere C start m.headers views m.kept id v at consumes rests three claims silent
+          (long ∙ m.encodes.wide)
+          (λ i far. last i far ∙ after i far ∙ same i far ∙ trailer i far ∙ m.encodes.trailer i far)
+          (settles_left C start m.headers homes views m.kept m.shelf id v at consumes rests bare xs values one two e1
+          (after (head_index C) (omega arith)) t2 claims silent k three f)
+
+pub decode_marks-requires-clause-capacity : goal.decode_marks-requires-clause-capacity
+decode_marks-requires-clause-capacity c =
+    let l = c.requires.left in
+    subst (λ z. IsCapacity z) l.4 l.2.final.1.0.kept.lawful.capacity
+
+pub decode_marks-requires-clause-head : goal.decode_marks-requires-clause-head
+decode_marks-requires-clause-head c =
+    let l = c.requires.left in
+    let saved = l.2 in
+    let final = saved.final in
+    let m = subst (λ (z : ℕ × List ℕ). KeepsMarks z.0 l.0.start z.1 final.0.homes final.0.views)
+    (λ i. (l.4 i, (final.2 ∙ sym c.copy_words.ensures) i)) final.1.0 in
+    head_fits _ _ _ _ _ m
+
+pub decode_marks-requires-clause-marks : goal.decode_marks-requires-clause-marks
+decode_marks-requires-clause-marks c =
+    let l = c.requires.left in
+    let saved = l.2 in
+    let final = saved.final in
+    let m = subst (λ (z : ℕ × List ℕ). KeepsMarks z.0 l.0.start z.1 final.0.homes final.0.views)
+    (λ i. (l.4 i, (final.2 ∙ sym c.copy_words.ensures) i)) final.1.0 in
+    may_decode_all _ _ _ _ _ m
 
 pub settle_words-unsettled-requires-clause-claims : goal.settle_words-unsettled-requires-clause-claims
 settle_words-unsettled-requires-clause-claims c =
-    let key = c.requires.left.0 in
-    let v : View = c.requires.left.1 in
-    let saved = c.requires.left.2 in
-    let same = c.requires.left.4 in
+    let l = c.requires.left in
+    let saved = l.2 in
     let final = saved.final in
-    let C : ℕ = c.args.capacity in
-    let words : List ℕ = c.copy_words.new.words.items in
-    let one : List ℕ = c.format_headers.new.words.items in
-    let xs : List ℕ = slots_items c.args.closed.slots in
-    let e : final.0.words ≡ words = final.2 ∙ sym c.copy_words.ensures in
-    let kept : Kept elsewhere C key.start words final.0.views =
-    subst (λ (z : ℕ × List ℕ). Kept elsewhere z.0 key.start z.1 final.0.views)
-    (λ i. (same i, e i)) final.1.0.0 in
-    let shelf : IsShelf C final.0.homes final.0.views =
-    subst (λ z. IsShelf z final.0.homes final.0.views) same final.1.0.1 in
-    let rests = saved.rests in
-    let consumes = saved.consumes in
-    let id : ℕ = saved.id in
-    let cs : List StagedClaim = left elsewhere C key.start words final.0.views kept id v final.1.1 consumes rests in
-    let cap = kept.lawful.capacity in
-    let shows1 : ShowsClaims in_words C one (all_blanked cs) =
-    shows_blanked C words one cs cap c.format_headers.ensures.headers c.format_headers.ensures.trailer
-    (shows_left elsewhere C key.start words final.0.views kept id v final.1.1 consumes rests) in
-    (all_blanked cs, shows1)
+    let m = subst (λ (z : ℕ × List ℕ). KeepsMarks z.0 l.0.start z.1 final.0.homes final.0.views)
+    (λ i. (l.4 i, (final.2 ∙ sym c.copy_words.ensures) i)) final.1.0 in (
+      _,
+      shows_one _ _ _ _ _ m saved.id l.1 final.1.1 saved.consumes saved.rests saved.home
+          (slots_items c.args.closed.slots) final.4 _ _ c.decode_marks.ensures.headers c.decode_marks.ensures.trailer
+          c.format_headers.ensures.headers c.format_headers.ensures.trailer,
+    )
 
 pub add_bodies-requires-clause-claims : goal.add_bodies-requires-clause-claims
 add_bodies-requires-clause-claims c =
-    let key = c.requires.left.0 in
-    let v : View = c.requires.left.1 in
-    let saved = c.requires.left.2 in
-    let same = c.requires.left.4 in
+    let l = c.requires.left in
+    let saved = l.2 in
     let final = saved.final in
-    let C : ℕ = c.args.capacity in
-    let words : List ℕ = c.copy_words.new.words.items in
-    let one : List ℕ = c.format_headers.new.words.items in
-    let xs : List ℕ = slots_items c.args.closed.slots in
-    let e : final.0.words ≡ words = final.2 ∙ sym c.copy_words.ensures in
-    let kept : Kept elsewhere C key.start words final.0.views =
-    subst (λ (z : ℕ × List ℕ). Kept elsewhere z.0 key.start z.1 final.0.views)
-    (λ i. (same i, e i)) final.1.0.0 in
-    let shelf : IsShelf C final.0.homes final.0.views =
-    subst (λ z. IsShelf z final.0.homes final.0.views) same final.1.0.1 in
-    let rests = saved.rests in
-    let consumes = saved.consumes in
-    let id : ℕ = saved.id in
-    let cs : List StagedClaim = left elsewhere C key.start words final.0.views kept id v final.1.1 consumes rests in
-    let cap = kept.lawful.capacity in
-    let shows1 : ShowsClaims in_words C one (all_blanked cs) =
-    shows_blanked C words one cs cap c.format_headers.ensures.headers c.format_headers.ensures.trailer
-    (shows_left elsewhere C key.start words final.0.views kept id v final.1.1 consumes rests) in
-    let two : List ℕ = c.settle_words-unsettled.new.words.items in
-    let claims : ℕ = c.settle_words-unsettled.result.claims in
-    let silent : ℕ = c.settle_words-unsettled.result.silent in
-    let k : Settles C (slice_index one (head_index C)) (all_blanked cs) two claims silent =
-    c.settle_words-unsettled.ensures.settles (all_blanked cs) shows1 in
-    let least = cap.least in
-    let e1 : slice_index one (head_index C) ≡ slice_index words (head_index C) =
-    c.format_headers.ensures.trailer (head_index C) (omega arith) in
-    let e2 : slice_index two (head_index C) ≡ slice_index one (head_index C) =
-    c.settle_words-unsettled.ensures.trailer (head_index C) (omega arith) in
-    let t2 : slice_index two (tail_index C) ≡ slice_index words (tail_index C) =
-    c.settle_words-unsettled.ensures.trailer (tail_index C) (omega arith)
-    ∙ c.format_headers.ensures.trailer (tail_index C) (omega arith) in
-    let may : MayFill C xs (body_at cs) k.now two =
-    may_fill_left C key.start words final.0.homes final.0.views kept shelf id v final.1.1 consumes rests
-    saved.home xs final.4 one two e1 e2 t2 claims silent k in
-    (body_at cs, k.now, may)
+    let m = subst (λ (z : ℕ × List ℕ). KeepsMarks z.0 l.0.start z.1 final.0.homes final.0.views)
+    (λ i. (l.4 i, (final.2 ∙ sym c.copy_words.ensures) i)) final.1.0 in
+    let shows = shows_one _ _ _ _ _ m saved.id l.1 final.1.1 saved.consumes saved.rests saved.home
+    (slots_items c.args.closed.slots) final.4 _ _ c.decode_marks.ensures.headers c.decode_marks.ensures.trailer
+    c.format_headers.ensures.headers c.format_headers.ensures.trailer in
+    let k = c.settle_words-unsettled.ensures.settles _ shows in (
+      _,
+      k.now,
+      fills _ _ _ _ _ m saved.id l.1 final.1.1 saved.consumes saved.rests saved.home
+          (slots_items c.args.closed.slots) final.4 _ _ c.decode_marks.ensures.headers c.decode_marks.ensures.trailer
+          c.format_headers.ensures.headers c.format_headers.ensures.trailer _ _ _ c.settle_words-unsettled.ensures.trailer k,
+    )
 
 pub returns : goal.returns
 returns c = λ key v hist drawn saved had same.
     let final = had.final in
     let C : ℕ = c.args.capacity in
     let words : List ℕ = c.copy_words.new.words.items in
-    let one : List ℕ = c.format_headers.new.words.items in
-    let xs : List ℕ = slots_items c.args.closed.slots in
-    let e : final.0.words ≡ words = final.2 ∙ sym c.copy_words.ensures in
-    let keeps : KeptWith elsewhere C key.start hist drawn words final.0.views =
-    subst (λ (z : ℕ × List ℕ). KeptWith elsewhere z.0 key.start hist drawn z.1 final.0.views)
-    (λ i. (same i, e i)) final.1.0.0 in
-    let kept : Kept elsewhere C key.start words final.0.views = keeps.0 in
-    let shelf : IsShelf C final.0.homes final.0.views =
-    subst (λ z. IsShelf z final.0.homes final.0.views) same final.1.0.1 in
-    let rests = saved.rests in
-    let consumes = saved.consumes in
-    let id : ℕ = had.id in
-    let cs : List StagedClaim = left elsewhere C key.start words final.0.views kept id v final.1.1 consumes rests in
-    let cap = kept.lawful.capacity in
-    let shows1 : ShowsClaims in_words C one (all_blanked cs) =
-    shows_blanked C words one cs cap c.format_headers.ensures.headers c.format_headers.ensures.trailer
-    (shows_left elsewhere C key.start words final.0.views kept id v final.1.1 consumes rests) in
-    let two : List ℕ = c.settle_words-unsettled.new.words.items in
+    let keeps : KeptWith elsewhere C key.start hist drawn words final.0.homes final.0.views =
+    subst (λ (z : ℕ × List ℕ). KeptWith elsewhere z.0 key.start hist drawn z.1 final.0.homes final.0.views)
+    (λ i. (same i, (final.2 ∙ sym c.copy_words.ensures) i)) final.1.0 in
+    let m = keeps.0 in
+    let shows = shows_one _ _ _ _ _ m had.id v final.1.1 saved.consumes saved.rests saved.home
+    (slots_items c.args.closed.slots) final.4 _ _ c.decode_marks.ensures.headers c.decode_marks.ensures.trailer
+    c.format_headers.ensures.headers c.format_headers.ensures.trailer in
+    let k = c.settle_words-unsettled.ensures.settles _ shows in
+    let may = fills _ _ _ _ _ m had.id v final.1.1 saved.consumes saved.rests saved.home
+    (slots_items c.args.closed.slots) final.4 _ _ c.decode_marks.ensures.headers c.decode_marks.ensures.trailer
+    c.format_headers.ensures.headers c.format_headers.ensures.trailer _ _ _ c.settle_words-unsettled.ensures.trailer k in
+    let three : List ℕ = c.add_bodies.new.words.items in
     let claims : ℕ = c.settle_words-unsettled.result.claims in
     let silent : ℕ = c.settle_words-unsettled.result.silent in
-    let k : Settles C (slice_index one (head_index C)) (all_blanked cs) two claims silent =
-    c.settle_words-unsettled.ensures.settles (all_blanked cs) shows1 in
-    let least = cap.least in
-    let e1 : slice_index one (head_index C) ≡ slice_index words (head_index C) =
-    c.format_headers.ensures.trailer (head_index C) (omega arith) in
-    let e2 : slice_index two (head_index C) ≡ slice_index one (head_index C) =
-    c.settle_words-unsettled.ensures.trailer (head_index C) (omega arith) in
-    let t2 : slice_index two (tail_index C) ≡ slice_index words (tail_index C) =
-    c.settle_words-unsettled.ensures.trailer (tail_index C) (omega arith)
-    ∙ c.format_headers.ensures.trailer (tail_index C) (omega arith) in
-    let may : MayFill C xs (body_at cs) k.now two =
-    may_fill_left C key.start words final.0.homes final.0.views kept shelf id v final.1.1 consumes rests
-    saved.home xs final.4 one two e1 e2 t2 claims silent k in
-    let three : List ℕ = c.add_bodies.new.words.items in
     subst (λ (z : OwnedHistory × ℕ). Rescues C key.start v z.0 z.1 three claims silent) (λ i. (keeps.1 i, keeps.2 i))
-    (rescues elsewhere C key.start words final.0.views kept id v final.1.1 consumes rests three claims silent
+    (rescued _ _ _ _ _ m had.id v final.1.1 saved.consumes saved.rests saved.home
+    (slots_items c.args.closed.slots) final.4 _ _ c.decode_marks.ensures.headers c.decode_marks.ensures.trailer
+    c.format_headers.ensures.headers c.format_headers.ensures.trailer _ _ _ c.settle_words-unsettled.ensures.trailer k
+    three
     (sym c.add_bodies.new.words.ok.0 ∙ c.add_bodies.ensures.long ∙ c.settle_words-unsettled.ensures.long
-    ∙ c.format_headers.ensures.long ∙ c.copy_words.new.words.ok.0)
-    (λ i far. c.add_bodies.ensures.trailer i far ∙ c.settle_words-unsettled.ensures.trailer i far
-    ∙ c.format_headers.ensures.trailer i far)
-    (settles_left C key.start words final.0.homes final.0.views kept shelf id v final.1.1 consumes rests
-    saved.home xs final.4 one two e1 e2 t2 claims silent k three
-    (c.add_bodies.ensures.filled (body_at cs) k.now may)))
+    ∙ c.format_headers.ensures.long ∙ c.decode_marks.ensures.long ∙ c.copy_words.new.words.ok.0)
+    c.add_bodies.ensures.trailer
+    (c.add_bodies.ensures.filled _ k.now may))

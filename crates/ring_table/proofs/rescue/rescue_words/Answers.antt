@@ -1,4 +1,4 @@
-use Rattle.std.proofs.Common.{◌≡◌, ℕ, ◌/◌, ◌≤◌, List, length, slice_index, sym, ◌∙◌, subst}
+use Rattle.std.proofs.Common.{◌≡◌, ℕ, List, sym, ◌∙◌, subst}
 use Rattle.ring_table.specs.Owners.{OwnedHistory}
 use Rattle.ring_table.specs.Rescued.{KeptWith, Rescues}
 use Rattle.ring_table.specs.Rule.{Kept}
@@ -28,9 +28,9 @@ returns c = λ key v hist drawn saved had same.
     let C : ℕ = c.args.capacity in
     let words : List ℕ = c.copy_words.new.words.items in
     let e : final.0.words ≡ words = final.2 ∙ sym c.copy_words.ensures in
-    let kept : KeptWith in_words C key.start hist drawn words final.0.views =
-    subst (λ (z : ℕ × List ℕ). KeptWith in_words z.0 key.start hist drawn z.1 final.0.views) (λ i. (same i, e i))
-    final.1.0.0 in
+    let kept : KeptWith in_words C key.start hist drawn words final.0.homes final.0.views =
+    subst (λ (z : ℕ × List ℕ). KeptWith in_words z.0 key.start hist drawn z.1 final.0.homes final.0.views) (λ i. (same i, e i))
+    final.1.0 in
     let made : List ℕ = c.settle_words-unsettled.new.words.items in
     let claims : ℕ = c.settle_words-unsettled.result.claims in
     let silent : ℕ = c.settle_words-unsettled.result.silent in

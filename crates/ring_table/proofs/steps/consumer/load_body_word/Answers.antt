@@ -1,13 +1,12 @@
-use Rattle.ring_table.specs.Staged.{in_words}
-use Rattle.std.proofs.Common.{◌≡◌, ap, refl, subst}
-use Rattle.ring_table.specs.Views.{View, logged}
+use Rattle.std.proofs.Common.{◌≡◌, refl, subst}
+use Rattle.ring_table.specs.Views.{logged}
 use Rattle.ring_table.specs.ConsumerSteps.{LoadsBody}
 use Rattle.ring_table.proofs.Calls.{same_seat, record_step, leaves_words, of_as}
 use Rattle.ring_table.proofs.ConsumeLemmas.{loads_body}
 use Rattle.ring_table.proofs.steps.consumer.load_body_word.Goals as goal
 
 pub load-requires : goal.load-requires
-load-requires c = record_step in_words c.requires.seat _ c.args.position _ c.requires.target refl (λ n. n)
+load-requires c = record_step c.requires.seat _ c.args.position _ c.requires.target refl (λ n. n)
     (λ i me n me'. (me'.1 ≡ me.1) × (me'.0 ≡ logged i n me.0) × LoadsBody i me.0 n)
     (λ _ _ t _ _ _. (t.0, leaves_words t.1 refl))
     (loads_body c.args.capacity c.args.ring.now.key.start _ _ _ c.args.consumer.now.me c.requires.seat.view_is

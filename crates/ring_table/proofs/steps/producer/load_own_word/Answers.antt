@@ -1,14 +1,13 @@
-use Rattle.ring_table.specs.Staged.{in_words}
-use Rattle.std.proofs.Common.{◌≡◌, ap, refl, subst}
+use Rattle.std.proofs.Common.{◌≡◌, refl, subst}
 use Rattle.ring_table.specs.Staged.{AreRising}
-use Rattle.ring_table.specs.Views.{View, logged}
+use Rattle.ring_table.specs.Views.{logged}
 use Rattle.ring_table.specs.ProducerSteps.{LoadsOwn}
 use Rattle.ring_table.proofs.Calls.{same_seat, record_step, leaves_words, of_as}
 use Rattle.ring_table.proofs.LoadLemmas.{loads_own}
 use Rattle.ring_table.proofs.steps.producer.load_own_word.Goals as goal
 
 pub load-requires : goal.load-requires
-load-requires c = record_step in_words c.requires _ c.args.position _ c.word_index.ensures refl (λ n. n)
+load-requires c = record_step c.requires _ c.args.position _ c.word_index.ensures refl (λ n. n)
     (λ i me n me'. (me'.1 ≡ me.1) × (me'.0 ≡ logged i n me.0) × LoadsOwn i me.0 n × AreRising me.0.producer.claims)
     (λ _ _ t _ _ _. (t.0, leaves_words t.1 refl))
     (loads_own c.args.capacity c.args.ring.now.key.start _ _ _ c.args.producer.now.me c.requires.view_is)

@@ -1,4 +1,4 @@
-use Rattle.std.proofs.Common.{◌≡◌, ◌≢◌, ◌+◌, ◌/◌, ◌^◌, ◌<◌, ◌≤◌, ℕ, FitsSigned, refl, ap, eqb, arith, subst, sym, length, ◌∙◌, ℤ}
+use Rattle.std.proofs.Common.{◌≡◌, ◌≢◌, ◌+◌, ◌/◌, ◌^◌, ◌<◌, ◌≤◌, ℕ, FitsSigned, refl, ap, eqb, arith, subst, length, ◌∙◌, ℤ}
 use mir.Val.{to_z, of_z}
 use Rattle.std.proofs.lemmas.Int.{to_z-of_z}
 use mathlib.Core.Logic.{dite}
@@ -34,7 +34,7 @@ compare_exchange_with-requires g c =
     c.args.wanted.type_id c.args.wanted.len _ c.requires.room.message.type_fits c.open_header-said.ensures)) in (
       t.0,
       dite (ℕ_discrete n old) (λ hit. leaves_claim g.M.Mode.bodies _ _ _ _ _ (told.hit hit))
-          (λ missed. leaves_same g.M.Mode.bodies (told.miss missed) refl refl refl refl),
+          (λ missed. leaves_same g.M.Mode.bodies (told.miss missed) refl refl refl refl refl),
     ))
     (moves_tail g.M.Mode.bodies c.args.capacity c.args.ring.now.key.start _ _ c.args.producer.now.me c.requires.seat.view_is old new
     c.args.wanted c.open_header-said.result

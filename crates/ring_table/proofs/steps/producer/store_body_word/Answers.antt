@@ -1,4 +1,3 @@
-use Rattle.ring_table.specs.Staged.{in_words}
 use Rattle.std.proofs.Common.{◌≡◌, ◌+◌, sym, ap, ◌∙◌, arith, refl}
 use Rattle.ring_layout.specs.Places.{index}
 use Rattle.ring_table.specs.Staged.{AreRising}
@@ -13,7 +12,7 @@ pub store-requires : goal.store-requires
 store-requires c =
     let s = c.requires.seat in
     let h = c.requires.claim in
-    record_step in_words s _ (c.args.place + 8 + c.args.at) _ c.requires.target (ap (λ p. p + 8 + c.args.at) h.at_place)
+    record_step s _ (c.args.place + 8 + c.args.at) _ c.requires.target (ap (λ p. p + 8 + c.args.at) h.at_place)
     (λ _. c.args.word)
     (λ i me _ me'. (me'.1 ≡ me.1) × StoresBody i c.args.word me.0 me'.0 × AreRising me.0.producer.claims)
     (λ _ w t _ _ _. (

@@ -4,7 +4,6 @@ use Rattle.std.proofs.lemmas.List.{length-replicate}
 use Rattle.ring_layout.specs.Places.{index}
 use Rattle.ring_table.specs.Staged.{Padded, AreRising}
 use Rattle.ring_table.specs.Changes.{with_header}
-use Rattle.ring_table.specs.Views.{View}
 use Rattle.ring_table.specs.ProducerSteps.{StoresClaimed}
 use Rattle.ring_table.proofs.Calls.{same_seat, record_step, after_change, of_as, leaves_words}
 use Rattle.ring_table.proofs.HeaderCalls.{packs_open}
@@ -20,7 +19,7 @@ store-requires c =
     let value : ℕ = c.open_header-header.result in
     let value_is = packs_open value c.args.wanted.len c.args.wanted.type_id c.requires.message.type_fits
     c.open_header-header.ensures in
-    record_step in_words s _ c.args.place _ c.word_index.ensures h.at_place (λ _. value)
+    record_step s _ c.args.place _ c.word_index.ensures h.at_place (λ _. value)
     (λ i me _ me'. (me'.1 ≡ me.1) × StoresClaimed i value me.0 me'.0 × AreRising me.0.producer.claims)
     (λ _ me' t _ _ _. (
       t.0,

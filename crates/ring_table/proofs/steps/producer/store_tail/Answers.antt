@@ -1,5 +1,4 @@
-use Rattle.std.proofs.Common.{◌≡◌, ap, arith, refl}
-use Rattle.ring_table.specs.Views.{View}
+use Rattle.std.proofs.Common.{◌≡◌, arith, refl}
 use Rattle.ring_table.specs.ProducerSteps.{MovesOwnTail}
 use Rattle.ring_table.proofs.Calls.{same_seat, trailer_step, leaves_claim, of_as}
 use Rattle.ring_table.proofs.ClaimLemmas.{moves_own_tail}

@@ -1,6 +1,6 @@
 use Rattle.std.proofs.Common.{refl}
 use Rattle.ring_table.proofs.Calls.{reseated_as}
-use Rattle.ring_table.proofs.CarryLemmas.{lift_consumer_join}
+use Rattle.ring_table.proofs.SeatMarks.{obeys_consumer_join}
 use Rattle.ring_table.proofs.SplitLemmas.{joins_consumer}
 use Rattle.ring_table.proofs.steps.seats.join_consumer.Goals as goal
 
@@ -10,7 +10,7 @@ join_seat-requires g c = (
   c.requires.table.1,
   c.requires.slots.1,
   c.requires.words,
-  lift_consumer_join g.M.Mode.bodies c.args.ring.now.key.capacity c.args.ring.now.key.start _ _ c.requires.slots.0 _ _ c.requires.slots.2
+  obeys_consumer_join g.M.Mode.bodies c.args.ring.now.key.capacity c.args.ring.now.key.start _ _ c.requires.slots.0 _ _ c.requires.slots.2
       c.requires.consumes
       (joins_consumer g.M.Mode.bodies
       c.args.ring.now.key.capacity c.args.ring.now.key.start _ _ _ _ c.requires.consumes c.requires.no_share),

@@ -1,6 +1,6 @@
 use Rattle.std.proofs.Common.{refl}
 use Rattle.ring_table.proofs.Calls.{reseated_as}
-use Rattle.ring_table.proofs.CarryLemmas.{lift_producer_join}
+use Rattle.ring_table.proofs.SeatMarks.{obeys_producer_join}
 use Rattle.ring_table.proofs.SplitLemmas.{joins_producer}
 use Rattle.ring_table.proofs.steps.seats.join_producer.Goals as goal
 
@@ -10,7 +10,7 @@ join_seat-requires g c = (
   c.requires.table.1,
   c.requires.slots.1,
   c.requires.words,
-  lift_producer_join g.M.Mode.bodies c.args.ring.now.key.capacity c.args.ring.now.key.start _ _ c.requires.slots.0 _ _ c.requires.slots.2
+  obeys_producer_join g.M.Mode.bodies c.args.ring.now.key.capacity c.args.ring.now.key.start _ _ c.requires.slots.0 _ _ c.requires.slots.2
       c.requires.produces
       (joins_producer g.M.Mode.bodies
       c.args.ring.now.key.capacity c.args.ring.now.key.start _ _ _ _ c.requires.produces c.requires.share),

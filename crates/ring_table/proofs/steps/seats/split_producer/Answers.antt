@@ -1,6 +1,6 @@
 use Rattle.std.proofs.Common.{refl}
 use Rattle.ring_table.proofs.Calls.{reseated_as}
-use Rattle.ring_table.proofs.CarryLemmas.{lift_producer_split}
+use Rattle.ring_table.proofs.SeatMarks.{obeys_producer_split}
 use Rattle.ring_table.proofs.SplitLemmas.{splits_producer}
 use Rattle.ring_table.proofs.steps.seats.split_producer.Goals as goal
 
@@ -8,7 +8,7 @@ pub split_seat-requires : goal.split_seat-requires
 split_seat-requires g c = (
   c.requires.table,
   c.requires.words,
-  lift_producer_split g.M.Mode.bodies c.args.ring.now.key.capacity c.args.ring.now.key.start _ _ c.requires.home
+  obeys_producer_split g.M.Mode.bodies c.args.ring.now.key.capacity c.args.ring.now.key.start _ _ c.requires.home
       (splits_producer g.M.Mode.bodies c.args.ring.now.key.capacity c.args.ring.now.key.start _ _
       c.requires.shares),
 )

@@ -1,5 +1,5 @@
-use Rattle.std.proofs.Common.{◌≡◌, ap, arith, refl}
-use Rattle.ring_table.specs.Views.{View, with_beat}
+use Rattle.std.proofs.Common.{◌≡◌, arith, refl}
+use Rattle.ring_table.specs.Views.{with_beat}
 use Rattle.ring_table.proofs.Calls.{same_seat, trailer_step, leaves_same, of_as}
 use Rattle.ring_table.proofs.ServeLemmas.{stores_heartbeat}
 use Rattle.ring_table.proofs.steps.service.store_heartbeat.Goals as goal
@@ -7,7 +7,7 @@ use Rattle.ring_table.proofs.steps.service.store_heartbeat.Goals as goal
 pub store-requires : goal.store-requires
 store-requires g c = trailer_step g.M.Mode.bodies c.requires.seat _ 80 (omega arith) c.trailer_word.ensures (λ _. c.args.value)
     (λ _ me _ me'. (me'.1 ≡ me.1) × (me'.0 ≡ with_beat c.args.value me.0))
-    (λ _ _ t _ _ _. (t.0, leaves_same g.M.Mode.bodies t.1 refl refl refl refl))
+    (λ _ _ t _ _ _. (t.0, leaves_same g.M.Mode.bodies t.1 refl refl refl refl refl))
     (stores_heartbeat g.M.Mode.bodies c.args.capacity c.args.ring.now.key.start _ _ c.args.value c.args.consumer.now.me
     c.requires.consumes)
 

@@ -1,7 +1,8 @@
-use Rattle.std.proofs.Common.{◌≡◌, ap, ◌∙◌, sym}
+use Rattle.std.proofs.Common.{ap, sym, refl}
 use Rattle.ring_table.specs.SlotSteps.{LendsBody}
 use Rattle.ring_table.specs.Views.{View}
-use Rattle.ring_table.proofs.SlotCalls.{slot_step, holder}
+use Rattle.ring_table.proofs.SlotCalls.{slot_load, holder}
+use Rattle.ring_table.proofs.MarkSteps.{rests_as}
 use Rattle.ring_table.proofs.OutLemmas.{lends_body}
 use Rattle.ring_table.proofs.steps.slots.lend_body.Goals as goal
 
@@ -9,8 +10,9 @@ pub load-requires : goal.load-requires
 load-requires c =
     let s = c.requires.seat in
     let l = c.requires.last in
-    slot_step s.table_is s.words_are s.key_is s.lawful _ c.args.place _ c.word_index.ensures l.place_is (λ n. n)
-    (λ i me n me'. LendsBody i me me')
+    slot_load s.table_is s.words_are s.key_is s.lawful _ c.args.place _ c.word_index.ensures l.place_is
+    (λ i me'. LendsBody i c.args.consumer.now.me me')
+    (λ me' t. rests_as (t l.front l.message l.got).0 refl refl)
     (lends_body c.args.capacity c.args.ring.now.key.start _ _ c.args.consumer.now.me s.view_is s.home s.none
     c.requires.consumes l.front l.message l.got l.ahead)
 

@@ -1,8 +1,10 @@
-use Rattle.std.proofs.Common.{◌≡◌, ◌+◌, ap, ◌∙◌, sym, subst}
+use Rattle.std.proofs.Common.{ap, sym, subst, refl}
 use Rattle.ring_layout.specs.Places.{index}
 use Rattle.ring_table.specs.SlotSteps.{HasBody, ReturnsBody}
+use Rattle.ring_table.specs.Staged.{slot_bytes}
 use Rattle.ring_table.specs.Views.{View}
-use Rattle.ring_table.proofs.SlotCalls.{slot_step, holder}
+use Rattle.ring_table.proofs.SlotCalls.{slot_load, holder}
+use Rattle.ring_table.proofs.MarkSteps.{rests_as}
 use Rattle.ring_table.proofs.HomeLemmas.{returns_body}
 use Rattle.ring_table.proofs.steps.slots.return_body.Goals as goal
 
@@ -11,11 +13,12 @@ load-requires c =
     let s = c.requires.seat in
     let t = c.requires.last in
     let l = t.last in
-    slot_step s.table_is s.words_are s.key_is s.lawful _ c.args.place _ c.word_index.ensures l.place_is (λ n. n)
-    (λ _ me n me'. ReturnsBody me me')
+    slot_load s.table_is s.words_are s.key_is s.lawful _ c.args.place _ c.word_index.ensures l.place_is
+    (λ _ me'. ReturnsBody c.args.consumer.now.me me')
+    (λ me' r. rests_as (r.1 l.message t.out_is) refl refl)
     (returns_body c.args.capacity c.args.ring.now.key.start _ _ c.args.consumer.now.me s.view_is c.requires.consumes
     l.front l.message l.got l.ahead t.out_is
-    (subst (λ p. HasBody (index c.args.capacity p + 1) l.message.message.body c.args.consumer.now.me.1)
+    (subst (λ p. HasBody (index c.args.capacity p) (slot_bytes l.message.message) c.args.consumer.now.me.1)
     (sym l.place_is) t.slots))
 
 pub returns-clause-seat : goal.returns-clause-seat

@@ -1,9 +1,10 @@
-use Rattle.std.proofs.Common.{◌≡◌, ap, ◌∙◌, sym}
+use Rattle.std.proofs.Common.{ap, ◌∙◌, sym, refl}
 use Rattle.ring_layout.specs.Places.{index}
 use Rattle.ring_table.specs.Staged.{AreRising}
 use Rattle.ring_table.specs.SlotSteps.{TakesBody}
 use Rattle.ring_table.specs.Views.{View}
-use Rattle.ring_table.proofs.SlotCalls.{slot_step, holder}
+use Rattle.ring_table.proofs.SlotCalls.{slot_load, holder}
+use Rattle.ring_table.proofs.MarkSteps.{rests_as}
 use Rattle.ring_table.proofs.OutLemmas.{takes_body}
 use Rattle.ring_table.proofs.steps.slots.take_body.Goals as goal
 
@@ -11,8 +12,9 @@ pub load-requires : goal.load-requires
 load-requires c =
     let s = c.requires.seat in
     let h = c.requires.claim in
-    slot_step s.table_is s.words_are s.key_is s.lawful _ c.args.place _ c.word_index.ensures h.at_place (λ n. n)
-    (λ i me n me'. TakesBody i me me' × AreRising me.0.producer.claims)
+    slot_load s.table_is s.words_are s.key_is s.lawful _ c.args.place _ c.word_index.ensures h.at_place
+    (λ i me'. TakesBody i c.args.producer.now.me me' × AreRising c.args.producer.now.me.0.producer.claims)
+    (λ me' t. rests_as (t.0 h.nth h.claim h.there h.holds (λ x. index (s.view_is x) h.claim.place)).0 refl refl)
     (takes_body c.args.capacity c.args.ring.now.key.start _ _ c.args.producer.now.me s.view_is s.home s.none h.nth
     h.claim h.there h.holds)
 

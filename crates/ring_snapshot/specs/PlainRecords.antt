@@ -1,0 +1,41 @@
+-- The words and the slots of a plain ring with a history. Positions are running byte counts, and C is the capacity of
+-- the buffer.
+use Rattle.std.specs.Prelude.{◌≡◌, ℕ, ◌+◌, ◌%◌, ◌<◌, ◌≤◌, List, [], ◌∷◌, ⊤, slice_index}
+use Rattle.ring_layout.specs.Marks.{padding_kind}
+use Rattle.ring_layout.specs.declared.message.Claim.{Claim}
+use Rattle.ring_layout.specs.History.{span_of}
+use Rattle.ring_layout.specs.Layout.{head_index, tail_index}
+use Rattle.ring_layout.specs.Picture.{claim_word}
+use Rattle.ring_layout.specs.Places.{index, next_place, end_of}
+use Rattle.ring_snapshot.specs.Marks.{HasMark}
+use Rattle.ring_snapshot.specs.RingRecords.{Lie}
+
+-- a plain ring has a claim that comes after e, at this place: the marks of the claim and of the padding before it, and
+-- the words of its body
+pub record HasClaim (C : ℕ) (words slots : List ℕ) (e place : ℕ) (c : Claim) : Type 0 where
+  pub padding : e < place → slice_index words (index C e) ≡ place + padding_kind
+  pub mark : HasMark C words slots place c
+  pub body : (k : ℕ) → k % 8 ≡ 0 → 0 < k → k < span_of c → slice_index slots (index C (place + k)) ≡ claim_word c k
+
+-- the claims come after e, one after another
+abbrev pub HaveClaims : ℕ → List ℕ → List ℕ → ℕ → List Claim → Type 0
+HaveClaims C words slots e [] = ⊤
+HaveClaims C words slots e (c ∷ h) =
+    let place = next_place C e (span_of c) in
+    HasClaim C words slots e place c × HaveClaims C words slots (place + span_of c) h
+
+-- the claims go from the head up to the tail
+pub record ArePlain (C : ℕ) (words slots : List ℕ) (tail head : ℕ) (h : List Claim) : Type 0 where
+  pub aligned : head % 8 ≡ 0
+  pub ends : end_of C head h ≡ tail
+  pub near : tail ≤ head + C
+  pub claims : HaveClaims C words slots head h
+
+-- the words and the slots are those of a plain ring with these claims
+abbrev pub IsPlain : ℕ → List ℕ → List ℕ → List Claim → Type 0
+IsPlain C words slots h =
+    ArePlain C words slots (slice_index words (tail_index C)) (slice_index words (head_index C)) h
+
+-- the new words have these claims between the old head and the old tail
+abbrev pub LiesBetween : ℕ → List ℕ → List ℕ → List Claim → Type 0
+LiesBetween C old new h = Lie C new (slice_index old (tail_index C)) (slice_index old (head_index C)) h

@@ -1,0 +1,261 @@
+-- A step of the rule with headers is one of the rule with marks.
+use Rattle.std.proofs.Common.{◌≡◌, ◌≢◌, ℕ, ◌+◌, ◌-◌, ◌*◌, ◌/◌, ◌%◌, ◌≤◌, ◌<◌, List, [], cond, true, set, slice_index, sym, ap, ◌∙◌, subst, ⊎_elim, lt-ltb, le-ltb, arith}
+use mathlib.Core.Option.{Option, some}
+use mathlib.Core.Logic.{dite}
+use native.Mathlib.Decide.{ℕ_discrete}
+use lib.ListN.{get_elem?}
+use Rattle.std.proofs.lemmas.Bool.{cases_lt}
+use Rattle.std.proofs.lemmas.List.{set-get_or}
+use Rattle.std.proofs.lemmas.Nat.{mod_below}
+use Rattle.atomic_table.specs.Table.{State, Allows, carried_after}
+use Rattle.atomic_table.proofs.Lists.{set_here, set_else}
+use Rattle.ring_layout.specs.Places.{index}
+use Rattle.ring_layout.specs.Layout.{ring_words}
+use Rattle.ring_layout.proofs.Laps.{mod_step, mod_room, mod_aligned}
+use Rattle.ring_layout.proofs.ListLemmas.{at_below}
+use Rattle.ring_table.specs.Staged.{Bodies, in_words, elsewhere, staged_word_at}
+use Rattle.ring_table.specs.Owners.{all_of}
+use Rattle.ring_table.specs.Views.{ConsumerView, View}
+use Rattle.ring_table.specs.Rule.{Kept}
+use Rattle.ring_table.specs.Shelf.{IsShelf}
+use Rattle.ring_table.specs.ProducerSteps.{Mine}
+use Rattle.std.specs.Prelude.{⊤}
+use Rattle.ring_table.specs.Marks.{mark_of, Encodes, KeepsIn, KeepsMarks}
+use Rattle.ring_table.proofs.StagedPlaces.{capacity_aligned}
+use Rattle.ring_table.proofs.StepLemmas.{one_view}
+use Rattle.ring_table.proofs.MemoryLemmas.{index_inside, head_bounds}
+use Rattle.ring_table.proofs.LoadLemmas.{Ok}
+use Rattle.ring_table.proofs.ShelfLemmas.{CarriesIn}
+use Rattle.ring_table.proofs.CarryLemmas.{Holds, lift}
+use Rattle.ring_table.proofs.MarkWords.{IsNear, near_all}
+use Rattle.ring_table.proofs.EncodeLemmas.{encodes_trailer, encodes_mark}
+
+-- each index of the buffer is that of a position in the lap from the head on
+pub record HasIndex (C head i : ℕ) : Type 0 where
+  pub at : ℕ
+  pub whole : at % 8 ≡ 0
+  pub from : head ≤ at
+  pub below : at < head + C
+  pub is : index C at ≡ i
+
+pub position_of : (C head i : ℕ) → 0 < C → C % 8 ≡ 0 → head % 8 ≡ 0 → i < C / 8 → HasIndex C head i
+position_of C head i pos c8 head8 inside =
+    let x : ℕ = head % C in
+    let x_low : x < C = mod_below head C pos in
+    let x8 : x % 8 ≡ 0 = mod_aligned C head c8 head8 in
+    ⊎_elim
+    (λ (before : 8 * i < x).
+    let base : ℕ = head + (C - x) in
+    let zero_there : base % C ≡ 0 = mod_room C head pos in
+    let step : (base + 8 * i) % C ≡ base % C + 8 * i = mod_step C base (8 * i) (omega arith) in
+    record {
+      at = base + 8 * i;
+      whole = omega arith;
+      from = omega arith;
+      below = omega arith;
+      is = omega arith;
+    })
+    (λ (behind : x ≤ 8 * i).
+    let step : (head + (8 * i - x)) % C ≡ x + (8 * i - x) = mod_step C head (8 * i - x) (omega arith) in
+    record {
+      at = head + (8 * i - x);
+      whole = omega arith;
+      from = omega arith;
+      below = omega arith;
+      is = omega arith;
+    })
+    (cases_lt (8 * i) x)
+
+-- what a step leaves of the consumer's part: what is cleared, and the head
+pub record Rests (v w : View) : Type 0 where
+  pub stays : v.consumes ≡ true → w.consumes ≡ true
+  pub cleared : v.consumes ≡ true → w.consumer.cleared ≡ v.consumer.cleared
+  pub head : v.consumes ≡ true → w.consumer.head ≡ v.consumer.head
+
+pub rests_same : {v w : View} → w.consumes ≡ v.consumes → w.consumer ≡ v.consumer → Rests v w
+rests_same kind same = record {
+  stays = λ consumes. kind ∙ consumes;
+  cleared = λ _. ap (λ (z : ConsumerView). z.cleared) same;
+  head = λ _. ap (λ (z : ConsumerView). z.head) same;
+}
+
+-- what a seat's view is after a step, whose consumer's part stays
+pub rests_as : {v w x : View} → w ≡ x → x.consumes ≡ v.consumes → x.consumer ≡ v.consumer → Rests v w
+rests_as {v} {w} {x} is kind same = rests_same {v = v} {w = w} (ap (λ (z : View). z.consumes) is ∙ kind)
+    (ap (λ (z : View). z.consumer) is ∙ same)
+
+module _ (C start : ℕ) where
+  abbrev pub Marked : State ℕ View → Type 0
+  Marked s = KeepsMarks C start s.words s.homes s.views
+
+  -- the state that the rule with headers speaks of
+  abbrev pub with_headers : State ℕ View → List ℕ → State ℕ View
+  with_headers s headers = record { words = headers; homes = s.homes; views = s.views }
+
+  -- a header in the lap from the head on is a word, and shows less than a lap
+  pub header_near : (headers : List ℕ) (views : List View) (r : Kept elsewhere C start headers views) (p : ℕ)
+      → p % 8 ≡ 0 → r.consumer.head ≤ p → p < r.consumer.head + C → IsNear C (slice_index headers (index C p))
+  header_near headers views r p p8 p0 p1 =
+      let m = r.memory in
+      let cap = r.lawful.capacity in
+      let word : ℕ = staged_word_at elsewhere (all_of r.hist) p in
+      let near = near_all C start (all_of r.hist) p cap.least cap.most m.placed in
+      subst (IsNear C) (sym (m.shows p p8 p0 p1)) (⊎_elim
+      (λ (low : p < r.consumer.cleared). subst (IsNear C) (sym (ap (λ b. cond b 0 word) (lt-ltb p r.consumer.cleared low)))
+      (near_all C start [] p cap.least cap.most tt))
+      (λ (high : r.consumer.cleared ≤ p). subst (IsNear C) (sym (ap (λ b. cond b 0 word) (le-ltb p r.consumer.cleared high)))
+      near) (cases_lt p r.consumer.cleared))
+
+  pub header_small : (headers : List ℕ) (views : List View) (r : Kept elsewhere C start headers views) (i : ℕ) → i < C / 8
+      → slice_index headers i < 18446744073709551616
+  header_small headers views r i inside =
+      let cap = r.lawful.capacity in
+      let least = cap.least in
+      let m = r.memory in
+      let bounds = head_bounds elsewhere C start r.lawful headers r.consumer (all_of r.hist) m in
+      let p = position_of C r.consumer.head i (omega arith) (capacity_aligned C cap) bounds.2 inside in
+      subst (λ z. slice_index headers z < 18446744073709551616) p.is
+      (header_near headers views r p.at p.whole p.from p.below).small
+
+  -- the consumer of the rule after a step of the seat id
+  pub rests_after : (headers headers' : List ℕ) (homes : List (Option ℕ)) (views : List View)
+      (r : Kept elsewhere C start headers views) → IsShelf C homes views → (id : ℕ) (v w : View)
+      → get_elem? views id ≡ some v → Rests v w → (r' : Kept elsewhere C start headers' (set views id w))
+      → (r'.consumer.cleared ≡ r.consumer.cleared) × (r'.consumer.head ≡ r.consumer.head)
+  rests_after headers headers' homes views r s id v w at rests r' =
+      let d = s.reader in
+      let was : d.view.consumer ≡ r.consumer = ((r.seated.each d.seat d.view d.there).consumes d.consumes).1 in
+      dite (ℕ_discrete d.seat id)
+      (λ same.
+      let one : d.view ≡ v = one_view views d.seat id d.view v d.there at same in
+      let old : v.consumer ≡ r.consumer = ap (λ (z : View). z.consumer) (sym one) ∙ was in
+      let consumes : v.consumes ≡ true = ap (λ (z : View). z.consumes) (sym one) ∙ d.consumes in
+      let new : w.consumer ≡ r'.consumer =
+      ((r'.seated.each id w (set_here views id w (at_below views id v at))).consumes (rests.stays consumes)).1 in (
+        ap (λ (z : ConsumerView). z.cleared) (sym new) ∙ rests.cleared consumes ∙ ap (λ (z : ConsumerView). z.cleared) old,
+        ap (λ (z : ConsumerView). z.head) (sym new) ∙ rests.head consumes ∙ ap (λ (z : ConsumerView). z.head) old,
+      ))
+      (λ other.
+      let new : d.view.consumer ≡ r'.consumer = ((r'.seated.each d.seat d.view
+      (set_else views id d.seat w other ∙ d.there)).consumes d.consumes).1 in
+      let one : r'.consumer ≡ r.consumer = sym new ∙ was in
+      (ap (λ (z : ConsumerView). z.cleared) one, ap (λ (z : ConsumerView). z.head) one))
+
+  -- ---- steps
+
+  -- at a word of the trailer, which is the same in both
+  pub lift_trailer : (slots id : ℕ) (me : Mine) (i : ℕ) (f : ℕ → ℕ) (told : ℕ → Mine → Type 0) → C / 8 ≤ i
+      → i < ring_words C
+      → ((n : ℕ) (me' : Mine) → told n me' → (s : State ℕ View) → Kept elsewhere C start s.words s.views
+      → get_elem? s.views id ≡ some me.0 → Rests me.0 me'.0)
+      → Allows (Holds elsewhere C start) slots id me i f told → Allows Marked slots id me i f told
+  lift_trailer slots id me i f told far inside rests allows s m wide at small =
+      let r = m.kept in
+      let n : ℕ = slice_index m.headers i in
+      let same : slice_index s.words i ≡ n = m.encodes.trailer i far in
+      let t = allows (with_headers s m.headers) (r, m.shelf) wide at (subst (λ z. z < 18446744073709551616) same small) in
+      let long = r.memory.wide in
+      let r' = t.3.0 in
+      let after = rests_after m.headers (set m.headers i (f n)) s.homes s.views r m.shelf id me.0 t.0 at
+      (rests n (t.0, carried_after me.1 t.1) t.4 (with_headers s m.headers) r at) r' in (
+        t.0,
+        t.1,
+        t.2,
+        record {
+          headers = set m.headers i (f n);
+          kept = r';
+          shelf = t.3.1;
+          none_cleared = after.0 ∙ m.none_cleared ∙ sym after.1;
+          encodes = subst (λ (z : ℕ × ℕ). Encodes C z.0 (set m.headers i (f n)) (set s.words i (f z.1)))
+              (λ k. (sym after.1 k, sym same k))
+              (encodes_trailer C start r.lawful r.consumer.head m.headers s.words m.encodes i (f n) far (omega arith));
+        },
+        subst (λ z. told z (t.0, carried_after me.1 t.1)) (sym same) t.4,
+      )
+
+  -- a load whose number says nothing, at any two words
+  pub lift_load : (slots id : ℕ) (me : Mine) (i j : ℕ) (told : Mine → Type 0) → i < C / 8
+      → ((me' : Mine) → told me' → Rests me.0 me'.0)
+      → Allows (Holds elsewhere C start) slots id me i (λ n. n) (λ _. told)
+      → Allows Marked slots id me j (λ n. n) (λ _. told)
+  lift_load slots id me i j told inside rests allows s m wide at small =
+      let r = m.kept in
+      let t = allows (with_headers s m.headers) (r, m.shelf) wide at (header_small m.headers s.views r i inside) in
+      let headers_are : set m.headers i (slice_index m.headers i) ≡ m.headers = set-get_or m.headers i 0 in
+      let words_are : set s.words j (slice_index s.words j) ≡ s.words = set-get_or s.words j 0 in
+      let views' : List View = set s.views id t.0 in
+      let r' : Kept elsewhere C start m.headers views' = subst (λ l. Kept elsewhere C start l views') headers_are t.3.0 in
+      let after = rests_after m.headers m.headers s.homes s.views r m.shelf id me.0 t.0 at
+      (rests (t.0, carried_after me.1 t.1) t.4) r' in (
+        t.0,
+        t.1,
+        t.2,
+        record {
+          headers = m.headers;
+          kept = r';
+          shelf = t.3.1;
+          none_cleared = after.0 ∙ m.none_cleared ∙ sym after.1;
+          encodes = subst (λ (z : ℕ × List ℕ). Encodes C z.0 m.headers z.1)
+              (λ k. (sym after.1 k, sym words_are k)) m.encodes;
+        },
+        t.4,
+      )
+
+  -- a header of a record in the lap, which is not cleared, is stored, and its mark in the words
+  pub lift_mark : (slots id : ℕ) (me : Mine) (q h mark : ℕ) (told : Mine → Type 0)
+      → ((s : State ℕ View) (r : Kept elsewhere C start s.words s.views) → get_elem? s.views id ≡ some me.0
+      → (q % 8 ≡ 0) × (r.consumer.cleared ≤ q) × (q < r.consumer.head + C) × (mark ≡ mark_of q h))
+      → h ≢ 0
+      → ((me' : Mine) → told me' → Rests me.0 me'.0)
+      → Allows (Holds elsewhere C start) slots id me (index C q) (λ _. h) (λ _. told)
+      → Allows Marked slots id me (index C q) (λ _. mark) (λ _. told)
+  lift_mark slots id me q h mark told lies full rests allows s m wide at small =
+      let r = m.kept in
+      let i : ℕ = index C q in
+      let inside = index_inside elsewhere C start r.lawful q in
+      let there = lies (with_headers s m.headers) r at in
+      let low = there.1 in
+      let near = there.2 in
+      let t = allows (with_headers s m.headers) (r, m.shelf) wide at (header_small m.headers s.views r i inside) in
+      let long = r.memory.wide in
+      let r' = t.3.0 in
+      let none = m.none_cleared in
+      let after = rests_after m.headers (set m.headers i h) s.homes s.views r m.shelf id me.0 t.0 at
+      (rests (t.0, carried_after me.1 t.1) t.4) r' in (
+        t.0,
+        t.1,
+        t.2,
+        record {
+          headers = set m.headers i h;
+          kept = r';
+          shelf = t.3.1;
+          none_cleared = after.0 ∙ m.none_cleared ∙ sym after.1;
+          encodes = subst (λ z. Encodes C z (set m.headers i h) (set s.words i mark)) (sym after.1)
+              (encodes_mark C start r.lawful r.consumer.head m.headers s.words m.encodes q h mark there.0 (omega arith)
+              near (omega arith) full there.3);
+        },
+        t.4,
+      )
+
+-- ---- both rules
+
+abbrev pub Obeys : Bodies → ℕ → ℕ → State ℕ View → Type 0
+Obeys B C start s = KeepsIn B C start s.words s.homes s.views
+
+abbrev pub RestsIn : Bodies → View → View → Type 0
+RestsIn in_words v w = ⊤
+RestsIn elsewhere v w = Rests v w
+
+-- a step that takes and gives no slots, at a word of the trailer
+pub lift_any : (B : Bodies) (C start slots id : ℕ) (me : Mine) (i : ℕ) (f : ℕ → ℕ) (told : ℕ → Mine → Type 0) → C / 8 ≤ i
+    → i < ring_words C → me.0.out ≡ []
+    → ((n : ℕ) (me' : Mine) → told n me' → (s : State ℕ View) → Ok B C start s → get_elem? s.views id ≡ some me.0
+    → (me'.1 ≡ me.1) × (me'.0.out ≡ me.0.out) × CarriesIn B me.0 me'.0 × RestsIn B me.0 me'.0)
+    → Allows (Ok B C start) slots id me i f told → Allows (Obeys B C start) slots id me i f told
+lift_any in_words C start slots id me i f told far inside none carries allows =
+    lift in_words C start slots id me i f told none
+    (λ n me' t s r at. let c = carries n me' t s r at in (c.0, c.1, tt)) allows
+lift_any elsewhere C start slots id me i f told far inside none carries allows =
+    lift_trailer C start slots id me i f told far inside (λ n me' t s r at. (carries n me' t s r at).3)
+    (lift elsewhere C start slots id me i f told none
+    (λ n me' t s r at. let c = carries n me' t s r at in (c.0, c.1, c.2)) allows)
