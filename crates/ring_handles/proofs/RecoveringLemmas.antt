@@ -5,10 +5,9 @@ use Rattle.std.proofs.lemmas.List.FromFn.{length-map-range_with_len}
 use Rattle.std.proofs.lemmas.Bool.Decides.{nat_tests}
 use Rattle.ring_layout.specs.Layout.{ring_words}
 use Rattle.ring_layout.specs.Lists.{or_else}
-use Rattle.ring_layout.specs.Places.{IsCapacity}
+use Rattle.ring_layout.specs.Places.{IsCapacity, rounded}
 use Rattle.ring_layout.specs.Refusals.{IsRefusedBy}
 use Rattle.ring_counters.specs.Records.{byte_at}
-use Rattle.ring_snapshot.specs.Listing.{up_to_eight}
 use Rattle.ring_snapshot.specs.RingRecords.{is_length, length_in, positions_finding, type_in}
 use Rattle.ring_snapshot.specs.declared.ring_finding.RingFinding.{RingFinding}
 use Rattle.ring_snapshot.specs.declared.ring_finding.RingFinding.TheVariants.{BadBodies, BadLength, BadSize, BadType, TailBeforeHead, TailTooFar, UnalignedPosition}
@@ -42,7 +41,7 @@ first_fits at most all m ms is h =
     omega (arith, laid_end_least (at + span_in (length m.body)) ms)
 
 -- each message takes as much as its record and one word more
-pub span_within : (n : ℕ) → 8 ≤ n → span_in (n - 8) ≤ 2 * up_to_eight n
+pub span_within : (n : ℕ) → 8 ≤ n → span_in (n - 8) ≤ 2 * rounded n
 span_within n least = omega arith
 
 -- one message more, or not
@@ -69,7 +68,7 @@ passes false true typed f g e = (refl, refl)
 -- a header without a finding begins at the end of the record before it, or above, and its record ends at or below the
 -- tail
 header_ends : (C tail end p w : ℕ) → header_finding C tail end p w ≡ None
-    → (end ≤ p) × (8 ≤ bytes_in w) × (p + up_to_eight (bytes_in w) ≤ tail)
+    → (end ≤ p) × (8 ≤ bytes_in w) × (p + rounded (bytes_in w) ≤ tail)
 header_ends C tail end p w none =
     let pass = passes (nat_lt p end) (is_length C tail p (bytes_in w)) (is_type (length_in w) (type_in w))
     (BadLength (p % C) (length_in w)) (BadType (p % C) (type_in w)) none in
@@ -84,13 +83,13 @@ headers_within : (C tail end : ℕ) (slots : List ℕ) (hs : List (ℕ × ℕ)) 
 headers_within C tail end slots [] used order none = omega arith
 headers_within C tail end slots (h ∷ hs) used order none =
     let n : ℕ = bytes_in h.1 in
-    let next : ℕ = h.0 + up_to_eight n in
+    let next : ℕ = h.0 + rounded n in
     let m : RecoveredMessage = message_at C slots h.0 h.1 in
     let parts = both_none (header_finding C tail end h.0 h.1) (headers_finding C tail next hs) none in
     let ends = header_ends C tail end h.0 h.1 parts.0 in
     let size : length m.body ≡ n - 8 = length-map-range_with_len (byte_at slots) (h.0 % C + 8) (n - 8) in
-    let takes : span_in (length m.body) ≤ 2 * up_to_eight n =
-    subst (λ k. span_in k ≤ 2 * up_to_eight n) (sym size) (span_within n ends.1) in
+    let takes : span_in (length m.body) ≤ 2 * rounded n =
+    subst (λ k. span_in k ≤ 2 * rounded n) (sym size) (span_within n ends.1) in
     one_more (is_committed C tail h.0 h.1) m (messages_of C slots tail hs) used (used + 2 * (tail - end))
     (let rest = headers_within C tail next slots hs (used + span_in (length m.body)) ends.2 parts.1 in
     omega arith)

@@ -1,6 +1,7 @@
 pub mod History
 pub mod Places
 pub mod Headers
+pub mod Marks
 pub mod Picture
 pub mod Handles
 pub mod Layout

@@ -1,5 +1,5 @@
 -- The places of claims. Positions are running byte counts, and C is the capacity of the buffer.
-use Rattle.std.specs.Prelude.{ℕ, ◌+◌, ◌-◌, ◌/◌, ◌%◌, ◌^◌, ◌≤◌, List, [], ◌∷◌, if◌then◌else◌, nat_le, Bool, ◌&&◌, IsTrue}
+use Rattle.std.specs.Prelude.{ℕ, ◌+◌, ◌-◌, ◌*◌, ◌/◌, ◌%◌, ◌^◌, ◌≤◌, List, [], ◌∷◌, if◌then◌else◌, nat_le, Bool, ◌&&◌, IsTrue}
 use Rattle.std.specs.Int.{is_power_of_two}
 use Rattle.ring_layout.specs.History.{Claim, span_of}
 
@@ -23,6 +23,10 @@ pub record IsBoardCapacity (C : ℕ) : Type 0 where
 
 abbrev pub max_position : ℕ
 max_position = 2 ^ 62
+
+-- a number of bytes rounded up to a multiple of 8
+abbrev pub rounded : ℕ → ℕ
+rounded n = (n + 7) / 8 * 8
 
 -- the index of the word at a position
 abbrev pub index : ℕ → ℕ → ℕ

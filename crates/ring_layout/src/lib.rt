@@ -2,7 +2,7 @@
 //!
 //! - `ring_buffer_descriptor`, `broadcast_buffer_descriptor`, `counter_descriptor`: the offset of each word. `formats`
 //!   compares the rows of the documented formats with these offsets.
-//! - `record_descriptor`, `word_bytes`: headers of records, and bytes inside words.
+//! - `record_descriptor`, `mark_descriptor`, `word_bytes`: headers of records, kinds of marks, and bytes inside words.
 //! - `capacity`, `placement`, `admission`: the capacities that there are, where a record goes, and whether it may go
 //!   there.
 //! - `make_fault`, `share`, `refusal_codes`: the errors that several crates have, and the number of each.
@@ -15,6 +15,7 @@ mod capacity;
 pub mod counter_descriptor;
 mod formats;
 mod make_fault;
+pub mod mark_descriptor;
 mod message;
 mod picture_law;
 mod placement;

@@ -6,12 +6,11 @@ use Rattle.std.proofs.lemmas.Bool.{cases_lt, cond-true, cond-false}
 use Rattle.ring_layout.specs.declared.message.ClaimState.TheVariants.{Open, Committed, Aborted}
 use Rattle.ring_layout.specs.Headers.{header, header_of, padding_type}
 use Rattle.ring_layout.specs.History.{span}
-use Rattle.ring_layout.specs.Places.{index, next_place, room}
+use Rattle.ring_layout.specs.Places.{index, next_place, room, rounded}
 use Rattle.ring_layout.proofs.CapacityLemmas.{capacity_blocks}
 use Rattle.ring_layout.proofs.HeaderLemmas.{fits_neg, fits_pos}
 use Rattle.ring_layout.proofs.Laps.{index_step, mod_aligned}
 use Rattle.ring_layout.proofs.PlaceLemmas.{next_aligned, next_cases, next_le, next_within, span_bounds}
-use Rattle.ring_snapshot.specs.Listing.{up_to_eight}
 use Rattle.ring_snapshot.specs.RingRecords.{is_length}
 use Rattle.ring_counters.specs.Records.{bytes_at}
 use Rattle.ring_snapshot.proofs.EntryLemmas.{body_told}
@@ -148,7 +147,7 @@ module _ (C tail : ℕ) (slots : List ℕ) (shown : ℕ → ℕ) (e : ℕ) (c : 
       let w : ℕ = header len t in
       let h : IsHeader C tail c.place len t w = record_header len t (abs_neg (8 + n)) (fits_neg (8 + n) small)
       lies.message.type_fits (message_type len) in
-      let ends = ap (λ k. c.place + up_to_eight k) (abs_neg (8 + n)) in
+      let ends = ap (λ k. c.place + rounded k) (abs_neg (8 + n)) in
       record {
         len = len;
         type_id = t;
@@ -284,7 +283,7 @@ module _ (C tail : ℕ) (slots : List ℕ) (shown : ℕ → ℕ) (e : ℕ) (c : 
           let few = pad_is_room.1 in
           let some : 8 ≤ pad = omega (arith, a.aligned, place_aligned, before) in
           let p8 : pad % 8 ≡ 0 = omega (arith, a.aligned, place_aligned, before) in
-          let whole : up_to_eight pad ≡ pad = omega (arith, p8) in
+          let whole : rounded pad ≡ pad = omega (arith, p8) in
           let h : IsHeader C tail e len padding_mark w = record {
             is = refl;
             len_fits = fits_pos pad (omega (arith, few, is, short, a.capacity.most));

@@ -2,9 +2,8 @@
 use Rattle.std.proofs.Common.{◌≡◌, ℕ, ◌+◌, ◌%◌, ◌<◌, ◌≤◌, Bool, true, false, cond, List, [], ◌∷◌, ◌++◌, length, slice_index, refl, sym, ap, ◌∙◌, arith, None, ℤ, nat_abs}
 use Rattle.std.specs.Prelude.{⊤}
 use Rattle.ring_layout.specs.Lists.{or_else}
-use Rattle.ring_layout.specs.Places.{IsCapacity, index}
+use Rattle.ring_layout.specs.Places.{IsCapacity, index, rounded}
 use Rattle.ring_layout.proofs.PlaceLemmas.{next_le}
-use Rattle.ring_snapshot.specs.Listing.{up_to_eight}
 use Rattle.ring_table.specs.Passing.{IsSettled, placed_committed_of}
 use Rattle.ring_table.specs.Rescued.{unsettled_count}
 use Rattle.ring_table.specs.Staged.{elsewhere, ArePlaced, body_word, claim_end, masked_record, staged_end, staged_span, staged_word_at}
@@ -53,7 +52,7 @@ module _ (C tail : ℕ) (slots : List ℕ) where
     pub len : ℤ
     pub type_id : ℤ
     pub «header» : IsHeader C tail p len type_id w
-    pub ends : p + up_to_eight (nat_abs len) ≤ end
+    pub ends : p + rounded (nat_abs len) ≤ end
     pub messages : all_placed (cond (is_committed C tail p w) (message_at C slots p w ∷ []) []) ≡ ms
     pub claims : cond (is_open w) 1 0 ≡ k
 
@@ -68,11 +67,11 @@ module _ (C tail : ℕ) (slots : List ℕ) where
             ∙ (λ i. a.messages i ++ g.messages i) ∙ sym sees;
         claims = (λ i. a.claims i + g.claims i) ∙ sym waits;
         none = λ low le.
-            let next = ap (λ n. p + up_to_eight n) (bytes_are C tail p a.len a.type_id w h) in
+            let next = ap (λ n. p + rounded n) (bytes_are C tail p a.len a.type_id w h) in
             let ends = a.ends in
-            ap (λ x. or_else x (headers_finding C tail (p + up_to_eight (bytes_in w)) hs))
+            ap (λ x. or_else x (headers_finding C tail (p + rounded (bytes_in w)) hs))
             (no_finding C tail p a.len a.type_id w h low le)
-            ∙ g.none (p + up_to_eight (bytes_in w)) (omega (arith, next, ends));
+            ∙ g.none (p + rounded (bytes_in w)) (omega (arith, next, ends));
       }
 
 -- ---- claims that are found

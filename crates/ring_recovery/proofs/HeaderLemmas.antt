@@ -5,9 +5,8 @@ use Rattle.std.specs.Int.{w32}
 use Rattle.std.proofs.lemmas.Bool.{cond-true, cond-false}
 use Rattle.std.proofs.lemmas.Int.{ints}
 use Rattle.ring_layout.specs.Headers.{header}
-use Rattle.ring_layout.specs.Places.{room}
+use Rattle.ring_layout.specs.Places.{room, rounded}
 use Rattle.ring_layout.proofs.HeaderLemmas.{len_of-header, type_of-header}
-use Rattle.ring_snapshot.specs.Listing.{up_to_eight}
 use Rattle.ring_snapshot.specs.RingRecords.{is_length, length_in, type_in}
 use Rattle.ring_recovery.specs.Headers.{bytes_in, header_finding, is_committed, is_open, is_type}
 
@@ -20,7 +19,7 @@ pub record IsHeader (C tail p : ℕ) (len type_id : ℤ) (w : ℕ) : Type 0 wher
   pub inside : is_length C tail p (nat_abs len) ≡ true
   pub typed : is_type len type_id ≡ true
 
-pub length_fits : (C tail at n : ℕ) → 8 ≤ n → n ≤ 8 + C / 8 → up_to_eight n ≤ room C at → at + up_to_eight n ≤ tail
+pub length_fits : (C tail at n : ℕ) → 8 ≤ n → n ≤ 8 + C / 8 → rounded n ≤ room C at → at + rounded n ≤ tail
     → is_length C tail at n ≡ true
 length_fits C tail at n a b c d = grind (arith, a, b, c, d)
 

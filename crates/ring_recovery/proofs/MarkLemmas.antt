@@ -4,12 +4,13 @@ use Rattle.std.proofs.Common.{◌≡◌, ◌≢◌, ℕ, ◌+◌, ◌-◌, ◌*�
 use mathlib.Core.Logic.{dite}
 use native.Mathlib.Decide.{ℕ_discrete}
 use Rattle.std.proofs.lemmas.Bool.{cases_lt, cond-true, cond-false, le-leb, lt-leb}
+use Rattle.ring_layout.specs.Marks.{open_kind}
 use Rattle.ring_layout.specs.declared.message.ClaimState.TheVariants.{Open, Committed, Aborted}
 use Rattle.ring_layout.specs.declared.message.Message.{Message}
 use Rattle.ring_layout.specs.Headers.{committed_header, header_of}
 use Rattle.ring_layout.specs.History.{IsMessage, span}
 use Rattle.ring_layout.specs.Places.{IsCapacity, index}
-use Rattle.ring_table.specs.Marks.{bytes_of, decoded, mark_of, open_kind}
+use Rattle.ring_table.specs.Marks.{bytes_of, decoded, mark_of}
 use Rattle.ring_table.specs.Passing.{IsSettled}
 use Rattle.ring_table.specs.Staged.{elsewhere, ArePlaced, claim_end, masked_record, stage_state, staged_word, staged_word_at}
 use Rattle.ring_table.specs.declared.claim.Stage.{Stage}

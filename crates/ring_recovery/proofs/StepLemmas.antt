@@ -4,9 +4,9 @@ use Rattle.std.proofs.Common.{◌≡◌, ℕ, suc, ◌+◌, ◌-◌, ◌/◌, �
 use mathlib.Core.Logic.{dite}
 use native.Mathlib.Decide.{ℕ_discrete}
 use Rattle.std.proofs.lemmas.Bool.{cond-true, cond-false}
+use Rattle.ring_layout.specs.Places.{rounded}
 use Rattle.ring_layout.specs.Lists.{or_else}
 use Rattle.ring_layout.specs.Refusals.{IsRefusedBy}
-use Rattle.ring_snapshot.specs.Listing.{up_to_eight}
 use Rattle.ring_snapshot.specs.RingRecords.{positions_finding}
 use Rattle.ring_snapshot.specs.declared.ring_finding.RingFinding.{RingFinding}
 use Rattle.ring_snapshot.specs.declared.ring_finding.RingFinding.TheVariants.{BadBodies}
@@ -48,16 +48,16 @@ not_refused_by {T} {F} x v none = subst (λ y. IsRefusedBy {T = T} {F = F} y (Ok
 
 module _ (C tail end p w : ℕ) (hs : List (ℕ × ℕ)) (r : Result ℕ RingFinding)
     (refused : IsRefusedBy (header_finding C tail end p w) r) where
-  pub goes_on : (e : ℕ) → r ≡ Ok e → e ≡ p + up_to_eight (bytes_in w)
+  pub goes_on : (e : ℕ) → r ≡ Ok e → e ≡ p + rounded (bytes_in w)
       → headers_finding C tail end ((p, w) ∷ hs) ≡ headers_finding C tail e hs
   goes_on e ok is =
-      ap (λ x. or_else x (headers_finding C tail (p + up_to_eight (bytes_in w)) hs))
+      ap (λ x. or_else x (headers_finding C tail (p + rounded (bytes_in w)) hs))
       (none_if_ok (header_finding C tail end p w) r e ok refused)
       ∙ ap (λ k. headers_finding C tail k hs) (sym is)
 
   pub stops : (f : RingFinding) → r ≡ Err f → headers_finding C tail end ((p, w) ∷ hs) ≡ Some f
   stops f err =
-      ap (λ x. or_else x (headers_finding C tail (p + up_to_eight (bytes_in w)) hs))
+      ap (λ x. or_else x (headers_finding C tail (p + rounded (bytes_in w)) hs))
       (some_if_err (header_finding C tail end p w) r f err refused)
 
 -- ---- a message

@@ -4,9 +4,8 @@ use Rattle.std.specs.Prelude.{ℕ, zero, suc, ◌+◌, ◌-◌, ◌/◌, ◌%◌
 use Rattle.ring_counters.specs.Records.{bytes_at}
 use Rattle.ring_layout.specs.Layout.{head_index, tail_index}
 use Rattle.ring_layout.specs.Lists.{or_else, total}
-use Rattle.ring_layout.specs.Places.{index}
+use Rattle.ring_layout.specs.Places.{index, rounded}
 use Rattle.ring_recovery.specs.declared.message.RecoveredMessage.{RecoveredMessage}
-use Rattle.ring_snapshot.specs.Listing.{up_to_eight}
 use Rattle.ring_snapshot.specs.Marks.{bad_header}
 use Rattle.ring_snapshot.specs.RingRecords.{is_length, length_in, positions_finding, type_in}
 use Rattle.ring_snapshot.specs.declared.ring_finding.RingFinding.{RingFinding}
@@ -89,7 +88,7 @@ header_finding C tail end p w =
 abbrev pub headers_finding : ℕ → ℕ → ℕ → List (ℕ × ℕ) → Option RingFinding
 headers_finding C tail end [] = None
 headers_finding C tail end (h ∷ hs) = or_else (header_finding C tail end h.0 h.1)
-    (headers_finding C tail (h.0 + up_to_eight (bytes_in h.1)) hs)
+    (headers_finding C tail (h.0 + rounded (bytes_in h.1)) hs)
 
 -- Any memory ---------------------------------------------------------------
 

@@ -1,8 +1,7 @@
 //! One header.
 ghost use Rattle.std.specs.Prelude.{◌≡◌, ◌+◌, ◌≤◌, nat_abs, IfOk};
-ghost use Rattle.ring_layout.specs.Places.{IsCapacity};
+ghost use Rattle.ring_layout.specs.Places.{IsCapacity, rounded};
 ghost use Rattle.ring_layout.specs.Refusals.{IsRefusedBy};
-ghost use Rattle.ring_snapshot.specs.Listing.{up_to_eight};
 ghost use Rattle.ring_snapshot.specs.RingRecords.{is_length};
 ghost use Rattle.ring_recovery.specs.Headers.{bytes_in, header_finding, is_open, is_type};
 
@@ -49,7 +48,7 @@ pub(crate) fn check_header(
     requires capacity { IsCapacity capacity }
     requires order { at ≤ tail }
     ensures refused { IsRefusedBy (header_finding capacity tail end at header) result }
-    ensures end { IfOk result (λ e. e ≡ at + up_to_eight (bytes_in header)) }
+    ensures end { IfOk result (λ e. e ≡ at + rounded (bytes_in header)) }
 {
     let index = byte_index(capacity, at) as u32;
     let (len, type_id) = unpack_header(header);

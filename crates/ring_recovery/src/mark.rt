@@ -5,11 +5,10 @@ ghost use Rattle.ring_layout.specs.Layout.{ring_words};
 ghost use Rattle.ring_table.specs.Marks.{bytes_of, kind_of, mark_of};
 ghost use Rattle.ring_recovery.specs.Headers.{has_end, header_of_mark, recovered_header};
 
+use ring_layout::mark_descriptor::{ABORTED_KIND, COMMITTED_KIND, OPEN_KIND, PADDING_KIND};
 use ring_layout::{align8, word_index};
-use ring_table::{ABORTED_KIND, COMMITTED_KIND, OPEN_KIND, PADDING_KIND, decode_mark};
-
-/// The header of a mark that makes no sense. No record has the length 1.
-const BAD_HEADER: u64 = 1;
+use ring_snapshot::BAD_HEADER;
+use ring_table::decode_mark;
 
 /// Tests whether a mark at a position ends at a place that a record or padding may have as its end.
 fn has_end(at: u64, mark: u64) -> bool

@@ -8,10 +8,10 @@ ghost use Rattle.ring_layout.specs.Places.{max_position};
 ghost use Rattle.ring_table.specs.declared.claim.PlacedMessage.{PlacedMessage};
 ghost use Rattle.ring_table.specs.declared.claim.StagedClaim.{StagedClaim};
 ghost use Rattle.ring_table.specs.Changes.{blank, recorded, with_header};
-ghost use Rattle.ring_table.specs.ConsumerSteps.{HasLastAhead, StoresHead, StoresHeadBefore};
 ghost use Rattle.ring_table.specs.declared.view.Key.{Key as TheKey};
 ghost use Rattle.ring_table.specs.declared.view.View.{View};
 ghost use Rattle.ring_table.specs.Closed.{IsClosed, IsLeft, LeavesRest};
+ghost use Rattle.ring_table.specs.ConsumerSteps.{StandsBefore, StoresHead, StoresHeadBefore};
 ghost use Rattle.ring_table.specs.ProducerSteps.{with_changed, HasClaimAt, NeedsHeader};
 ghost use Rattle.ring_table.specs.Owners.{OwnedHistory};
 ghost use Rattle.ring_table.specs.Rescued.{HadHistory, IsSaved, Rescues};
@@ -130,21 +130,29 @@ pub trait Bodies: Headers {
         ensures loads { (m : PlacedMessage) → HasGotLast m seat.old.me.0 → m.place ≡ place
             → length m.message.body ≡ len → LoadsWholeBody capacity m seat.old.me.0 seat.new.me.0 };
 
-    /// Clears what the read has passed, which is up to the position `to`, and stores the head there.
-    fn pass_all(words: &SharedRing<Self>, seat: &mut RingSeat, capacity: u32, head: u64, to: u64)
+    /// Stores the head after all that the read has passed, from the head up to the position `to`. If bodies are in
+    /// words, these words are cleared first.
+    fn store_head(words: &SharedRing<Self>, seat: &mut RingSeat, capacity: u32, head: u64, to: u64)
         requires seat { IsReaderSeatOf words.now.table_id words.now.key capacity seat.old }
-        requires cleared { seat.old.me.0.consumer.cleared ≡ head }
+        requires stands { (seat.old.me.0.consumer.head ≡ head) × (seat.old.me.0.consumer.cleared ≡ head) }
         requires passed { (head ≤ to) × (seat.old.me.0.consumer.scan ≡ to) }
         requires whole { (head % 8 ≡ 0) × (to % 8 ≡ 0) }
         requires inside { IsInBlock capacity head to }
         ensures seat { IsSameSeat seat.old seat.new }
         ensures told { StoresHead seat.old.me.0 seat.new.me.0 };
 
-    /// Does the same up to the last message that the read has got, which is at `to` and stays in the ring.
-    fn pass_before(words: &SharedRing<Self>, seat: &mut RingSeat, capacity: u32, head: u64, to: u64)
+    /// Does the same up to the last message that the read has got, which is at the position `to` and stays in the ring.
+    fn store_head_before(
+        words: &SharedRing<Self>,
+        seat: &mut RingSeat,
+        capacity: u32,
+        head: u64,
+        to: u64,
+    )
         requires seat { IsReaderSeatOf words.now.table_id words.now.key capacity seat.old }
-        requires cleared { seat.old.me.0.consumer.cleared ≡ head }
-        requires last { (head ≤ to) × HasLastAhead to seat.old.me.0 }
+        requires stands { (seat.old.me.0.consumer.head ≡ head) × (seat.old.me.0.consumer.cleared ≡ head) }
+        requires last { StandsBefore to seat.old.me.0 }
+        requires passed { (head ≤ to) × (to ≤ seat.old.me.0.consumer.scan) }
         requires whole { (head % 8 ≡ 0) × (to % 8 ≡ 0) }
         requires inside { IsInBlock capacity head to }
         ensures seat { IsSameSeat seat.old seat.new }

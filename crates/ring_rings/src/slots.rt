@@ -4,14 +4,15 @@ ghost use Rattle.std.specs.Prelude.{◌≡◌, ◌+◌, ◌/◌, ◌%◌, ◌≤
 ghost use Rattle.ring_table.specs.declared.claim.PlacedMessage.{PlacedMessage};
 ghost use Rattle.ring_table.specs.Seats.{IsSameSeat};
 ghost use Rattle.ring_table.specs.SlotSteps.{HasLast};
+ghost use Rattle.ring_table.specs.ConsumerSteps.{StandsBefore, StoresHead, StoresHeadBefore};
 ghost use Rattle.ring_rings.specs.ReadingSteps.{IsReaderSeatOf, LoadsWholeBody};
 
 use crate::bodies::Bodies;
 use atomic_table::Closed;
 use ring_table::{
     InSlots, Key, RingSeat, RingTable, SharedRing, Unsettled, Wanted, lend_body, open_slots,
-    pass_marks, pass_marks_before, put_slots, read_slots, rescue_slots, return_body, show_slots,
-    store_claimed_slots, write_slots,
+    put_slots, read_slots, rescue_slots, return_body, show_slots, store_claimed_slots,
+    store_head_before_mark, store_head_past_marks, write_slots,
 };
 use std::alloc::{AllocError, Global};
 
@@ -98,19 +99,25 @@ impl Bodies for InSlots {
     }
 
     #[inline(always)]
-    fn pass_all(slots: &SharedRing<Self>, seat: &mut RingSeat, capacity: u32, _head: u64, to: u64) {
-        pass_marks(slots, seat, capacity, to);
-    }
-
-    #[inline(always)]
-    fn pass_before(
+    fn store_head(
         slots: &SharedRing<Self>,
         seat: &mut RingSeat,
         capacity: u32,
         _head: u64,
         to: u64,
     ) {
-        pass_marks_before(slots, seat, capacity, to);
+        store_head_past_marks(slots, seat, capacity, to);
+    }
+
+    #[inline(always)]
+    fn store_head_before(
+        slots: &SharedRing<Self>,
+        seat: &mut RingSeat,
+        capacity: u32,
+        _head: u64,
+        to: u64,
+    ) {
+        store_head_before_mark(slots, seat, capacity, to);
     }
 
     fn show(closed: Closed<u64, Global>, room: Vec<u64>) -> Vec<u64> {

@@ -2,7 +2,7 @@
 ghost use Rattle.std.specs.Prelude.{◌≡◌, ℕ, ◌+◌, ◌*◌, ◌%◌, ◌<◌, ◌≤◌, List, [], ◌∷◌, ◌++◌, length};
 ghost use Rattle.ring_layout.specs.Places.{index, max_position};
 ghost use Rattle.ring_table.specs.declared.claim.StagedClaim.{StagedClaim};
-ghost use Rattle.ring_table.specs.ConsumerSteps.{ClearsWord};
+ghost use Rattle.ring_table.specs.ConsumerSteps.{ClearsWord, StandsBefore, StoresHead, StoresHeadBefore};
 ghost use Rattle.ring_table.specs.Seats.{IsSameSeat, IsSeatOf};
 ghost use Rattle.ring_table.specs.Views.{cleared_to, with_claims, with_consumer};
 ghost use Rattle.ring_rings.specs.Bodies.{loaded, put_at, IsFreshClaim, MergesWord};
@@ -272,13 +272,19 @@ impl Bodies for InWords {
     }
 
     #[inline(always)]
-    fn pass_all(words: &SharedRing<Self>, seat: &mut RingSeat, capacity: u32, head: u64, to: u64) {
+    fn store_head(
+        words: &SharedRing<Self>,
+        seat: &mut RingSeat,
+        capacity: u32,
+        head: u64,
+        to: u64,
+    ) {
         clear_up(words, seat, capacity, head, to);
         store_head(words, seat, capacity, to);
     }
 
     #[inline(always)]
-    fn pass_before(
+    fn store_head_before(
         words: &SharedRing<Self>,
         seat: &mut RingSeat,
         capacity: u32,

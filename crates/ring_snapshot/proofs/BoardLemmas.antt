@@ -6,7 +6,7 @@ use Rattle.std.proofs.lemmas.Bool.{cases_lt, lt-ltb, le-ltb, le-leb, lt-leb, con
 use Rattle.std.proofs.lemmas.Nat.{mod_below}
 use mathlib.Core.Option.{some, some-injective, some-ne-none}
 use lib.ListN.{get_elem?}
-use Rattle.ring_layout.specs.Places.{index, room}
+use Rattle.ring_layout.specs.Places.{index, room, rounded}
 use Rattle.ring_layout.specs.Headers.{padding_header, padding_type}
 use Rattle.ring_layout.proofs.Laps.{mod_aligned, mod_step}
 use Rattle.ring_layout.proofs.PlaceLemmas.{span_bounds}
@@ -16,7 +16,7 @@ use Rattle.ring_board.specs.declared.shared.view.Record.{Record}
 use Rattle.ring_board.specs.Records.{end, Follows, Chain, end_of, last_of, header_of}
 use Rattle.ring_board.proofs.PlaceLemmas.{lies_cases, lies_after, lies_inside, lies_whole, chain_rises, chain_at, last_low}
 use Rattle.ring_snapshot.specs.declared.board_record.BoardRecord.{BoardRecord}
-use Rattle.ring_snapshot.specs.Listing.{up_to_eight, ok_records}
+use Rattle.ring_snapshot.specs.Listing.{ok_records}
 use Rattle.ring_snapshot.specs.BoardRecords.{BoardEntry, is_length, padding_at, message_at, entry_for, entry_at, listing, record_of, records_of, from_on}
 use Rattle.ring_snapshot.proofs.EntryLemmas.{not_padding, not_below_one, decoded, body_told}
 use Rattle.ring_snapshot.proofs.StepLemmas.{listing_ends, padded, IsThere, from_place, from_before}
@@ -26,20 +26,20 @@ use Rattle.ring_snapshot.proofs.StepLemmas.{listing_ends, padded, IsThere, from_
 not_less : (n : ℕ) → 0 < n → int_lt (pos n) (pos 1) ≡ false
 not_less n h = grind (arith, h)
 
-length_before : (C latest tail at n : ℕ) → 8 ≤ n → n ≤ 8 + C / 8 → up_to_eight n ≤ room C at → at < latest
-    → at + up_to_eight n ≤ latest
+length_before : (C latest tail at n : ℕ) → 8 ≤ n → n ≤ 8 + C / 8 → rounded n ≤ room C at → at < latest
+    → at + rounded n ≤ latest
     → is_length C latest tail at n ≡ true
 length_before C latest tail at n a b c d e =
-    let last = cond-true _ _ _ (lt-ltb at latest d) ∙ le-leb (at + up_to_eight n) latest e in
-    λ i. le-leb 8 n a i && le-leb n (8 + C / 8) b i && le-leb (up_to_eight n) (room C at) c i && last i
+    let last = cond-true _ _ _ (lt-ltb at latest d) ∙ le-leb (at + rounded n) latest e in
+    λ i. le-leb 8 n a i && le-leb n (8 + C / 8) b i && le-leb (rounded n) (room C at) c i && last i
 
-length_last : (C latest tail at n : ℕ) → 8 ≤ n → n ≤ 8 + C / 8 → up_to_eight n ≤ room C at → at ≡ latest
-    → at + up_to_eight n ≡ tail
+length_last : (C latest tail at n : ℕ) → 8 ≤ n → n ≤ 8 + C / 8 → rounded n ≤ room C at → at ≡ latest
+    → at + rounded n ≡ tail
     → is_length C latest tail at n ≡ true
 length_last C latest tail at n a b c d e =
-    let here = eq-eqb at latest d in let ends = eq-eqb (at + up_to_eight n) tail e in
+    let here = eq-eqb at latest d in let ends = eq-eqb (at + rounded n) tail e in
     let last = cond-false _ _ _ (le-ltb at latest (omega (arith, d))) ∙ (λ i. here i && ends i) in
-    λ i. le-leb 8 n a i && le-leb n (8 + C / 8) b i && le-leb (up_to_eight n) (room C at) c i && last i
+    λ i. le-leb 8 n a i && le-leb n (8 + C / 8) b i && le-leb (rounded n) (room C at) c i && last i
 
 -- ---- what a header says
 

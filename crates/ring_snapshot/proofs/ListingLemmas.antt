@@ -7,7 +7,7 @@ use Rattle.std.proofs.lemmas.List.Elements.{All-head, All-tail}
 use Rattle.ring_layout.specs.declared.message.Claim.{Claim}
 use Rattle.ring_layout.specs.declared.message.ClaimState.TheVariants.{Open, Committed, Aborted}
 use Rattle.ring_layout.specs.History.{IsMessage, span_of, span}
-use Rattle.ring_layout.specs.Places.{IsCapacity, index, room, next_place, end_of}
+use Rattle.ring_layout.specs.Places.{IsCapacity, index, room, next_place, end_of, rounded}
 use Rattle.ring_layout.specs.Picture.{claim_word}
 use Rattle.ring_layout.specs.Headers.{header, header_of, padding_type}
 use Rattle.ring_layout.proofs.Laps.{index_step, mod_aligned}
@@ -19,7 +19,7 @@ use Rattle.ring_words.proofs.HeadLemmas.{state_cases, header_open, header_commit
 use Rattle.ring_counters.specs.Records.{bytes_at}
 use Rattle.ring_snapshot.specs.declared.record.Record.{Record}
 use Rattle.ring_snapshot.specs.declared.record.RecordState.TheVariants as shown
-use Rattle.ring_snapshot.specs.Listing.{up_to_eight, ok_records}
+use Rattle.ring_snapshot.specs.Listing.{ok_records}
 use Rattle.ring_snapshot.specs.RingRecords.{length_in, is_length, is_padding_type, passed_at, message_at, entry_for, entry_at, listing, claim_as, record_of_claim, records_of, Lie}
 use Rattle.ring_snapshot.proofs.EntryLemmas.{not_padding, not_below_one, decoded, body_told}
 use Rattle.ring_snapshot.proofs.StepLemmas.{listing_ends, IsThere, from_before}
@@ -39,7 +39,7 @@ not_negative k = grind (arith)
 
 -- ---- an entry
 
-pub length_fits : (C tail at n : ℕ) → 8 ≤ n → n ≤ 8 + C / 8 → up_to_eight n ≤ room C at → at + up_to_eight n ≤ tail
+pub length_fits : (C tail at n : ℕ) → 8 ≤ n → n ≤ 8 + C / 8 → rounded n ≤ room C at → at + rounded n ≤ tail
     → is_length C tail at n ≡ true
 length_fits C tail at n a b c d = grind (arith, a, b, c, d)
 
@@ -186,7 +186,7 @@ module _ (C : ℕ) (words : List ℕ) (tail e : ℕ) (c : Claim) (h : List Claim
   claim_there = record {
     some_room = omega (arith, bounds);
     inside = end_below;
-    ends = ap (λ k. place + up_to_eight k)
+    ends = ap (λ k. place + rounded k)
         (by_state C place c (λ r. r.length ≡ 8 + n) (λ _. refl) (λ _. refl) (λ _. refl));
     there = claim_entry;
   }
@@ -210,7 +210,7 @@ module _ (C : ℕ) (words : List ℕ) (tail e : ℕ) (c : Claim) (h : List Claim
         let b = pad_whole in
         let is = pad_is_room.0 in
         let few = pad_is_room.1 in
-        let whole : up_to_eight pad ≡ pad = omega (arith, b) in
+        let whole : rounded pad ≡ pad = omega (arith, b) in
         record {
           some_room = omega (arith, b, before);
           inside = omega (arith, end_below);

@@ -3,6 +3,7 @@ use Rattle.std.specs.Prelude.{◌&&◌, ◌==◌, int_lt}
 use Rattle.std.proofs.Common.{◌≡◌, ◌≢◌, ℕ, ◌+◌, ◌*◌, ◌/◌, ◌%◌, ◌^◌, ◌<◌, ◌≤◌, List, length, slice_index, refl, ap, sym, ◌∙◌, arith, inl, inr, pos, neg_ℤ, nat_abs, ◌≤ℤ◌, true, ℤ, eq-eqb}
 use Rattle.std.proofs.lemmas.Bool.{ne_eqb, lt-leb, le-leb, lt-ltb, cond-true, cond-false}
 use Rattle.std.proofs.lemmas.Int.{ints}
+use Rattle.ring_layout.specs.Marks.{padding_kind, open_kind, aborted_kind, committed_kind}
 use Rattle.ring_layout.specs.declared.message.Claim.{Claim}
 use Rattle.ring_layout.specs.Headers.{header, header_of, padding_header, padding_type}
 use Rattle.ring_layout.specs.History.{span}
@@ -10,7 +11,7 @@ use Rattle.ring_layout.specs.Places.{index, IsCapacity}
 use Rattle.ring_layout.proofs.PlaceLemmas.{span_bounds}
 use Rattle.ring_layout.proofs.HeaderLemmas.{len_of-header, type_of-header, fits_pos}
 use Rattle.ring_words.proofs.HeadLemmas.{state_cases, header_open, header_committed, header_aborted}
-use Rattle.ring_snapshot.specs.Marks.{HasMark, bytes_to, header_as, header_at, is_message_of, kind_in, kind_of, marked_header, padding_kind, open_kind, aborted_kind, committed_kind}
+use Rattle.ring_snapshot.specs.Marks.{HasMark, bytes_to, header_as, header_at, is_message_of, kind_in, kind_of, marked_header}
 use Rattle.ring_snapshot.specs.RingRecords.{length_in, type_in}
 
 -- a mark is above its position, and gives its bytes and its kind

@@ -3,6 +3,7 @@ use Rattle.std.specs.Prelude.{All, is_none, min}
 use Rattle.std.proofs.Common.{◌≡◌, ℕ, zero, suc, ◌+◌, ◌-◌, ◌*◌, ◌/◌, ◌%◌, ◌<◌, ◌≤◌, List, [], ◌∷◌, length, slice_index, ap, sym, ◌∙◌, arith, inl, inr, true}
 use Rattle.std.proofs.lemmas.Bool.{cases_eq, cases_lt, cond-true}
 use Rattle.std.proofs.lemmas.List.{places}
+use Rattle.ring_layout.specs.Marks.{padding_kind}
 use Rattle.ring_layout.specs.declared.message.Claim.{Claim}
 use Rattle.std.proofs.Common.{subst}
 use Rattle.std.proofs.lemmas.Nat.{mod_below}
@@ -15,7 +16,7 @@ use Rattle.ring_layout.specs.Layout.{ring_words}
 use Rattle.ring_layout.specs.Places.{end_of, index, next_place, room, IsCapacity}
 use Rattle.ring_layout.proofs.CapacityLemmas.{capacity_blocks}
 use Rattle.ring_layout.proofs.Laps.{mod_aligned, mod_room, IsLap, IsInLap, index_outside}
-use Rattle.ring_snapshot.specs.Marks.{HasMark, padding_kind}
+use Rattle.ring_snapshot.specs.Marks.{HasMark}
 use Rattle.ring_snapshot.specs.PlainRecords.{ArePlain, HasClaim, HaveClaims}
 use Rattle.ring_snapshot.specs.PlainWords.{joined_between, joined_from, with_record, with_zeros}
 use Rattle.ring_layout.specs.Headers.{header, header_of, padding_header}

@@ -4,20 +4,20 @@ use Rattle.std.proofs.Common.{◌≡◌, ◌≢◌, ℕ, suc, ◌+◌, ◌-◌, 
 use Rattle.std.proofs.lemmas.Bool.{ne_eqb, cond-true, cond-false}
 use Rattle.std.proofs.lemmas.List.{get_or-set_same, length-set, places}
 use Rattle.std.proofs.Common.{eq-eqb}
+use Rattle.ring_layout.specs.Marks.{padding_kind}
 use Rattle.ring_layout.specs.declared.message.Claim.{Claim}
 use Rattle.ring_layout.specs.History.{overwritten, span_of}
 use Rattle.ring_layout.proofs.PlaceLemmas.{span_bounds}
 use Rattle.ring_words.proofs.HeadLemmas.{state_cases, header_open, header_committed, header_aborted}
 use Rattle.ring_layout.specs.Layout.{ring_words}
-use Rattle.ring_layout.specs.Places.{index, IsCapacity}
+use Rattle.ring_layout.specs.Places.{index, IsCapacity, rounded}
 use Rattle.ring_layout.proofs.CapacityLemmas.{capacity_blocks}
 use Rattle.ring_layout.proofs.Laps.{IsLap, index_outside, index_step}
-use Rattle.ring_snapshot.specs.Marks.{HasMark, header_at, kind_in, kind_of, padding_kind}
+use Rattle.ring_snapshot.specs.Marks.{HasMark, header_at, kind_in, kind_of}
 use Rattle.ring_snapshot.specs.PlainWords.{body_at, joined_from, span_at, with_record}
 use Rattle.std.specs.Int.{w32}
 use Rattle.ring_layout.specs.Headers.{header, header_of, padding_header, padding_type}
 use Rattle.ring_layout.proofs.HeaderLemmas.{fits_neg, fits_pos}
-use Rattle.ring_snapshot.specs.Listing.{up_to_eight}
 use Rattle.ring_snapshot.specs.RingRecords.{is_length, is_padding_type}
 use Rattle.ring_snapshot.proofs.EntryLemmas.{decoded}
 use Rattle.ring_snapshot.proofs.JoinLemmas.{joined_goes}
@@ -55,10 +55,10 @@ module _ (old : List ℕ) (i n header : ℕ) (some : 0 < n) (fits : i + n ≤ le
 span_decoded : (C tail at w : ℕ) (len type_id : ℤ) → w ≡ header len type_id → FitsSigned w32 len
     → FitsSigned w32 type_id → is_length C tail at (nat_abs len) ≡ true
     → (int_lt (pos 0) type_id || int_lt (pos 0) len && is_padding_type type_id) ≡ true
-    → span_at C tail at w ≡ up_to_eight (nat_abs len)
+    → span_at C tail at w ≡ rounded (nat_abs len)
 span_decoded C tail at w len type_id is f g fits kind =
     decoded (λ l t. if is_length C tail at (nat_abs l)
-    && (int_lt (pos 0) t || int_lt (pos 0) l && is_padding_type t) then up_to_eight (nat_abs l) else 0)
+    && (int_lt (pos 0) t || int_lt (pos 0) l && is_padding_type t) then rounded (nat_abs l) else 0)
     w len type_id is f g
     ∙ cond-true _ _ _ (λ i. fits i && kind i)
 
@@ -130,7 +130,7 @@ module _ (C : ℕ) (slots : List ℕ) (tail : ℕ) (ok : IsCapacity C) (many : l
       let head : header_at C old slots e ≡ padding_header pad =
       shows_padding C old slots e pad ok.most e8 pad8 (omega (arith, some)) small is in
       let kind : kind_in (slice_index old (index C e)) ≡ padding_kind = omega (arith, is, e8, pad8) in
-      let whole : up_to_eight pad ≡ pad = omega (arith, pad8) in
+      let whole : rounded pad ≡ pad = omega (arith, pad8) in
       let fits = length_fits C tail e pad some few (omega (arith, whole, within)) (omega (arith, whole, inside)) in
       let spans : span_at C tail e (header_at C old slots e) ≡ pad =
       ap (span_at C tail e) head
@@ -168,7 +168,7 @@ module _ (C : ℕ) (slots : List ℕ) (tail : ℕ) (ok : IsCapacity C) (many : l
         (ap (is_length C tail place) long ∙ fits)
         (ap (λ b. b || int_lt (pos 0) len && is_padding_type c.message.type_id)
         (above_zero c.message.type_id has.lawful.type_id))
-        ∙ ap up_to_eight long
+        ∙ ap rounded long
 
     spans_claim : span_at C tail place (header_of c) ≡ span_of c
     spans_claim = elim (state_cases c.state) as (λ _. span_at C tail place (header_of c) ≡ span_of c) [

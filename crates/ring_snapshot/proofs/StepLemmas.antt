@@ -2,7 +2,8 @@
 use Rattle.std.specs.Prelude.{Result}
 use Rattle.std.proofs.Common.{◌≡◌, ℕ, zero, suc, ◌+◌, ◌-◌, ◌*◌, ◌<◌, ◌≤◌, List, [], ◌∷◌, ◌++◌, refl, ap, sym, ◌∙◌, ⊎_elim, arith, Ok, Err}
 use Rattle.std.proofs.lemmas.Bool.{cases_lt, lt-leb, le-leb, lt-ltb, le-ltb, cond-true, cond-false}
-use Rattle.ring_snapshot.specs.Listing.{up_to_eight, followed, listed_by, after_padding, ok_records}
+use Rattle.ring_layout.specs.Places.{rounded}
+use Rattle.ring_snapshot.specs.Listing.{followed, listed_by, after_padding, ok_records}
 
 -- nothing is after the tail
 pub listing_ends : {R F : Type 0} (length_of : R → ℕ) (entry : ℕ → Result R F) (tail m at : ℕ) → tail ≤ at
@@ -17,16 +18,16 @@ listing_step : {R F : Type 0} (length_of : R → ℕ) (entry : ℕ → Result R 
 listing_step length_of entry tail m at lt = cond-false _ _ _ (lt-leb tail at lt)
 
 pub next_ok : {R F : Type 0} (length_of : R → ℕ) (entry : ℕ → Result R F) (tail m at : ℕ) (x : Result R F) (r : R)
-    (n span : ℕ) → (0 < m) × (at < tail) → x ≡ entry at → x ≡ Ok r → n ≡ length_of r → span ≡ up_to_eight n
+    (n span : ℕ) → (0 < m) × (at < tail) → x ≡ entry at → x ≡ Ok r → n ≡ length_of r → span ≡ rounded n
     → listed_by length_of entry tail m at ≡ x ∷ listed_by length_of entry tail (m - 1) (at + span)
 next_ok length_of entry tail zero at x r n span before is ok long wide = absurd (omega (arith, before.0))
 next_ok length_of entry tail (suc m) at x r n span before is ok long wide =
     listing_step length_of entry tail m at before.1
     ∙ ap (followed length_of (listed_by length_of entry tail m) at) (sym is ∙ ok)
-    ∙ ap (λ k. Ok r ∷ listed_by length_of entry tail k (at + up_to_eight (length_of r)))
+    ∙ ap (λ k. Ok r ∷ listed_by length_of entry tail k (at + rounded (length_of r)))
     (let e : m ≡ suc m - 1 = omega arith in e)
-    ∙ ap (λ y. y ∷ listed_by length_of entry tail (suc m - 1) (at + up_to_eight (length_of r))) (sym ok)
-    ∙ ap (λ k. x ∷ listed_by length_of entry tail (suc m - 1) (at + k)) (sym (wide ∙ ap up_to_eight long))
+    ∙ ap (λ y. y ∷ listed_by length_of entry tail (suc m - 1) (at + rounded (length_of r))) (sym ok)
+    ∙ ap (λ k. x ∷ listed_by length_of entry tail (suc m - 1) (at + k)) (sym (wide ∙ ap rounded long))
 
 pub next_err : {R F : Type 0} (length_of : R → ℕ) (entry : ℕ → Result R F) (tail m at : ℕ) (x : Result R F) (f : F)
     → 0 < m → at < tail → x ≡ entry at → x ≡ Err f
@@ -52,7 +53,7 @@ plain before place pad r rest le = ap (λ l. l ++ r ∷ rest) (cond-false _ (pad
 pub record IsThere {R F : Type 0} (length_of : R → ℕ) (entry : ℕ → Result R F) (tail place end : ℕ) (r : R) : Type 0 where
   pub some_room : place + 8 ≤ end
   pub inside : end ≤ tail
-  pub ends : place + up_to_eight (length_of r) ≡ end
+  pub ends : place + rounded (length_of r) ≡ end
   pub there : entry place ≡ Ok r
 
 module _ {R F : Type 0} (length_of : R → ℕ) (entry : ℕ → Result R F) (tail : ℕ) where

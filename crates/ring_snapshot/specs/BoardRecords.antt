@@ -3,7 +3,7 @@
 use Rattle.std.specs.Prelude.{◌≡◌, ℕ, true, false, ◌+◌, ◌-◌, ◌/◌, ◌%◌, Bool, ◌&&◌, ◌||◌, ◌==◌, not, nat_le, nat_lt, int_lt, if◌then◌else◌, ℤ, pos, nat_abs, List, [], ◌∷◌, ◌++◌, length, slice_index, Result, Ok, Err, Option, Some, None, ◌⊎◌}
 use mathlib.Core.Option.{some}
 use lib.ListN.{get_elem?}
-use Rattle.ring_layout.specs.Places.{index, room}
+use Rattle.ring_layout.specs.Places.{index, room, rounded}
 use Rattle.ring_layout.specs.Headers.{padding_type}
 use Rattle.ring_board.specs.declared.shared.view.Record.{Record}
 use Rattle.ring_board.specs.Layout.{intent_index, tail_index, latest_index}
@@ -15,7 +15,7 @@ use Rattle.ring_snapshot.specs.declared.board_finding.BoardFinding.TheVariants.{
 use Rattle.ring_snapshot.specs.declared.listing.Listing.{Listing}
 use Rattle.ring_snapshot.specs.declared.board.BoardSnapshot.{BoardSnapshot}
 use Rattle.ring_layout.specs.Lists.{or_else}
-use Rattle.ring_snapshot.specs.Listing.{up_to_eight, lies_inside, listed_by, left_of, after_padding, ok_records}
+use Rattle.ring_snapshot.specs.Listing.{lies_inside, listed_by, left_of, after_padding, ok_records}
 use Rattle.ring_snapshot.specs.RingRecords.{length_in, type_in, is_padding_type}
 
 abbrev pub BoardEntry : Type 0
@@ -26,7 +26,7 @@ BoardEntry = Result BoardRecord BoardFinding
 abbrev pub is_length : ℕ → ℕ → ℕ → ℕ → ℕ → Bool
 is_length C latest tail at n =
     lies_inside C at n
-    && (if nat_lt at latest then nat_le (at + up_to_eight n) latest else (at == latest && at + up_to_eight n == tail))
+    && (if nat_lt at latest then nat_le (at + rounded n) latest else (at == latest && at + rounded n == tail))
 
 abbrev pub padding_at : ℕ → ℕ → ℕ → ℕ → ℤ → BoardRecord
 padding_at C intent at n type_id = record {

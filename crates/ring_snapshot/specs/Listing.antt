@@ -1,22 +1,18 @@
 -- One record after another, of a ring or of a broadcast buffer. R is the type of a record, and F is the type of a
 -- finding about the words.
-use Rattle.std.specs.Prelude.{ℕ, zero, suc, ◌+◌, ◌*◌, ◌/◌, Bool, ◌&&◌, nat_le, nat_lt, if◌then◌else◌, List, [], ◌∷◌, ◌++◌, Result, Ok, Err}
-use Rattle.ring_layout.specs.Places.{room}
+use Rattle.std.specs.Prelude.{ℕ, zero, suc, ◌+◌, ◌/◌, Bool, ◌&&◌, nat_le, nat_lt, if◌then◌else◌, List, [], ◌∷◌, ◌++◌, Result, Ok, Err}
+use Rattle.ring_layout.specs.Places.{room, rounded}
 use Rattle.ring_snapshot.specs.declared.listing.Listing.{Listing}
-
--- the number of bytes from the begin of a record to the begin of the next one
-abbrev pub up_to_eight : ℕ → ℕ
-up_to_eight n = (n + 7) / 8 * 8
 
 -- A record of this length may be at the position in a buffer of C bytes. No message is longer, and the record does not
 -- cross the end of the buffer.
 abbrev pub lies_inside : ℕ → ℕ → ℕ → Bool
-lies_inside C at n = nat_le 8 n && nat_le n (8 + C / 8) && nat_le (up_to_eight n) (room C at)
+lies_inside C at n = nat_le 8 n && nat_le n (8 + C / 8) && nat_le (rounded n) (room C at)
 
 -- an entry and the rest from its end on, which is empty after a finding
 abbrev pub followed : {R F : Type 0} → (R → ℕ) → (ℕ → List (Result R F)) → ℕ → Result R F → List (Result R F)
 followed length_of rest at (Err finding) = Err finding ∷ []
-followed length_of rest at (Ok r) = Ok r ∷ rest (at + up_to_eight (length_of r))
+followed length_of rest at (Ok r) = Ok r ∷ rest (at + rounded (length_of r))
 
 -- the first n entries from a position on, one after another, up to the tail or a finding
 abbrev pub listed_by : {R F : Type 0} → (R → ℕ) → (ℕ → Result R F) → ℕ → ℕ → ℕ → List (Result R F)

@@ -8,23 +8,9 @@ use Rattle.ring_layout.specs.declared.message.ClaimState.{ClaimState}
 use Rattle.ring_layout.specs.declared.message.ClaimState.TheVariants.{Open, Committed, Aborted}
 use Rattle.ring_layout.specs.Headers.{committed_header, header, padding_header, padding_type}
 use Rattle.ring_layout.specs.History.{IsMessage, span_of}
-use Rattle.ring_layout.specs.Places.{index}
-use Rattle.ring_snapshot.specs.Listing.{up_to_eight}
+use Rattle.ring_layout.specs.Marks.{committed_kind, padding_kind, open_kind, aborted_kind}
+use Rattle.ring_layout.specs.Places.{index, rounded}
 use Rattle.ring_snapshot.specs.RingRecords.{length_in, type_in}
-
--- ---- kinds, which are below 8, since an end is a multiple of 8
-
-abbrev pub committed_kind : ℕ
-committed_kind = 0
-
-abbrev pub padding_kind : ℕ
-padding_kind = 1
-
-abbrev pub open_kind : ℕ
-open_kind = 2
-
-abbrev pub aborted_kind : ℕ
-aborted_kind = 3
 
 abbrev pub kind_in : ℕ → ℕ
 kind_in mark = mark % 8
@@ -61,7 +47,7 @@ bad_header = 1
 abbrev pub is_message_of : ℕ → ℕ → Bool
 is_message_of bytes slot =
     int_lt (pos 0) (length_in slot) && int_lt (pos 0) (type_in slot)
-    && up_to_eight (nat_abs (length_in slot)) == bytes
+    && rounded (nat_abs (length_in slot)) == bytes
 
 -- the header in a slot, in the form that a record of this kind has
 abbrev pub header_as : ℕ → ℕ → ℕ

@@ -1,12 +1,13 @@
 -- The words and the slots of a plain ring with a history. Positions are running byte counts, and C is the capacity of
 -- the buffer.
 use Rattle.std.specs.Prelude.{◌≡◌, ℕ, ◌+◌, ◌%◌, ◌<◌, ◌≤◌, List, [], ◌∷◌, ⊤, slice_index}
+use Rattle.ring_layout.specs.Marks.{padding_kind}
 use Rattle.ring_layout.specs.declared.message.Claim.{Claim}
 use Rattle.ring_layout.specs.History.{span_of}
 use Rattle.ring_layout.specs.Layout.{head_index, tail_index}
 use Rattle.ring_layout.specs.Picture.{claim_word}
 use Rattle.ring_layout.specs.Places.{index, next_place, end_of}
-use Rattle.ring_snapshot.specs.Marks.{HasMark, padding_kind}
+use Rattle.ring_snapshot.specs.Marks.{HasMark}
 use Rattle.ring_snapshot.specs.RingRecords.{Lie}
 
 -- a plain ring has a claim that comes after e, at this place: the marks of the claim and of the padding before it, and

@@ -1,11 +1,11 @@
 -- The words of a plain ring in the format. Its words have marks, and slots have the headers and the bodies at the same
 -- indexes. Positions are running byte counts, and C is the capacity of the buffer.
 use Rattle.std.specs.Prelude.{ℕ, zero, suc, ◌+◌, ◌-◌, ◌/◌, ◌&&◌, ◌||◌, ◌==◌, is_none, nat_le, int_lt, min, if◌then◌else◌, pos, nat_abs, List, replicate, take, drop, set, slice_index}
+use Rattle.ring_layout.specs.Marks.{padding_kind}
 use Rattle.ring_layout.specs.History.{overwritten}
-use Rattle.ring_layout.specs.Places.{index}
+use Rattle.ring_layout.specs.Places.{index, rounded}
 use Rattle.ring_layout.specs.Layout.{head_index, tail_index}
-use Rattle.ring_snapshot.specs.Listing.{up_to_eight}
-use Rattle.ring_snapshot.specs.Marks.{header_at, kind_in, padding_kind}
+use Rattle.ring_snapshot.specs.Marks.{header_at, kind_in}
 use Rattle.ring_snapshot.specs.RingRecords.{is_length, is_padding_type, length_in, positions_finding, type_in}
 
 -- The number of bytes from the begin of a record with this header to the begin of the next one. It is 0 if no record at
@@ -14,7 +14,7 @@ abbrev pub span_at : ℕ → ℕ → ℕ → ℕ → ℕ
 span_at C tail at w =
     if is_length C tail at (nat_abs (length_in w))
     && (int_lt (pos 0) (type_in w) || int_lt (pos 0) (length_in w) && is_padding_type (type_in w))
-    then up_to_eight (nat_abs (length_in w)) else 0
+    then rounded (nat_abs (length_in w)) else 0
 
 -- the n words after the header at an index: zeros in padding, and otherwise what the slots have
 abbrev pub body_at : List ℕ → List ℕ → ℕ → ℕ → List ℕ

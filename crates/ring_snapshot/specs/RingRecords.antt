@@ -6,13 +6,13 @@ use Rattle.ring_layout.specs.declared.message.Claim.{Claim}
 use Rattle.ring_layout.specs.declared.message.ClaimState.{ClaimState}
 use Rattle.ring_layout.specs.declared.message.ClaimState.TheVariants as claimed
 use Rattle.ring_layout.specs.History.{IsMessage, span_of}
-use Rattle.ring_layout.specs.Places.{index, next_place, end_of}
+use Rattle.ring_layout.specs.Places.{index, next_place, end_of, rounded}
 use Rattle.ring_layout.specs.Picture.{word_at}
 use Rattle.ring_layout.specs.Headers.{padding_type}
 use Rattle.ring_layout.specs.Layout.{tail_index, head_index}
 use Rattle.ring_counters.specs.Records.{bytes_at}
 use Rattle.ring_layout.specs.Lists.{or_else}
-use Rattle.ring_snapshot.specs.Listing.{up_to_eight, lies_inside, listed_by, left_of, after_padding}
+use Rattle.ring_snapshot.specs.Listing.{lies_inside, listed_by, left_of, after_padding}
 use Rattle.ring_snapshot.specs.declared.record.Record.{Record}
 use Rattle.ring_snapshot.specs.declared.record.RecordState.{RecordState}
 use Rattle.ring_snapshot.specs.declared.record.RecordState.TheVariants.{Open, Committed, Aborted, AbortedOrPadding, Unstored}
@@ -38,7 +38,7 @@ is_padding_type type_id = int_le type_id padding_type && int_le padding_type typ
 
 -- A record of this length may be at the position. It is inside the buffer, and does not cross the tail.
 abbrev pub is_length : ℕ → ℕ → ℕ → ℕ → Bool
-is_length C tail at n = lies_inside C at n && nat_le (at + up_to_eight n) tail
+is_length C tail at n = lies_inside C at n && nat_le (at + rounded n) tail
 
 -- a passed record, which may be padding if it ends with the buffer
 abbrev pub passed_at : ℕ → ℕ → ℕ → Record

@@ -36,7 +36,7 @@ impl<'a> BoardSnapshot<'a> {
     ghost use Rattle.ring_board.specs.Layout.{board_words, intent_index, tail_index, latest_index};
     ghost use Rattle.ring_board.specs.Refusals.{IsRefusedBy};
     ghost use Rattle.ring_snapshot.specs.declared.board_finding.BoardFinding.TheVariants.{BadSize};
-    ghost use Rattle.ring_snapshot.specs.Listing.{up_to_eight};
+    ghost use Rattle.ring_layout.specs.Places.{rounded};
     ghost use Rattle.ring_snapshot.specs.BoardRecords.{is_length, entry_at, intent_in, tail_in, latest_in, records_left, listed_from, first_whole, is_lap_whole, positions_finding, from_finding, HaveTransmitted, BeginsAt, lap_of, transmitted_from};
 
     /// Takes the words of a broadcast buffer. Returns `BadSize` if no broadcast buffer has this many words.
@@ -189,7 +189,7 @@ impl<'a> BoardSnapshot<'a> {
     ) -> Result<BoardRecord<'a>, BoardFinding>
         requires { at < tail }
         ensures entry { result ≡ entry_at self.now.capacity self.now.words.now intent latest tail at }
-        ensures inside { IfOk result (λ r. at + up_to_eight r.length < 2 ^ 64) }
+        ensures inside { IfOk result (λ r. at + rounded r.length < 2 ^ 64) }
     {
         let index = byte_index(self.capacity, at) as u32;
         let (len, type_id) = unpack_header(self.words[word_index(self.capacity, at)]);

@@ -1,7 +1,8 @@
 //! The trait that the listings of rings and of broadcast buffers share.
 ghost use Rattle.std.specs.Prelude.{◌≡◌, ℕ, ◌+◌, ◌%◌, ◌^◌, ◌<◌, ◌≤◌, IsTrue, IfOk, Result};
 ghost use Rattle.std.specs.Int.{is_power_of_two};
-ghost use Rattle.ring_snapshot.specs.Listing.{lies_inside, up_to_eight};
+ghost use Rattle.ring_layout.specs.Places.{rounded};
+ghost use Rattle.ring_snapshot.specs.Listing.{lies_inside};
 
 use ring_layout::record_descriptor::HEADER_LENGTH;
 use ring_layout::{align8, byte_index, max_message};
@@ -26,7 +27,7 @@ pub trait Buffer: Drop {
         requires before { at < tail }
         requires near { tail ≤ at + 2 ^ 24 }
         ensures entry { result ≡ entry self.now tail at }
-        ensures inside { IfOk result (λ r. at + up_to_eight (size r) < 2 ^ 64) };
+        ensures inside { IfOk result (λ r. at + rounded (size r) < 2 ^ 64) };
 
     /// Returns the number of bytes of a record, header included.
     fn length_of(own: &Self::Record) -> u32

@@ -33,7 +33,7 @@ pub use counters::search::next_counter;
 pub use counters::{Counters, CountersSnapshot};
 pub use counters_finding::CountersFinding;
 pub use record::{Record, RecordState};
-pub use ring::mark::header_at;
+pub use ring::mark::{BAD_HEADER, header_at};
 pub use ring::plain::join_bodies;
 pub use ring::search::next_ring;
 pub use ring::{Records, RingSnapshot};

@@ -40,7 +40,8 @@ impl<'a> RingSnapshot<'a> {
     ghost use Rattle.ring_board.specs.Refusals.{IsRefusedBy};
     ghost use Rattle.ring_snapshot.specs.declared.record.RecordState.TheVariants.{Aborted, AbortedOrPadding};
     ghost use Rattle.ring_snapshot.specs.declared.ring_finding.RingFinding.TheVariants.{BadSize};
-    ghost use Rattle.ring_snapshot.specs.Listing.{up_to_eight, ok_records};
+    ghost use Rattle.ring_layout.specs.Places.{rounded};
+    ghost use Rattle.ring_snapshot.specs.Listing.{ok_records};
     ghost use Rattle.ring_snapshot.specs.RingRecords.{is_length, entry_at, records_left, listed_from, records_of, Lie, head_in, tail_in, positions_finding, from_finding};
 
     /// Takes the words of a ring. Returns `BadSize` if no ring has this many words.

@@ -1,5 +1,5 @@
 -- The steps as the functions call them: at the word that the code computes, under the capacity that the caller has.
-use Rattle.std.proofs.Common.{◌≡◌, ℕ, ◌+◌, ◌/◌, ◌≤◌, ◌<◌, ℤ, List, true, eqb, sym, refl, ap, ◌∙◌, subst, inl, inr, arith}
+use Rattle.std.proofs.Common.{◌≡◌, ℕ, ◌+◌, ◌/◌, ◌≤◌, ◌<◌, ℤ, List, true, eqb, sym, refl, ap, ◌∙◌, subst, arith}
 use Rattle.atomic_table.specs.Seated.{TableId}
 use mathlib.Core.Option.{some}
 use lib.ListN.{get_elem?}
@@ -74,7 +74,7 @@ leaves_as B {v} {w} {x} is out c r = record {
 pub leaves_same : (B : Bodies) {v w x : View} → w ≡ x → x.out ≡ v.out → x.producer.claims ≡ v.producer.claims
     → x.consumes ≡ v.consumes → x.consumer.head ≡ v.consumer.head → x.consumer.cleared ≡ v.consumer.cleared → Leaves B v w
 leaves_same B is out claims kind head cleared = leaves_as B is out (carries_same claims kind head)
-    (record { stays = λ consumes. kind ∙ consumes; cleared = λ _. cleared; head = λ _. inl head })
+    (record { stays = λ consumes. kind ∙ consumes; cleared = λ _. cleared; head = λ _. head })
 
 -- a read goes on, and its head stays
 pub leaves_at : {v w : View} → StaysAt v w → Leaves in_words v w
@@ -96,11 +96,6 @@ head_rises B C start id v s r at consumes q got above =
     let heads : v.consumer.head ≡ r.consumer.head = ap (λ (z : ConsumerView). z.head) mine in
     let cleared : v.consumer.cleared ≡ r.consumer.cleared = ap (λ (z : ConsumerView). z.cleared) mine in
     carries_on refl refl (omega arith)
-
--- and goes up to there
-pub head_rests : (v : View) (q : ℕ) (got : List PlacedMessage) → v.consumer.cleared ≡ q
-    → Rests v (with_consumer (stands_at q got v.consumer) v)
-head_rests v q got is = record { stays = λ c. c; cleared = λ _. sym is; head = λ _. inr (sym is) }
 
 -- bodies in words ask nothing
 pub leaves_words : {v w x : View} → w ≡ x → x.out ≡ v.out → Leaves in_words v w

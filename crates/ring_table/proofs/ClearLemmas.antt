@@ -195,7 +195,7 @@ module _ (B : Bodies) (C start : ℕ) where
       )) in step
 
   -- the head goes to q, which was reached with the messages got and up to which the words are cleared
-  stores_head_at : (q : ℕ) (got : List PlacedMessage) (s : State ℕ View) (r : Ok B C start s) (id : ℕ) (v : View)
+  pub stores_head_at : (q : ℕ) (got : List PlacedMessage) (s : State ℕ View) (r : Ok B C start s) (id : ℕ) (v : View)
       → get_elem? s.views id ≡ some v → v.consumes ≡ true → Reaches q start (all_of r.hist) got → r.consumer.cleared ≡ q
       → Kept B C start (set s.words (head_index C) q) (set s.views id (with_consumer (stands_at q got v.consumer) v))
   stores_head_at q got s r id v at consumes reaches all =

@@ -1,28 +1,29 @@
--- The consumer clears what it has passed as it stores the head: the headers go away, and no mark is stored.
-use Rattle.std.proofs.Common.{◌≡◌, ℕ, zero, suc, ◌+◌, ◌-◌, ◌*◌, ◌/◌, ◌%◌, ◌≤◌, ◌<◌, List, [], true, set, slice_index, sym, refl, ap, ◌∙◌, subst, length, length-set, get_or-set_other, arith}
+-- The consumer stores the head in one step, which clears the headers that it has passed: their marks stay.
+use Rattle.std.proofs.Common.{◌≡◌, ℕ, zero, suc, ◌+◌, ◌-◌, ◌*◌, ◌/◌, ◌%◌, ◌≤◌, ◌<◌, List, [], ◌∷◌, ◌++◌, cond, true, set, slice_index, lt-ltb, sym, refl, ap, ◌∙◌, subst, length, length-set, get_or-set_other, arith}
 use mathlib.Core.Option.{some}
 use lib.ListN.{get_elem?}
 use Rattle.atomic_table.specs.Table.{State, keeps, Allows}
 use Rattle.atomic_table.proofs.Lists.{set_here, set_again}
-use Rattle.ring_layout.specs.Layout.{head_index}
 use Rattle.ring_layout.specs.Places.{index}
+use Rattle.ring_layout.specs.Layout.{head_index}
 use Rattle.ring_layout.proofs.ListLemmas.{at_below}
-use Rattle.ring_table.specs.Staged.{elsewhere, PlacedMessage}
-use Rattle.ring_table.specs.Owners.{all_of}
+use Rattle.ring_table.specs.Staged.{PlacedMessage, elsewhere, staged_word_at}
+use Rattle.ring_table.specs.Owners.{OwnedHistory, all_of}
+use Rattle.ring_table.specs.Passing.{Reaches}
 use Rattle.ring_table.specs.Views.{ConsumerView, View, cleared_to, stands_at, with_consumer}
 use Rattle.ring_table.specs.Rule.{Kept}
 use Rattle.ring_table.specs.ProducerSteps.{Mine}
-use Rattle.ring_table.specs.ConsumerSteps.{HasLastAhead, StoresHead, StoresHeadBefore}
+use Rattle.ring_table.specs.ConsumerSteps.{StoresHead, StoresHeadBefore}
 use Rattle.ring_table.specs.Marks.{Encodes, KeepsMarks}
-use Rattle.ring_table.proofs.ReachLemmas.{reach_bounds}
+use Rattle.ring_table.proofs.StagedPlaces.{capacity_aligned, start_aligned}
+use Rattle.ring_table.proofs.ReachLemmas.{reach_bounds, reach_aligned, back_before_last}
 use Rattle.ring_table.proofs.MemoryLemmas.{not_inside, one_position}
-use Rattle.ring_table.proofs.ClearLemmas.{clears_at, one_end, stores_head, stores_head_before}
+use Rattle.ring_table.proofs.ClearLemmas.{clears_at, one_end, stores_head_at}
 use Rattle.ring_table.proofs.ShelfLemmas.{stepped_shelf}
 use Rattle.ring_table.proofs.CarryLemmas.{carries_on}
 use Rattle.ring_table.proofs.OutLemmas.{set_twice}
-use Rattle.ring_table.proofs.EncodeLemmas.{encodes_cleared, encodes_risen, encodes_trailer}
-use Rattle.ring_table.proofs.MarkSteps.{Marked, header_near, is_cleared}
-use Rattle.ring_table.proofs.StagedPlaces.{capacity_aligned}
+use Rattle.ring_table.proofs.EncodeLemmas.{encodes_risen, encodes_trailer}
+use Rattle.ring_table.proofs.MarkSteps.{Marked, header_near}
 
 module _ (C start : ℕ) (s : State ℕ View) (m : KeepsMarks C start s.words s.homes s.views) (id : ℕ) (v : View)
     (at : get_elem? s.views id ≡ some v) (consumes : v.consumes ≡ true) where
@@ -88,114 +89,111 @@ module _ (C start : ℕ) (s : State ℕ View) (m : KeepsMarks C start s.words s.
             ∙ t.later p p8 (omega arith) hi;
       }
 
-  abbrev stored : ℕ → List PlacedMessage → View
-  stored q got = with_consumer (stands_at q got v.consumer) v
-
-  -- the head is stored at q, up to which the headers are cleared first
-  pub passes_to : (q : ℕ) (got : List PlacedMessage) → v.out ≡ [] → v.consumer.cleared ≤ q → q ≤ v.consumer.scan
-      → q % 8 ≡ 0
-      → ((headers : List ℕ) → Kept elsewhere C start headers (set s.views id (now q))
-      → slice_index headers (head_index C) ≡ slice_index s.words (head_index C)
-      → Kept elsewhere C start (set headers (head_index C) q) (set (set s.views id (now q)) id (stored q got)))
-      → KeepsMarks C start (set s.words (head_index C) q) s.homes (set s.views id (stored q got))
-  passes_to q got bare on le q8 ends =
+  -- the head goes to q, which was reached with the messages got, as the headers before q are cleared
+  pub raises_to : (q : ℕ) (got : List PlacedMessage) → v.out ≡ [] → v.consumer.head ≤ q → q ≤ v.consumer.scan
+      → ((h : OwnedHistory) → Reaches v.consumer.scan start (all_of h) v.consumer.got → Reaches q start (all_of h) got)
+      → KeepsMarks C start (set s.words (head_index C) q) s.homes
+      (set s.views id (with_consumer (stands_at q got v.consumer) v))
+  raises_to q got bare on le reaches =
       let r = m.kept in
+      let law = r.lawful in
       let mem = r.memory in
+      let least = law.capacity.least in
+      let c8 = capacity_aligned C law.capacity in
       let whole = mem.clears_words in
       let room = mem.room in
-      let rests = m.rests in
-      let from = mem.clears_from in
+      let none = m.none_cleared in
       let cleared : v.consumer.cleared ≡ r.consumer.cleared = ap (λ (z : ConsumerView). z.cleared) mine in
       let scan : v.consumer.scan ≡ r.consumer.scan = ap (λ (z : ConsumerView). z.scan) mine in
       let heads : v.consumer.head ≡ r.consumer.head = ap (λ (z : ConsumerView). z.head) mine in
-      let bounds = reach_bounds C r.consumer.scan start (all_of r.hist) r.consumer.got mem.placed mem.passed in
-      let top = bounds.1 in
+      let top = (reach_bounds C r.consumer.scan start (all_of r.hist) r.consumer.got mem.placed mem.passed).1 in
+      let comes = reaches r.hist
+      (subst (λ (z : ConsumerView). Reaches z.scan start (all_of r.hist) z.got) (sym mine) mem.passed) in
+      let q8 : q % 8 ≡ 0 = reach_aligned C q start (all_of r.hist) got (omega arith) c8 (start_aligned C start law)
+      mem.placed comes in
       let k : ℕ = (q - v.consumer.cleared) / 8 in
       let is : v.consumer.cleared + 8 * k ≡ q = omega arith in
       let t = clear_words k (omega arith) in
-      let views' : List View = set s.views id (now q) in
-      let kept : Kept elsewhere C start t.headers views' =
+      let kept : Kept elsewhere C start t.headers (set s.views id (now q)) =
       subst (λ z. Kept elsewhere C start t.headers (set s.views id (now z))) is t.kept in
+      let km = kept.memory in
       let here = set_here s.views id (now q) (at_below s.views id v at) in
       let its = ((kept.seated.each id (now q) here).consumes consumes).1 in
-      let head' : r.consumer.head ≡ kept.consumer.head = sym heads ∙ ap (λ (z : ConsumerView). z.head) its in
+      let head' : v.consumer.head ≡ kept.consumer.head = ap (λ (z : ConsumerView). z.head) its in
       let cleared' : q ≡ kept.consumer.cleared = ap (λ (z : ConsumerView). z.cleared) its in
-      let encodes : Encodes C kept.consumer.head kept.consumer.cleared t.headers s.words =
-      subst (λ (z : ℕ × ℕ). Encodes C z.0 z.1 t.headers s.words) (λ i. (head' i, cleared' i))
-      (encodes_cleared C start r.lawful r.consumer.head r.consumer.cleared m.headers s.words m.encodes q t.headers
-      from (omega arith) (omega arith) t.wide t.trailer (λ p p8 lo hi. t.later p p8 (omega arith) hi)
-      (λ p p8 lo hi.
-      let near = (header_near C start m.headers s.views r p p8 (omega arith) (omega arith)).below in
-      omega arith)) in
-      let c = is_cleared C start t.headers views' kept in
-      let risen : Encodes C q q t.headers s.words = subst (λ z. Encodes C z z t.headers s.words) (sym cleared')
-      (encodes_risen C start kept.lawful kept.consumer.head kept.consumer.cleared t.headers s.words encodes c.order
-      c.near c.zeros (capacity_aligned C kept.lawful.capacity)) in
-      let w : View = stored q got in
-      let same : slice_index t.headers (head_index C) ≡ slice_index s.words (head_index C) =
-      t.trailer (head_index C) (omega arith) ∙ sym (m.encodes.trailer (head_index C) (omega arith)) in
-      let kept' : Kept elsewhere C start (set t.headers (head_index C) q) (set s.views id w) =
+      let w : View = with_consumer (stands_at q got v.consumer) v in
+      let stored : Kept elsewhere C start (set t.headers (head_index C) q) (set s.views id w) =
       subst (Kept elsewhere C start (set t.headers (head_index C) q)) (set_twice s.views id (now q) w)
-      (ends t.headers kept same) in
-      let ours = ((kept'.seated.each id w (set_here s.views id w (at_below s.views id v at))).consumes consumes).1 in
-      let long = kept.memory.wide in
+      (stores_head_at elsewhere C start q got
+      (record { words = t.headers; homes = s.homes; views = set s.views id (now q) }) kept id (now q) here consumes
+      (reaches kept.hist
+      (subst (λ (z : ConsumerView). Reaches z.scan start (all_of kept.hist) z.got) (sym its) km.passed))
+      (sym cleared')) in
+      let last = ((stored.seated.each id w (set_here s.views id w (at_below s.views id v at))).consumes consumes).1 in
+      let wide = t.wide in
+      let long = mem.wide in
       record {
         headers = set t.headers (head_index C) q;
-        kept = kept';
+        kept = stored;
         shelf = stepped_shelf C s.homes s.views m.shelf id v at bare w bare (carries_on refl refl (omega arith));
-        encodes = subst (λ (z : ConsumerView). Encodes C z.head z.cleared (set t.headers (head_index C) q)
-            (set s.words (head_index C) q)) ours
-            (encodes_trailer C start r.lawful q q t.headers s.words risen (head_index C) q (omega arith) (omega arith));
-        rests = subst (λ (z : ConsumerView). z.cleared ≡ z.head) ours refl;
+        none_cleared = subst (λ (z : ConsumerView). z.cleared ≡ z.head) last refl;
+        encodes = subst
+            (λ (z : ConsumerView). Encodes C z.head (set t.headers (head_index C) q) (set s.words (head_index C) q)) last
+            (encodes_trailer C start law q t.headers s.words
+            (encodes_risen C start law r.consumer.head m.headers s.words m.encodes q t.headers (omega arith)
+            (omega arith) t.wide t.trailer
+            (λ p p8 lo hi. t.later p p8 (omega arith) hi)
+            (λ p p8 lo hi. km.shows p p8 (omega arith) (omega arith)
+            ∙ ap (λ b. cond b 0 (staged_word_at elsewhere (all_of kept.hist) p))
+            (lt-ltb p kept.consumer.cleared (omega arith)))
+            (λ p p8 lo hi.
+            let near = (header_near C start m.headers s.views r p p8 lo (omega arith)).below in
+            omega arith) c8)
+            (head_index C) q (omega arith) (omega arith));
       }
 
 module _ (C start : ℕ) where
-  -- the store of the head after all that the read has passed
-  pub passes_all : (slots id q : ℕ) (me : Mine) → me.0.consumes ≡ true → me.0.out ≡ [] → me.0.consumer.scan ≡ q
-      → me.0.consumer.cleared ≤ q → q % 8 ≡ 0
-      → Allows (Marked C start) slots id me (head_index C) (λ _. q) (λ _ me'. (me'.1 ≡ me.1) × StoresHead me.0 me'.0)
-  passes_all slots id q me consumes bare scan on q8 s m wide at small =
+  -- the head is stored after all that was passed
+  pub raises_head : (slots id : ℕ) (me : Mine) (head : ℕ) → me.0.consumes ≡ true → me.0.out ≡ []
+      → me.0.consumer.scan ≡ head
+      → Allows (Marked C start) slots id me (head_index C) (λ _. head) (λ _ me'. (me'.1 ≡ me.1) × StoresHead me.0 me'.0)
+  raises_head slots id me head consumes bare scan s m wide at small =
       let v : View = me.0 in
-      let c : View = with_consumer (cleared_to q v.consumer) v in
-      let got : List PlacedMessage = v.consumer.got in (
-        with_consumer (stands_at v.consumer.scan got v.consumer) v,
+      let mem = m.kept.memory in
+      let mine' = ((m.kept.seated.each id v at).consumes consumes).1 in
+      let scan' : v.consumer.scan ≡ m.kept.consumer.scan = ap (λ (z : ConsumerView). z.scan) mine' in
+      let head' : v.consumer.head ≡ m.kept.consumer.head = ap (λ (z : ConsumerView). z.head) mine' in
+      let from = mem.clears_from in
+      let to = mem.clears_to in
+      let w : View = with_consumer (stands_at v.consumer.scan v.consumer.got v.consumer) v in (
+        w,
         keeps,
         tt,
-        subst (λ z. KeepsMarks C start (set s.words (head_index C) q) s.homes
-            (set s.views id (with_consumer (stands_at z got v.consumer) v))) (sym scan)
-            (passes_to C start s m id v at consumes q got bare on (omega arith) q8 (λ headers kept same.
-            let u = stores_head elsewhere C start slots id (c, me.1) q consumes scan refl
-            (record { words = headers; homes = s.homes; views = set s.views id c }) kept wide
-            (set_here s.views id c (at_below s.views id v at))
-            (subst (λ z. z < 18446744073709551616) (sym same) small) in
-            subst (λ z. Kept elsewhere C start (set headers (head_index C) q) (set (set s.views id c) id z))
-            (u.4.1 ∙ ap (λ z. with_consumer (stands_at z got v.consumer) v) scan) u.3)),
+        subst (λ q. KeepsMarks C start (set s.words (head_index C) q) s.homes (set s.views id w)) scan
+            (raises_to C start s m id v at consumes v.consumer.scan v.consumer.got bare (omega arith) (omega arith)
+            (λ h p. p)),
         (refl, refl),
       )
 
-  -- the store of the head before the last message that the read has got
-  pub passes_before : (slots id q : ℕ) (me : Mine) → me.0.consumes ≡ true → me.0.out ≡ [] → HasLastAhead q me.0
-      → q % 8 ≡ 0
-      → Allows (Marked C start) slots id me (head_index C) (λ _. q)
+  -- the head is stored before the last message that was got
+  pub raises_head_before : (slots id : ℕ) (me : Mine) (head : ℕ) (front : List PlacedMessage) (last : PlacedMessage)
+      → me.0.consumes ≡ true → me.0.out ≡ [] → me.0.consumer.got ≡ front ++ last ∷ [] → last.place ≡ head
+      → me.0.consumer.head ≤ head → head ≤ me.0.consumer.scan
+      → Allows (Marked C start) slots id me (head_index C) (λ _. head)
       (λ _ me'. (me'.1 ≡ me.1) × StoresHeadBefore me.0 me'.0)
-  passes_before slots id q me consumes bare l q8 s m wide at small =
+  raises_head_before slots id me head front last consumes bare got place on le s m wide at small =
       let v : View = me.0 in
-      let c : View = with_consumer (cleared_to q v.consumer) v in (
-        with_consumer (stands_at l.last.place l.front v.consumer) v,
+      let w : View = with_consumer (stands_at last.place front v.consumer) v in (
+        w,
         keeps,
         tt,
-        subst (λ z. KeepsMarks C start (set s.words (head_index C) q) s.homes
-            (set s.views id (with_consumer (stands_at z l.front v.consumer) v))) (sym l.place)
-            (passes_to C start s m id v at consumes q l.front bare l.ahead l.scan q8 (λ headers kept same.
-            let u = stores_head_before elsewhere C start slots id (c, me.1) q l.front l.last consumes l.got l.place refl
-            (record { words = headers; homes = s.homes; views = set s.views id c }) kept wide
-            (set_here s.views id c (at_below s.views id v at))
-            (subst (λ z. z < 18446744073709551616) (sym same) small) in
-            subst (λ z. Kept elsewhere C start (set headers (head_index C) q) (set (set s.views id c) id z))
-            (u.4.1 l.front l.last l.got ∙ ap (λ z. with_consumer (stands_at z l.front v.consumer) v) l.place) u.3)),
+        subst (λ q. KeepsMarks C start (set s.words (head_index C) q) s.homes (set s.views id w)) place
+            (raises_to C start s m id v at consumes last.place front bare (omega arith) (omega arith)
+            (λ h p. back_before_last v.consumer.scan start (all_of h) front last
+            (subst (Reaches v.consumer.scan start (all_of h)) got p))),
         (
           refl,
-          λ front' last' got'. let same = one_end l.front front' l.last last' (sym l.got ∙ got') in λ i. with_consumer
+          λ front' last' got'. let same = one_end front front' last last' (sym got ∙ got') in λ i. with_consumer
               (stands_at (same.1 i).place (same.0 i) v.consumer) v,
         ),
       )

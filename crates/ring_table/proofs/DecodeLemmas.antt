@@ -6,6 +6,7 @@ use native.Mathlib.Decide.{ℕ_discrete}
 use Rattle.std.proofs.lemmas.Bool.{cases_lt, cond-true, cond-false}
 use Rattle.std.proofs.lemmas.List.{length-replicate}
 use Rattle.std.proofs.lemmas.List.Elements.{All-replicate}
+use Rattle.ring_layout.specs.Marks.{committed_kind, padding_kind, open_kind, aborted_kind}
 use Rattle.ring_layout.specs.declared.message.Message.{Message}
 use Rattle.ring_layout.specs.declared.message.ClaimState.TheVariants.{Open, Committed, Aborted}
 use Rattle.ring_layout.specs.History.{IsMessage, span}
@@ -18,7 +19,7 @@ use Rattle.ring_table.specs.Staged.{elsewhere, StagedClaim, Stage, Moved, Padded
 use Rattle.ring_table.specs.Changes.{blank}
 use Rattle.ring_table.specs.Passing.{AreSettled, IsSettled, placed_committed_of, shown_at}
 use Rattle.ring_table.specs.Rescued.{one_if_unsettled, silent_of, silent_bytes, unsettled_count, Settles}
-use Rattle.ring_table.specs.Marks.{committed_kind, padding_kind, open_kind, aborted_kind, decoded, mark_of}
+use Rattle.ring_table.specs.Marks.{decoded, mark_of}
 use Rattle.ring_table.proofs.HeaderReads.{halves}
 use Rattle.ring_table.proofs.MarkWords.{shows_claim, shows_mark, shows_padding}
 use Rattle.ring_table.proofs.StagedPlaces.{capacity_aligned, claim_aligned}
@@ -57,35 +58,27 @@ kind_is_other p w y above one two three =
     cond-true _ _ _ (lt-ltb p w above) ∙ cond-false _ _ _ (ne_eqb (w % 8) committed_kind one)
     ∙ cond-false _ _ _ (ne_eqb (w % 8) padding_kind two) ∙ cond-false _ _ _ (ne_eqb (w % 8) aborted_kind three)
 
+-- ---- the same of a mark at p of b bytes
+
 decoded_committed : (p b w y : ℕ) → w ≡ p + b → p % 8 ≡ 0 → b % 8 ≡ 0 → 0 < b → decoded p w y ≡ y
-unfolding decoded
-decoded_committed p b w y is p8 b8 full =
-    cond-true _ _ _ (lt-ltb p w (omega arith)) ∙ cond-true _ _ _ (eq-eqb (w % 8) committed_kind (omega arith))
+decoded_committed p b w y is p8 b8 full = kind_is_committed p w y (omega arith) (omega arith)
 
 decoded_padding : (p b w y : ℕ) → w ≡ p + b + padding_kind → p % 8 ≡ 0 → b % 8 ≡ 0 → 0 < b
     → decoded p w y ≡ padding_word elsewhere b
-unfolding decoded
 decoded_padding p b w y is p8 b8 full =
     let back : w - w % 8 - p ≡ b = omega arith in
-    cond-true _ _ _ (lt-ltb p w (omega arith)) ∙ cond-false _ _ _ (ne_eqb (w % 8) committed_kind (λ e. omega arith))
-    ∙ cond-true _ _ _ (eq-eqb (w % 8) padding_kind (omega arith)) ∙ ap (padding_word elsewhere) back
+    kind_is_padding p w y (omega arith) (omega arith) ∙ ap (padding_word elsewhere) back
 
 decoded_aborted : (p b w y : ℕ) → w ≡ p + b + aborted_kind → p % 8 ≡ 0 → b % 8 ≡ 0
     → decoded p w y ≡ (2 ^ 32 - 1) * 2 ^ 32 + y % 2 ^ 32
-unfolding decoded
-decoded_aborted p b w y is p8 b8 =
-    cond-true _ _ _ (lt-ltb p w (omega arith)) ∙ cond-false _ _ _ (ne_eqb (w % 8) committed_kind (λ e. omega arith))
-    ∙ cond-false _ _ _ (ne_eqb (w % 8) padding_kind (λ e. omega arith))
-    ∙ cond-true _ _ _ (eq-eqb (w % 8) aborted_kind (omega arith))
+decoded_aborted p b w y is p8 b8 = kind_is_aborted p w y (omega arith) (omega arith)
 
 decoded_open : (p b w y : ℕ) → w ≡ p + b + open_kind → p % 8 ≡ 0 → b % 8 ≡ 0
     → decoded p w y ≡ open_header (pos 1) (b - 8)
-unfolding decoded
 decoded_open p b w y is p8 b8 =
     let back : w - w % 8 - p - 8 ≡ b - 8 = omega arith in
-    cond-true _ _ _ (lt-ltb p w (omega arith)) ∙ cond-false _ _ _ (ne_eqb (w % 8) committed_kind (λ e. omega arith))
-    ∙ cond-false _ _ _ (ne_eqb (w % 8) padding_kind (λ e. omega arith))
-    ∙ cond-false _ _ _ (ne_eqb (w % 8) aborted_kind (λ e. omega arith)) ∙ ap (open_header (pos 1)) back
+    kind_is_other p w y (omega arith) (λ e. omega arith) (λ e. omega arith) (λ e. omega arith)
+    ∙ ap (open_header (pos 1)) back
 
 -- ---- claims whose open ones fill their records
 

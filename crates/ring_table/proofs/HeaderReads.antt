@@ -10,14 +10,13 @@ use Rattle.std.proofs.lemmas.Nat.{mod_low, shr_high, mod_below}
 use Rattle.ring_layout.specs.declared.message.Message.{Message}
 use Rattle.ring_layout.specs.declared.message.ClaimState.TheVariants.{Open, Committed, Aborted}
 use Rattle.ring_layout.specs.History.{IsMessage}
-use Rattle.ring_layout.specs.Places.{IsCapacity, next_place}
+use Rattle.ring_layout.specs.Places.{IsCapacity, next_place, rounded}
 use Rattle.ring_layout.specs.Headers.{header, header_of, padding_header, padding_type}
 use Rattle.ring_layout.proofs.Laps.{mod_aligned}
 use Rattle.ring_layout.proofs.PlaceLemmas.{next_cases, next_within}
 use Rattle.ring_layout.proofs.HeaderLemmas.{pattern_below, fits_pos, fits_neg}
 use Rattle.ring_table.specs.Staged.{StagedClaim, PlacedMessage, Stage, Moved, Padded, Stored, claim_of, staged_span, claim_end, masked_padding, masked_record, staged_word, staged_word_at}
 use Rattle.ring_table.specs.Passing.{IsSettled, placed_message, shown_at, Reaches}
-use Rattle.ring_table.specs.ConsumerSteps.{rounded}
 use Rattle.ring_table.proofs.StagedPlaces.{StandFrom, claim_aligned, capacity_aligned}
 use Rattle.ring_table.proofs.StagedWords.{staged_word-header, staged_word-padding}
 use Rattle.ring_table.proofs.ReachLemmas.{reach_bounds}

@@ -28,13 +28,13 @@ heads_all p y [] each = tt
 heads_all p y (x ∷ h) each = (each 0 x refl, heads_all p y h (λ k z e. each (suc k) z e))
 
 module _ (C start : ℕ) (words : List ℕ) (homes : List (Option ℕ)) (views : List View)
-    (m : KeepsMarks C start words homes views) (rests : m.kept.consumer.cleared ≡ m.kept.consumer.head) where
+    (m : KeepsMarks C start words homes views) where
   -- what is at the position p, from the head on
   pub marks_at : (p : ℕ) → p % 8 ≡ 0 → m.kept.consumer.head ≤ p → p < m.kept.consumer.head + C
       → Marks p (slice_index words (index C p)) (slice_index m.headers (index C p))
   marks_at p p8 lo hi = record {
-    none = m.encodes.none p p8 (omega arith) hi;
-    mark = m.encodes.marks p p8 (omega arith) hi;
+    none = m.encodes.none p p8 lo hi;
+    mark = m.encodes.marks p p8 lo hi;
   }
 
   pub may_decode : (p : ℕ) → p % 8 ≡ 0 → m.kept.consumer.head ≤ p → p < m.kept.consumer.head + C
@@ -53,21 +53,21 @@ module _ (C start : ℕ) (words : List ℕ) (homes : List (Option ℕ)) (views :
       let full : 8 ≤ bytes_of h = long_bytes h some_mark near.length_is in
       (omega arith, omega arith)
 
-  head_there : slice_index words (head_index C) ≡ m.kept.consumer.head
-  head_there = m.encodes.trailer (head_index C) (omega arith) ∙ m.kept.memory.head_is
+  words_head : slice_index words (head_index C) ≡ m.kept.consumer.head
+  words_head = m.encodes.trailer (head_index C) (omega arith) ∙ m.kept.memory.head_is
 
   pub head_fits : (slice_index words (head_index C) % 8 ≡ 0) × (slice_index words (head_index C) ≤ max_position)
   head_fits =
       let r = m.kept in
       let bounds = head_bounds elsewhere C start r.lawful m.headers r.consumer (all_of r.hist) r.memory in
-      let is = head_there in
+      let is = words_head in
       let limit = r.memory.limit in
       let top = bounds.1 in
       (ap (λ k. k % 8) is ∙ bounds.2, omega arith)
 
   pub may_decode_all : (p : ℕ) → p % 8 ≡ 0 → slice_index words (head_index C) ≤ p
       → p < slice_index words (head_index C) + C → MayDecode p (slice_index words (index C p))
-  may_decode_all p p8 lo hi = let is = head_there in may_decode p p8 (omega arith) (omega arith)
+  may_decode_all p p8 lo hi = let is = words_head in may_decode p p8 (omega arith) (omega arith)
 
   -- all claims are settled: the headers that are shown are those of the rule
   pub headers_back : (new xs : List ℕ) → AreSettled (all_of m.kept.hist)
@@ -82,7 +82,8 @@ module _ (C start : ℕ) (words : List ℕ) (homes : List (Option ℕ)) (views :
       let c8 = capacity_aligned C law.capacity in
       let start8 = start_aligned C start law in
       let mem = r.memory in
-      let head_is = head_there in
+      let head_is = words_head in
+      let none_cleared = m.none_cleared in
       let bounds = head_bounds elsewhere C start law m.headers r.consumer (all_of r.hist) mem in
       ext_get_or 0 new m.headers (wide ∙ m.encodes.wide) (λ i lt. ⊎_elim
       (λ (low : i < C / 8).

@@ -51,6 +51,7 @@ pub mod LawLemmas
 pub mod MarkWords
 pub mod EncodeLemmas
 pub mod MarkSteps
+pub mod LoadsHeaders
 pub mod ReadMarks
 pub mod ClearMarks
 pub mod SeatMarks

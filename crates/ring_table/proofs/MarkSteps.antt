@@ -1,5 +1,5 @@
 -- A step of the rule with headers is one of the rule with marks.
-use Rattle.std.proofs.Common.{◌≡◌, ◌≢◌, ℕ, ◌+◌, ◌-◌, ◌*◌, ◌/◌, ◌%◌, ◌≤◌, ◌<◌, ◌⊎◌, List, [], cond, true, set, slice_index, sym, ap, ◌∙◌, subst, inl, inr, ⊎_elim, lt-ltb, le-ltb, arith}
+use Rattle.std.proofs.Common.{◌≡◌, ◌≢◌, ℕ, ◌+◌, ◌-◌, ◌*◌, ◌/◌, ◌%◌, ◌≤◌, ◌<◌, List, [], cond, true, set, slice_index, sym, ap, ◌∙◌, subst, ⊎_elim, lt-ltb, le-ltb, arith}
 use mathlib.Core.Option.{Option, some}
 use mathlib.Core.Logic.{dite}
 use native.Mathlib.Decide.{ℕ_discrete}
@@ -22,14 +22,13 @@ use Rattle.ring_table.specs.ProducerSteps.{Mine}
 use Rattle.std.specs.Prelude.{⊤}
 use Rattle.ring_table.specs.Marks.{mark_of, Encodes, KeepsIn, KeepsMarks}
 use Rattle.ring_table.proofs.StagedPlaces.{capacity_aligned}
-use Rattle.ring_table.proofs.ReachLemmas.{reach_bounds}
 use Rattle.ring_table.proofs.StepLemmas.{one_view}
 use Rattle.ring_table.proofs.MemoryLemmas.{index_inside, head_bounds}
 use Rattle.ring_table.proofs.LoadLemmas.{Ok}
 use Rattle.ring_table.proofs.ShelfLemmas.{CarriesIn}
 use Rattle.ring_table.proofs.CarryLemmas.{Holds, lift}
 use Rattle.ring_table.proofs.MarkWords.{IsNear, near_all}
-use Rattle.ring_table.proofs.EncodeLemmas.{encodes_trailer, encodes_mark, encodes_risen}
+use Rattle.ring_table.proofs.EncodeLemmas.{encodes_trailer, encodes_mark}
 
 -- each index of the buffer is that of a position in the lap from the head on
 pub record HasIndex (C head i : ℕ) : Type 0 where
@@ -67,17 +66,17 @@ position_of C head i pos c8 head8 inside =
     })
     (cases_lt (8 * i) x)
 
--- what a step leaves of the consumer's part: what is cleared, and the head, which may go up to there
+-- what a step leaves of the consumer's part: what is cleared, and the head
 pub record Rests (v w : View) : Type 0 where
   pub stays : v.consumes ≡ true → w.consumes ≡ true
   pub cleared : v.consumes ≡ true → w.consumer.cleared ≡ v.consumer.cleared
-  pub head : v.consumes ≡ true → (w.consumer.head ≡ v.consumer.head) ⊎ (w.consumer.head ≡ v.consumer.cleared)
+  pub head : v.consumes ≡ true → w.consumer.head ≡ v.consumer.head
 
 pub rests_same : {v w : View} → w.consumes ≡ v.consumes → w.consumer ≡ v.consumer → Rests v w
 rests_same kind same = record {
   stays = λ consumes. kind ∙ consumes;
   cleared = λ _. ap (λ (z : ConsumerView). z.cleared) same;
-  head = λ _. inl (ap (λ (z : ConsumerView). z.head) same);
+  head = λ _. ap (λ (z : ConsumerView). z.head) same;
 }
 
 -- what a seat's view is after a step, whose consumer's part stays
@@ -92,27 +91,6 @@ module _ (C start : ℕ) where
   -- the state that the rule with headers speaks of
   abbrev pub with_headers : State ℕ View → List ℕ → State ℕ View
   with_headers s headers = record { words = headers; homes = s.homes; views = s.views }
-
-  -- what is cleared lies between the head and a lap later, and shows nothing
-  pub record IsCleared (headers : List ℕ) (c : ConsumerView) : Type 0 where
-    pub order : c.head ≤ c.cleared
-    pub near : c.cleared ≤ c.head + C
-    pub zeros : (p : ℕ) → p % 8 ≡ 0 → c.head ≤ p → p < c.cleared → slice_index headers (index C p) ≡ 0
-
-  pub is_cleared : (headers : List ℕ) (views : List View) (r : Kept elsewhere C start headers views)
-      → IsCleared headers r.consumer
-  is_cleared headers views r =
-      let m = r.memory in
-      let room = m.room in
-      let to = m.clears_to in
-      let bounds = reach_bounds C r.consumer.scan start (all_of r.hist) r.consumer.got m.placed m.passed in
-      let below = bounds.1 in
-      record {
-        order = m.clears_from;
-        near = omega arith;
-        zeros = λ p p8 p0 p1. m.shows p p8 p0 (omega arith)
-            ∙ ap (λ b. cond b 0 (staged_word_at elsewhere (all_of r.hist) p)) (lt-ltb p r.consumer.cleared p1);
-      }
 
   -- a header in the lap from the head on is a word, and shows less than a lap
   pub header_near : (headers : List ℕ) (views : List View) (r : Kept elsewhere C start headers views) (p : ℕ)
@@ -143,8 +121,7 @@ module _ (C start : ℕ) where
   pub rests_after : (headers headers' : List ℕ) (homes : List (Option ℕ)) (views : List View)
       (r : Kept elsewhere C start headers views) → IsShelf C homes views → (id : ℕ) (v w : View)
       → get_elem? views id ≡ some v → Rests v w → (r' : Kept elsewhere C start headers' (set views id w))
-      → (r'.consumer.cleared ≡ r.consumer.cleared)
-      × ((r'.consumer.head ≡ r.consumer.head) ⊎ (r'.consumer.head ≡ r.consumer.cleared))
+      → (r'.consumer.cleared ≡ r.consumer.cleared) × (r'.consumer.head ≡ r.consumer.head)
   rests_after headers headers' homes views r s id v w at rests r' =
       let d = s.reader in
       let was : d.view.consumer ≡ r.consumer = ((r.seated.each d.seat d.view d.there).consumes d.consumes).1 in
@@ -156,38 +133,13 @@ module _ (C start : ℕ) where
       let new : w.consumer ≡ r'.consumer =
       ((r'.seated.each id w (set_here views id w (at_below views id v at))).consumes (rests.stays consumes)).1 in (
         ap (λ (z : ConsumerView). z.cleared) (sym new) ∙ rests.cleared consumes ∙ ap (λ (z : ConsumerView). z.cleared) old,
-        ⊎_elim
-            (λ (h : w.consumer.head ≡ v.consumer.head).
-            inl (ap (λ (z : ConsumerView). z.head) (sym new) ∙ h ∙ ap (λ (z : ConsumerView). z.head) old))
-            (λ (h : w.consumer.head ≡ v.consumer.cleared).
-            inr (ap (λ (z : ConsumerView). z.head) (sym new) ∙ h ∙ ap (λ (z : ConsumerView). z.cleared) old))
-            (rests.head consumes),
+        ap (λ (z : ConsumerView). z.head) (sym new) ∙ rests.head consumes ∙ ap (λ (z : ConsumerView). z.head) old,
       ))
       (λ other.
       let new : d.view.consumer ≡ r'.consumer = ((r'.seated.each d.seat d.view
       (set_else views id d.seat w other ∙ d.there)).consumes d.consumes).1 in
       let one : r'.consumer ≡ r.consumer = sym new ∙ was in
-      (ap (λ (z : ConsumerView). z.cleared) one, inl (ap (λ (z : ConsumerView). z.head) one)))
-
-  -- so no more is cleared than the head says
-  pub rests_on : {c h c' h' : ℕ} → c ≡ h → (c' ≡ c) × ((h' ≡ h) ⊎ (h' ≡ c)) → c' ≡ h'
-  rests_on {c} {h} {c'} {h'} is after = ⊎_elim (λ (z : h' ≡ h). after.0 ∙ is ∙ sym z) (λ (z : h' ≡ c). after.0 ∙ sym z)
-      after.1
-
-  -- so the words encode the same headers
-  pub encodes_after : (headers words : List ℕ) (views : List View) (r : Kept elsewhere C start headers views)
-      (head' cleared' : ℕ) → Encodes C r.consumer.head r.consumer.cleared headers words → cleared' ≡ r.consumer.cleared
-      → (head' ≡ r.consumer.head) ⊎ (head' ≡ r.consumer.cleared) → Encodes C head' cleared' headers words
-  encodes_after headers words views r head' cleared' e same heads =
-      let c = is_cleared headers views r in
-      ⊎_elim
-      (λ (h : head' ≡ r.consumer.head).
-      subst (λ (z : ℕ × ℕ). Encodes C z.0 z.1 headers words) (λ i. (sym h i, sym same i)) e)
-      (λ (h : head' ≡ r.consumer.cleared).
-      subst (λ (z : ℕ × ℕ). Encodes C z.0 z.1 headers words) (λ i. (sym h i, sym same i))
-      (encodes_risen C start r.lawful r.consumer.head r.consumer.cleared headers words e c.order c.near c.zeros
-      (capacity_aligned C r.lawful.capacity)))
-      heads
+      (ap (λ (z : ConsumerView). z.cleared) one, ap (λ (z : ConsumerView). z.head) one))
 
   -- ---- steps
 
@@ -213,13 +165,10 @@ module _ (C start : ℕ) where
           headers = set m.headers i (f n);
           kept = r';
           shelf = t.3.1;
-          encodes = subst
-              (λ z. Encodes C r'.consumer.head r'.consumer.cleared (set m.headers i (f n)) (set s.words i (f z)))
-              (sym same)
-              (encodes_trailer C start r.lawful r'.consumer.head r'.consumer.cleared m.headers s.words
-              (encodes_after m.headers s.words s.views r r'.consumer.head r'.consumer.cleared m.encodes after.0 after.1)
-              i (f n) far (omega arith));
-          rests = rests_on m.rests after;
+          none_cleared = after.0 ∙ m.none_cleared ∙ sym after.1;
+          encodes = subst (λ (z : ℕ × ℕ). Encodes C z.0 (set m.headers i (f n)) (set s.words i (f z.1)))
+              (λ k. (sym after.1 k, sym same k))
+              (encodes_trailer C start r.lawful r.consumer.head m.headers s.words m.encodes i (f n) far (omega arith));
         },
         subst (λ z. told z (t.0, carried_after me.1 t.1)) (sym same) t.4,
       )
@@ -245,9 +194,9 @@ module _ (C start : ℕ) where
           headers = m.headers;
           kept = r';
           shelf = t.3.1;
-          encodes = subst (Encodes C r'.consumer.head r'.consumer.cleared m.headers) (sym words_are)
-              (encodes_after m.headers s.words s.views r r'.consumer.head r'.consumer.cleared m.encodes after.0 after.1);
-          rests = rests_on m.rests after;
+          none_cleared = after.0 ∙ m.none_cleared ∙ sym after.1;
+          encodes = subst (λ (z : ℕ × List ℕ). Encodes C z.0 m.headers z.1)
+              (λ k. (sym after.1 k, sym words_are k)) m.encodes;
         },
         t.4,
       )
@@ -270,14 +219,9 @@ module _ (C start : ℕ) where
       let t = allows (with_headers s m.headers) (r, m.shelf) wide at (header_small m.headers s.views r i inside) in
       let long = r.memory.wide in
       let r' = t.3.0 in
-      let c = is_cleared m.headers s.views r in
-      let order = c.order in
+      let none = m.none_cleared in
       let after = rests_after m.headers (set m.headers i h) s.homes s.views r m.shelf id me.0 t.0 at
-      (rests (t.0, carried_after me.1 t.1) t.4) r' in
-      let cleared_is = after.0 in
-      let head' : (r'.consumer.head ≤ r'.consumer.cleared) × (q < r'.consumer.head + C) = ⊎_elim
-      (λ (z : r'.consumer.head ≡ r.consumer.head). (omega arith, omega arith))
-      (λ (z : r'.consumer.head ≡ r.consumer.cleared). (omega arith, omega arith)) after.1 in (
+      (rests (t.0, carried_after me.1 t.1) t.4) r' in (
         t.0,
         t.1,
         t.2,
@@ -285,10 +229,10 @@ module _ (C start : ℕ) where
           headers = set m.headers i h;
           kept = r';
           shelf = t.3.1;
-          encodes = encodes_mark C start r.lawful r'.consumer.head r'.consumer.cleared m.headers s.words
-              (encodes_after m.headers s.words s.views r r'.consumer.head r'.consumer.cleared m.encodes after.0 after.1)
-              q h mark there.0 head'.0 (omega arith) head'.1 (omega arith) full there.3;
-          rests = rests_on m.rests after;
+          none_cleared = after.0 ∙ m.none_cleared ∙ sym after.1;
+          encodes = subst (λ z. Encodes C z (set m.headers i h) (set s.words i mark)) (sym after.1)
+              (encodes_mark C start r.lawful r.consumer.head m.headers s.words m.encodes q h mark there.0 (omega arith)
+              near (omega arith) full there.3);
         },
         t.4,
       )

@@ -1,5 +1,5 @@
 -- The consumer's loads of marks keep the rule.
-use Rattle.std.proofs.Common.{◌≡◌, ◌≢◌, ◌⊎◌, ℕ, suc, ◌+◌, ◌-◌, ◌/◌, ◌%◌, ◌^◌, ◌≤◌, ◌<◌, ℤ, pos, ◌≤ℤ◌, FitsSigned, List, [], ◌∷◌, ◌++◌, cond, true, set, slice_index, sym, refl, ap, ◌∙◌, subst, inl, inr, ⊎_elim, length, le-ltb, eq-eqb, arith}
+use Rattle.std.proofs.Common.{◌≡◌, ◌≢◌, ◌⊎◌, ℕ, suc, ◌+◌, ◌-◌, ◌/◌, ◌%◌, ◌^◌, ◌≤◌, ◌<◌, List, [], ◌∷◌, ◌++◌, cond, true, set, slice_index, sym, refl, ap, ◌∙◌, subst, inl, inr, ⊎_elim, length, le-ltb, eq-eqb, arith}
 use Rattle.std.specs.Int.{cast_unsigned, w32}
 use mathlib.Core.Option.{Option, some}
 use mathlib.Core.Logic.{dite}
@@ -9,9 +9,10 @@ use Rattle.std.proofs.lemmas.Bool.{cond-true}
 use Rattle.std.proofs.lemmas.List.{set-get_or}
 use Rattle.atomic_table.specs.Table.{State, Act, Allows, Valid, keeps, carried_after, homes_after}
 use Rattle.atomic_table.proofs.Lists.{set_here}
+use Rattle.ring_layout.specs.Marks.{committed_kind, open_kind, padding_kind, aborted_kind}
 use Rattle.ring_layout.specs.History.{IsMessage}
-use Rattle.ring_layout.specs.Places.{index}
-use Rattle.ring_layout.specs.Headers.{header, padding_header, padding_type, committed_header}
+use Rattle.ring_layout.specs.Places.{index, rounded}
+use Rattle.ring_layout.specs.Headers.{padding_header, committed_header}
 use Rattle.ring_layout.proofs.ListLemmas.{at_below}
 use Rattle.ring_table.specs.Staged.{elsewhere, slot_bytes, PlacedMessage, shown_header, staged_word_at}
 use Rattle.ring_table.specs.Owners.{all_of}
@@ -20,105 +21,27 @@ use Rattle.ring_table.specs.Views.{ConsumerView, View}
 use Rattle.ring_table.specs.Rule.{Kept}
 use Rattle.ring_table.specs.Shelf.{IsShelf}
 use Rattle.ring_table.specs.ProducerSteps.{Mine}
-use Rattle.ring_table.specs.ConsumerSteps.{with_scan, rounded, IsInside, LoadsHeader}
+use Rattle.ring_table.specs.ConsumerSteps.{with_scan, IsInside, LoadsHeader}
 use Rattle.ring_table.specs.Ranges.{numbered}
 use Rattle.ring_table.proofs.RangeLemmas.{first_of_some}
 use Rattle.ring_table.proofs.SlotBytes.{first_word_of, length_slot}
 use Rattle.ring_table.specs.SlotSteps.{with_out, HasBody, IsLent}
-use Rattle.ring_table.specs.Marks.{committed_kind, open_kind, padding_kind, aborted_kind, bytes_of, kind_of, mark_of, Encodes, KeepsMarks, LoadsMark}
+use Rattle.ring_table.specs.Marks.{bytes_of, kind_of, mark_of, Encodes, KeepsMarks, LoadsMark}
 use Rattle.ring_table.proofs.StagedPlaces.{capacity_aligned, start_aligned}
 use Rattle.ring_table.proofs.ReachLemmas.{reach_bounds, reach_aligned}
-use Rattle.ring_table.proofs.HeaderReads.{halves, low_half, shown_low, shown_other, Leads, leads}
-use Rattle.ring_table.proofs.ConsumeLemmas.{not_positive, one_type_id, padding_bits, scans}
+use Rattle.ring_table.proofs.HeaderReads.{shown_low, shown_other, Leads, leads}
+use Rattle.ring_table.proofs.ConsumeLemmas.{scans}
 use Rattle.ring_table.proofs.ShelfLemmas.{stepped_shelf}
 use Rattle.ring_table.proofs.CarryLemmas.{carries_same}
 use Rattle.ring_table.proofs.OutLemmas.{lends_body, set_twice}
 use Rattle.ring_table.proofs.MarkWords.{bytes_plain, whole_bytes, kind_aborted, kind_committed, kind_open, kind_padding}
-use Rattle.ring_table.proofs.MarkSteps.{Marked, Rests, encodes_after, header_near, rests_after, rests_on, with_headers}
+use Rattle.ring_table.proofs.MarkSteps.{Marked, Rests, header_near, rests_after, with_headers}
+use Rattle.ring_table.proofs.LoadsHeaders.{told_none, told_padding, told_message}
 
 -- a header of padding as the formats have it
 padding_shown : (h : ℕ) → h / 2 ^ 32 ≡ 2 ^ 32 - 2 → shown_header elsewhere h / 2 ^ 32 ≡ 2 ^ 32 - 1
 padding_shown h pad =
     ap (λ k. k / 2 ^ 32) (cond-true _ (h + 2 ^ 32) h (eq-eqb (h / 2 ^ 32) (2 ^ 32 - 2) pad)) ∙ omega arith
-
--- ---- what a header shows the read
-
-module _ (C q : ℕ) (got : List PlacedMessage) (v : View) (cap : v.capacity ≡ C) where
-  -- no header
-  told_none : LoadsHeader v.capacity q got v 0 (with_scan (index C q) 0 q got v)
-  told_none = record {
-    capacity = refl;
-    stays = record { producer = refl; out = refl; consumes = refl; head = refl };
-    padding = λ len some small e. let t = halves len padding_type small e in let len_is = t.0 in absurd (omega arith);
-    message = λ len type_id some small fits other e. let t = halves len type_id small e in let len_is =
-        t.0 in absurd (omega arith);
-    unpublished = λ len type_id _ _ _ _. ap (λ c. with_scan (index c q) 0 q got v) (sym cap);
-  }
-
-  -- a header of a positive length is not one of a length that is not
-  positive : (n : ℕ) → 0 < n % 2 ^ 32 → n % 2 ^ 32 < 2 ^ 31 → (len type_id : ℤ) → FitsSigned w32 len → len ≤ℤ pos 0
-      → n ≡ header len type_id → ⊥
-  positive n full small len type_id fits le e =
-      let bits : n % 2 ^ 32 ≡ cast_unsigned w32 len = ap (λ k. k % 2 ^ 32) e ∙ low_half len type_id fits in
-      let none = not_positive len fits le in
-      none (omega arith, omega arith)
-
-  -- padding of b bytes
-  told_padding : (b : ℕ) → 0 < b → b < 2 ^ 31 → b % 8 ≡ 0 → IsInside C q b
-      → LoadsHeader v.capacity q got v (padding_header b) (with_scan (index C q) (padding_header b) (q + b) got v)
-  told_padding b full small b8 inside =
-      let n : ℕ = padding_header b in
-      let both = halves b padding_type small refl in
-      let low : n % 2 ^ 32 ≡ b = both.0 in
-      record {
-        capacity = refl;
-        stays = record { producer = refl; out = refl; consumes = refl; head = refl };
-        padding = λ len some small' e.
-            let len_is = (halves len padding_type small' e).0 in
-            let is : b ≡ rounded len = omega arith in
-            record {
-              view = λ i. with_scan (index (sym cap i) q) n (q + is i) got v;
-              inside = subst (λ (z : ℕ × ℕ). IsInside z.0 q z.1) (λ i. (sym cap i, is i)) inside;
-            };
-        message = λ len type_id some small' fits other e.
-            let t = halves len type_id small' e in
-            absurd (other (padding_bits type_id fits (sym t.1 ∙ both.1)));
-        unpublished = λ len type_id fits _ le e. absurd (positive n (omega arith) (omega arith) len type_id fits le e);
-      }
-
-  -- a message
-  told_message : (m : PlacedMessage) (n b : ℕ) → m.place ≡ q → n ≡ committed_header m.message.type_id (length m.message.body)
-      → IsMessage C m.message → 8 + length m.message.body < 2 ^ 31 → b ≡ rounded (8 + length m.message.body) → IsInside C q b
-      → LoadsHeader v.capacity q got v n (with_scan (index C q) n (q + b) (got ++ m ∷ []) v)
-  told_message m n b place n_is lawful small b_is inside =
-      let both = halves (8 + length m.message.body) m.message.type_id small n_is in
-      let low : n % 2 ^ 32 ≡ 8 + length m.message.body = both.0 in
-      record {
-        capacity = refl;
-        stays = record { producer = refl; out = refl; consumes = refl; head = refl };
-        padding = λ len some small' e.
-            let t = halves len padding_type small' e in
-            let type_is : m.message.type_id ≡ padding_type =
-            padding_bits m.message.type_id lawful.type_fits (sym both.1 ∙ t.1) in
-            let one : pos 1 ≤ℤ padding_type = subst (λ z. pos 1 ≤ℤ z) type_is lawful.type_id in
-            absurd (omega arith);
-        message = λ len type_id some small' fits not_pad e.
-            let t = halves len type_id small' e in
-            let len_is : 8 + length m.message.body ≡ len = sym low ∙ t.0 in
-            let types : m.message.type_id ≡ type_id =
-            one_type_id m.message.type_id type_id lawful.type_fits fits (sym both.1 ∙ t.1) in
-            let far : b ≡ rounded len = b_is ∙ ap rounded len_is in
-            record {
-              body = m.message.body;
-              len_is = len_is;
-              message = subst (λ (z : ℕ × ℤ). IsMessage z.0 (record { type_id = z.1; body = m.message.body }))
-                  (λ i. (sym cap i, types i)) lawful;
-              view = λ i. with_scan (index (sym cap i) q) n (q + far i)
-                  (got ++ (record { place = place i; message = record { type_id = types i; body = m.message.body } }) ∷ []) v;
-              inside = subst (λ (z : ℕ × ℕ). IsInside z.0 q z.1) (λ i. (sym cap i, far i)) inside;
-            };
-        unpublished = λ len type_id fits _ le e. absurd (positive n (omega arith) (omega arith) len type_id fits le e);
-      }
 
 -- ---- steps
 
@@ -126,7 +49,7 @@ module _ (C start : ℕ) (s : State ℕ View) (m : KeepsMarks C start s.words s.
     (at : get_elem? s.views id ≡ some v) (consumes : v.consumes ≡ true) (bare : v.out ≡ []) where
   rests : (w : View) → w.consumes ≡ v.consumes → w.consumer.cleared ≡ v.consumer.cleared
       → w.consumer.head ≡ v.consumer.head → Rests v w
-  rests w kind cleared head = record { stays = λ c. kind ∙ c; cleared = λ _. cleared; head = λ _. inl head }
+  rests w kind cleared head = record { stays = λ c. kind ∙ c; cleared = λ _. cleared; head = λ _. head }
 
   -- the words stay as the seat gets the view w
   kept_words : (w : View) (homes : List (Option ℕ)) (j : ℕ) → Rests v w → Kept elsewhere C start m.headers (set s.views id w)
@@ -138,10 +61,9 @@ module _ (C start : ℕ) (s : State ℕ View) (m : KeepsMarks C start s.words s.
         headers = m.headers;
         kept = kept;
         shelf = shelf;
-        encodes = subst (Encodes C kept.consumer.head kept.consumer.cleared m.headers) (sym (set-get_or s.words j 0))
-            (encodes_after C start m.headers s.words s.views m.kept kept.consumer.head kept.consumer.cleared m.encodes
-            after.0 after.1);
-        rests = rests_on C start m.rests after;
+        none_cleared = after.0 ∙ m.none_cleared ∙ sym after.1;
+        encodes = subst (λ (z : ℕ × List ℕ). Encodes C z.0 m.headers z.1)
+            (λ k. (sym after.1 k, sym (set-get_or s.words j 0) k)) m.encodes;
       }
 
   -- the read comes to a position
@@ -308,9 +230,9 @@ module _ (C start slots : ℕ) (q : ℕ) (got : List PlacedMessage) (id : ℕ) (
       sym (mem.shows q q8 (omega arith) near ∙ ap (λ b. cond b 0 (staged_word_at elsewhere (all_of r.hist) q))
       (le-ltb q r.consumer.cleared le)) in
       let seen = header_near C start m.headers s.views r q q8 (omega arith) near in
-      let some_mark = λ (some : h ≢ 0). m.encodes.marks q q8 le near some in
+      let some_mark = λ (some : h ≢ 0). m.encodes.marks q q8 (omega arith) near some in
       ⊎_elim
-      (λ (zero : h ≡ 0). reads_none n refl (inl (m.encodes.none q q8 le near zero)))
+      (λ (zero : h ≡ 0). reads_none n refl (inl (m.encodes.none q q8 (omega arith) near zero)))
       (λ t. ⊎_elim
       (λ (plus : (0 < h % 2 ^ 32) × (h % 2 ^ 32 < 2 ^ 31)).
       let low : ℕ = h % 2 ^ 32 in
@@ -365,14 +287,13 @@ module _ (C start slots : ℕ) (q : ℕ) (got : List PlacedMessage) (id : ℕ) (
 module _ (C start : ℕ) where
   -- at the head, as a read begins
   pub reads_first : (slots id : ℕ) (me : Mine) → me.0.capacity ≡ C → me.0.consumes ≡ true → me.0.out ≡ [] → me.1 ≡ []
-      → me.0.consumer.cleared ≡ me.0.consumer.head
       → Allows (Marked C start) slots id me (index C me.0.consumer.head) (λ n. n)
       (λ n me'. LoadsMark me.0.capacity me.0.consumer.head me.0.consumer.taken me n me')
-  reads_first slots id me cap consumes bare empty none_cleared s m wide at small =
+  reads_first slots id me cap consumes bare empty s m wide at small =
       let r = m.kept in
       let mine = ((r.seated.each id me.0 at).consumes consumes).1 in
       let heads : me.0.consumer.head ≡ r.consumer.head = ap (λ (z : ConsumerView). z.head) mine in
-      let cleared : me.0.consumer.cleared ≡ r.consumer.cleared = ap (λ (z : ConsumerView). z.cleared) mine in
+      let none_cleared = m.none_cleared in
       let least = r.lawful.capacity.least in
       subst (λ c. MayReadAs C start c s me.0.consumer.head me.0.consumer.taken id me) (sym cap)
       (reads_mark C start slots me.0.consumer.head me.0.consumer.taken id me cap consumes bare empty s m wide at

@@ -4,10 +4,9 @@ use Rattle.std.proofs.lemmas.Bool.{cases_lt, cond-true, cond-false}
 use Rattle.std.proofs.lemmas.Nat.{mod_below}
 use Rattle.ring_layout.specs.declared.message.ClaimState.TheVariants.{Open, Committed, Aborted}
 use Rattle.ring_layout.specs.Headers.{header, header_of, padding_type}
-use Rattle.ring_layout.specs.Places.{IsCapacity, index, next_place}
+use Rattle.ring_layout.specs.Places.{IsCapacity, index, next_place, rounded}
 use Rattle.ring_layout.proofs.Laps.{LieInLap, mod_aligned, index_outside}
 use Rattle.ring_layout.proofs.PlaceLemmas.{next_le, next_within}
-use Rattle.ring_table.specs.ConsumerSteps.{rounded}
 use Rattle.ring_table.specs.Staged.{in_words, StagedClaim, Stage, Moved, Padded, Stored, IsStored, LiesAfter, claim_of, claim_end, stage_state, staged_span, masked_record, staged_word, staged_word_at, ArePlaced, staged_end}
 use Rattle.ring_table.specs.Passing.{IsSettled, placed_message, shown_at, placed_committed_of}
 use Rattle.ring_table.specs.Refilling.{FillsOver, FillsTo, Filled, FitAll, FitsBody, all_filled, filled, filled_message}

@@ -38,8 +38,8 @@ module _ (C start : ℕ) where
         headers = m.headers;
         kept = kept;
         shelf = shelf;
-        encodes = subst (λ (z : ConsumerView). Encodes C z.head z.cleared m.headers s.words) one m.encodes;
-        rests = subst (λ (z : ConsumerView). z.cleared ≡ z.head) one m.rests;
+        none_cleared = subst (λ (z : ConsumerView). z.cleared ≡ z.head) one m.none_cleared;
+        encodes = subst (λ (z : ConsumerView). Encodes C z.head m.headers s.words) one m.encodes;
       }
 
   pub split_marks : (id : ℕ) (v left right : View) → IsReaderOf v left → IsReaderOf v right
@@ -91,17 +91,16 @@ module _ (C start : ℕ) where
         headers = words;
         kept = kept;
         shelf = shelf;
-        encodes = subst (λ (z : ConsumerView). Encodes C z.head z.cleared words words) mine no_marks;
-        rests = subst (λ (z : ConsumerView). z.cleared ≡ z.head) mine refl;
+        none_cleared = subst (λ (z : ConsumerView). z.cleared ≡ z.head) mine refl;
+        encodes = subst (λ (z : ConsumerView). Encodes C z.head words words) mine no_marks;
       }
     where
-      no_marks : Encodes C start start words words
+      no_marks : Encodes C start words words
       no_marks = record {
         wide = refl;
         trailer = λ i far. refl;
         marks = λ p p8 p0 p1 some. absurd (some (is.records (index C p) (index_inside elsewhere C start law p)));
         none = λ p p8 p0 p1 zero. omega arith;
-        passed = λ p p8 p0 p1. absurd (omega arith);
       }
 
 -- ---- both rules

@@ -8,11 +8,10 @@ use Rattle.ring_layout.specs.declared.message.ClaimState.TheVariants.{Open, Comm
 use Rattle.ring_layout.specs.History.{IsMessage}
 use Rattle.ring_layout.specs.Headers.{header_of, padding_header, padding_type}
 use Rattle.ring_layout.specs.Layout.{head_index, ring_words}
-use Rattle.ring_layout.specs.Places.{IsCapacity, index, next_place}
+use Rattle.ring_layout.specs.Places.{IsCapacity, index, next_place, rounded}
 use Rattle.ring_layout.proofs.HeaderLemmas.{fits_neg}
 use Rattle.ring_layout.proofs.Laps.{apart, mod_aligned}
 use Rattle.ring_layout.proofs.PlaceLemmas.{next_le}
-use Rattle.ring_table.specs.ConsumerSteps.{rounded}
 use Rattle.ring_table.specs.Staged.{in_words, StagedClaim, PlacedMessage, Stage, Moved, Padded, Stored, IsStored, AreStored, LiesAfter, claim_of, claim_end, stage_state, staged_span, masked_record, part_word, staged_word, staged_word_at, ArePlaced, staged_end}
 use Rattle.ring_table.specs.Passing.{IsSettled, AreSettled, placed_message, shown_at, placed_committed_of}
 use Rattle.ring_table.specs.Rescued.{AreTight, one_if_unsettled, settled_word, silent_of, Settles, ShowsClaims}

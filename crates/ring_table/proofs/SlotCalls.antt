@@ -5,13 +5,14 @@ use lib.ListN.{get_elem?}
 use Rattle.atomic_table.specs.Seated.{TableId}
 use Rattle.atomic_table.specs.Table.{State, Allows}
 use Rattle.atomic_table.specs.declared.shared.Seat.{Seat}
+use Rattle.ring_layout.specs.Marks.{padding_kind}
 use Rattle.ring_layout.specs.Places.{IsCapacity, index}
-use Rattle.ring_layout.specs.Layout.{ring_words}
+use Rattle.ring_layout.specs.Layout.{head_index, ring_words}
 use Rattle.ring_layout.proofs.PlaceLemmas.{next_cases}
 use Rattle.ring_table.specs.Staged.{elsewhere, padding_word, StagedClaim, Moved, claim_end, staged_span}
 use Rattle.ring_table.specs.Passing.{IsSettled}
 use Rattle.ring_table.specs.Rule.{Kept}
-use Rattle.ring_table.specs.Marks.{mark_of, padding_kind}
+use Rattle.ring_table.specs.Marks.{mark_of}
 use Rattle.ring_table.specs.Views.{Key, View}
 use Rattle.ring_table.specs.ProducerSteps.{Mine, HasClaim}
 use Rattle.ring_table.specs.SlotSteps.{IsSameHolder}
@@ -64,6 +65,18 @@ module _ {id : TableId} {key : Key} {capacity : ℕ} {seat : Seat ℕ View} (tab
             (told (index capacity q)) (omega arith) rests allows),
       )
 
+  -- the head is stored
+  pub head_step : (i : ℕ) → i ≡ capacity / 8 + 48 → (value : ℕ) (told : ℕ → Mine → Type 0)
+      → Allows (Marked capacity key.start) id.slots seat.id seat.me (head_index capacity) (λ _. value) told
+      → (seat.table_id ≡ id) × (i < id.words)
+      × Allows (Marked key.capacity key.start) id.slots seat.id seat.me i (λ _. value) told
+  head_step i is value told allows = (
+    table,
+    omega arith,
+    subst (λ (z : ℕ × ℕ). Allows (Marked z.0 key.start) id.slots seat.id seat.me z.1 (λ _. value) told)
+        (λ k. (sym key_is k, sym is k)) allows,
+  )
+
   -- a step of the rule with marks at the word of a record
   pub mark_step : (i p q : ℕ) → i ≡ index capacity p → q ≡ p → (f : ℕ → ℕ) (told : ℕ → ℕ → Mine → Type 0)
       → Allows (Marked capacity key.start) id.slots seat.id seat.me (index capacity q) f (told (index capacity q))
@@ -79,17 +92,6 @@ module _ {id : TableId} {key : Key} {capacity : ℕ} {seat : Seat ℕ View} (tab
         subst (λ (z : ℕ × ℕ). Allows (Marked z.0 key.start) id.slots seat.id seat.me z.1 f (told z.1))
             (λ k. (sym key_is k, sym there k)) allows,
       )
-
-  -- a step of the rule with marks at a word of the trailer
-  pub trailer_mark_step : (i word : ℕ) → word < 96 → i ≡ capacity / 8 + word → (f : ℕ → ℕ) (told : ℕ → Mine → Type 0)
-      → Allows (Marked capacity key.start) id.slots seat.id seat.me (capacity / 8 + word) f told
-      → (seat.table_id ≡ id) × (i < id.words) × Allows (Marked key.capacity key.start) id.slots seat.id seat.me i f told
-  trailer_mark_step i word inside is f told allows = (
-    table,
-    omega arith,
-    subst (λ (z : ℕ × ℕ). Allows (Marked z.0 key.start) id.slots seat.id seat.me z.1 f told)
-        (λ k. (sym key_is k, sym is k)) allows,
-  )
 
 -- where the mark of an own claim that is not settled lies, and which it is: the code wraps, though no position is so far
 pub lies_ahead : (C start id : ℕ) (v : View) (k : ℕ) (c : StagedClaim) → HasClaim v k c → (IsSettled c.stage → ⊥)

@@ -7,14 +7,13 @@ use Rattle.std.proofs.lemmas.Nat.{mod_below}
 use Rattle.ring_layout.specs.declared.message.ClaimState.TheVariants.{Open, Committed, Aborted}
 use Rattle.ring_layout.specs.Headers.{header, header_of, padding_header, padding_type}
 use Rattle.ring_layout.specs.History.{IsMessage}
-use Rattle.ring_layout.specs.Places.{index, max_position, next_place, room}
+use Rattle.ring_layout.specs.Places.{index, max_position, next_place, room, rounded}
 use Rattle.ring_layout.proofs.HeaderLemmas.{fits_pos}
 use Rattle.ring_layout.proofs.Laps.{LieInLap, mod_aligned, index_outside}
 use Rattle.ring_layout.proofs.PlaceLemmas.{next_cases, next_le, next_within}
 use Rattle.ring_table.specs.Staged.{in_words, elsewhere, padding_mark, padding_word, shown_header, PlacedMessage, StagedClaim, Stage, Moved, Padded, Stored, IsStored, claim_of, stage_state, staged_span, claim_end, staged_word_at, ArePlaced, staged_end}
 use Rattle.ring_table.specs.Owners.{OwnedHistory, all_of}
 use Rattle.ring_table.specs.Passing.{IsSettled, AreSettled, Reaches}
-use Rattle.ring_table.specs.ConsumerSteps.{rounded}
 use Rattle.ring_table.specs.Walk.{IsCopied, Parts, Stands, Walked}
 use Rattle.ring_table.proofs.BodyPlaces.{BodyIn, behind_header}
 use Rattle.ring_table.proofs.HeaderReads.{high_half, halves, type_below, shown_other, shown_padding}

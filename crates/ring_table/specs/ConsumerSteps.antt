@@ -4,7 +4,7 @@ use Rattle.std.specs.Int.{w32}
 use mathlib.Core.Option.{some}
 use lib.ListN.{get_elem?}
 use Rattle.ring_layout.specs.History.{IsMessage}
-use Rattle.ring_layout.specs.Places.{index, max_position}
+use Rattle.ring_layout.specs.Places.{index, max_position, rounded}
 use Rattle.ring_layout.specs.Headers.{header, padding_type}
 use Rattle.ring_table.specs.Staged.{PlacedMessage, body_word}
 use Rattle.ring_table.specs.Views.{View, logged, with_consumer, scanned, cleared_to, stands_at}
@@ -12,10 +12,6 @@ use Rattle.ring_table.specs.Views.{View, logged, with_consumer, scanned, cleared
 -- the read has come to `scan` and has got these messages
 abbrev pub with_scan : ℕ → ℕ → ℕ → List PlacedMessage → View → View
 with_scan word n scan got v = with_consumer (scanned scan got v.consumer) (logged word n v)
-
--- bytes rounded up to a multiple of 8
-abbrev pub rounded : ℕ → ℕ
-rounded n = (n + 7) / 8 * 8
 
 -- n bytes from the position p on end below the last position, and do not cross a multiple of the capacity
 pub record IsInside (C p n : ℕ) : Type 0 where
@@ -77,19 +73,9 @@ abbrev pub StoresHeadBefore : View → View → Type 0
 StoresHeadBefore v w = (got : List PlacedMessage) (m : PlacedMessage) → v.consumer.got ≡ got ++ m ∷ []
     → w ≡ with_consumer (stands_at m.place got v.consumer) v
 
--- m is the last message that the read has got, which is here
-pub record HasLastAhead (head : ℕ) (v : View) : Type 0 where
-  pub front : List PlacedMessage
-  pub last : PlacedMessage
-  pub got : v.consumer.got ≡ front ++ last ∷ []
-  pub place : last.place ≡ head
-  pub ahead : v.consumer.cleared ≤ head
-  pub scan : head ≤ v.consumer.scan
-
--- m is the last message that the read has got, and all words before it are cleared
+-- the last message that the read has got is at the position `head`
 pub record StandsBefore (head : ℕ) (v : View) : Type 0 where
   pub front : List PlacedMessage
   pub last : PlacedMessage
   pub got : v.consumer.got ≡ front ++ last ∷ []
   pub place : last.place ≡ head
-  pub cleared : v.consumer.cleared ≡ head

@@ -2,7 +2,8 @@
 -- p, and otherwise says nothing. A mark is the end of the record or of the padding that begins at p, and its kind.
 use Rattle.std.specs.Prelude.{◌≡◌, ◌≢◌, ◌⊎◌, ℕ, pos, ◌+◌, ◌-◌, ◌*◌, ◌/◌, ◌%◌, ◌^◌, ◌≤◌, ◌<◌, List, length, slice_index, if◌then◌else◌, nat_lt, ◌==◌}
 use mathlib.Core.Option.{Option}
-use Rattle.ring_layout.specs.Places.{index}
+use Rattle.ring_layout.specs.Marks.{committed_kind, padding_kind, open_kind, aborted_kind}
+use Rattle.ring_layout.specs.Places.{index, rounded}
 use Rattle.ring_table.specs.Staged.{Bodies, in_words, elsewhere, padding_word}
 use Rattle.ring_table.specs.Views.{Key, View}
 use Rattle.ring_table.specs.Shelf.{HasShelf, IsShelf}
@@ -12,21 +13,7 @@ use Rattle.ring_table.specs.Staged.{PlacedMessage}
 use Rattle.ring_table.specs.Views.{Logs}
 use Rattle.ring_table.specs.ProducerSteps.{Mine}
 use Rattle.ring_table.specs.SlotSteps.{with_out, IsLent}
-use Rattle.ring_table.specs.ConsumerSteps.{rounded, LoadsHeader}
-
--- ---- kinds, which are below 8: ends are multiples of 8
-
-abbrev pub committed_kind : ℕ
-committed_kind = 0
-
-abbrev pub padding_kind : ℕ
-padding_kind = 1
-
-abbrev pub open_kind : ℕ
-open_kind = 2
-
-abbrev pub aborted_kind : ℕ
-aborted_kind = 3
+use Rattle.ring_table.specs.ConsumerSteps.{LoadsHeader}
 
 -- the kind of what has this header
 unfoldable pub kind_of : ℕ → ℕ
@@ -45,25 +32,24 @@ mark_of p h = p + bytes_of h + kind_of h
 
 -- ---- the rule
 
--- The words have the marks of what the headers show, from `cleared` on. Where the headers show nothing, they are no
--- marks, nor are they a lap later below `cleared`
-pub record Encodes (C head cleared : ℕ) (headers words : List ℕ) : Type 0 where
+-- The words have the marks of what the headers show, from the head on. Words for which the headers show nothing are no
+-- marks
+pub record Encodes (C head : ℕ) (headers words : List ℕ) : Type 0 where
   pub wide : length words ≡ length headers
   pub trailer : (i : ℕ) → C / 8 ≤ i → slice_index words i ≡ slice_index headers i
-  pub marks : (p : ℕ) → p % 8 ≡ 0 → cleared ≤ p → p < head + C → slice_index headers (index C p) ≢ 0
+  pub marks : (p : ℕ) → p % 8 ≡ 0 → head ≤ p → p < head + C → slice_index headers (index C p) ≢ 0
       → slice_index words (index C p) ≡ mark_of p (slice_index headers (index C p))
-  pub none : (p : ℕ) → p % 8 ≡ 0 → cleared ≤ p → p < head + C → slice_index headers (index C p) ≡ 0
+  pub none : (p : ℕ) → p % 8 ≡ 0 → head ≤ p → p < head + C → slice_index headers (index C p) ≡ 0
       → slice_index words (index C p) ≤ p
-  pub passed : (p : ℕ) → p % 8 ≡ 0 → head ≤ p → p < cleared → slice_index words (index C p) ≤ p + C
 
 -- The rule of a ring whose bodies lie in slots: there are headers that keep the rule, and that the words encode. The
--- consumer clears what it has passed as it stores the head
+-- headers that a read has passed are cleared as the head is stored, and none before
 pub record KeepsMarks (C start : ℕ) (words : List ℕ) (homes : List (Option ℕ)) (views : List View) : Type 0 where
   pub headers : List ℕ
   pub kept : Kept elsewhere C start headers views
   pub shelf : IsShelf C homes views
-  pub encodes : Encodes C kept.consumer.head kept.consumer.cleared headers words
-  pub rests : kept.consumer.cleared ≡ kept.consumer.head
+  pub none_cleared : kept.consumer.cleared ≡ kept.consumer.head
+  pub encodes : Encodes C kept.consumer.head headers words
 
 -- the rule
 abbrev pub KeepsIn : Bodies → ℕ → ℕ → List ℕ → List (Option ℕ) → List View → Type 0

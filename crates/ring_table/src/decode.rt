@@ -5,8 +5,8 @@ ghost use Rattle.ring_layout.specs.Layout.{head_index, ring_words};
 ghost use Rattle.ring_layout.specs.Places.{index, max_position, IsCapacity};
 ghost use Rattle.ring_table.specs.Marks.{decoded, IsDecoded, MayDecode};
 
-use crate::steps::marks::{ABORTED_KIND, COMMITTED_KIND, PADDING_KIND};
 use atomic_table::Closed;
+use ring_layout::mark_descriptor::{ABORTED_KIND, COMMITTED_KIND, PADDING_KIND};
 use ring_layout::ring_buffer_descriptor::HEAD_POSITION_WORD;
 use ring_layout::{open_header, pack_header, word_index};
 use std::alloc::Global;

@@ -39,9 +39,7 @@ pub use rule::RingRule;
 pub use steps::consumer::{
     clear_word, load_body_word, load_passed_word, store_head, store_head_before,
 };
-pub use steps::marks::{
-    ABORTED_KIND, COMMITTED_KIND, OPEN_KIND, PADDING_KIND, pass_marks, pass_marks_before,
-};
+pub use steps::marks::{store_head_before_mark, store_head_past_marks};
 pub use steps::producer::{
     load_head, load_own_word, load_tail, move_tail, store_body_word, store_claimed_header,
     store_tail,

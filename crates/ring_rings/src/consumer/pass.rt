@@ -1,4 +1,5 @@
-//! The end of a read, which gives the producers room. It clears what the read has passed, and stores the head.
+//! The end of a read, which gives the producers room: it stores the head. If bodies are in words, it clears the words
+//! that the read has passed first.
 ghost use Rattle.std.specs.Prelude.{List};
 ghost use Rattle.ring_table.specs.declared.claim.PlacedMessage.{PlacedMessage};
 ghost use Rattle.ring_rings.specs.Seats.{IsConsumerOf, capacity_of, head_of, seat_view, IsSameConsumer};
@@ -9,8 +10,7 @@ use crate::bodies::Bodies;
 use crate::ring::{Consumer, Ring};
 
 impl<K, B: Bodies> Ring<K, B> {
-    /// Clears all words that the read has passed, up to `scan`, and stores the head there. Does nothing if the head is
-    /// at `scan`.
+    /// Stores the head after all that the read has passed, at `scan`. Does nothing if the head is at `scan`.
     #[inline(always)]
     pub(super) fn move_head(&self, consumer: &mut Consumer, scan: u64)
         requires consumer { IsConsumerOf self.now consumer.old }
@@ -22,7 +22,7 @@ impl<K, B: Bodies> Ring<K, B> {
     {
         if consumer.head < scan {
             let (words, seat) = (&self.table.shared, &mut consumer.seat);
-            B::pass_all(words, seat, self.capacity, consumer.head, scan);
+            B::store_head(words, seat, self.capacity, consumer.head, scan);
             consumer.head = scan;
         }
     }
@@ -39,7 +39,7 @@ impl<K, B: Bodies> Ring<K, B> {
     {
         if consumer.head < place {
             let (words, seat) = (&self.table.shared, &mut consumer.seat);
-            B::pass_before(words, seat, self.capacity, consumer.head, place);
+            B::store_head_before(words, seat, self.capacity, consumer.head, place);
             consumer.head = place;
         }
     }

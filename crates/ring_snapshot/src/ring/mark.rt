@@ -1,26 +1,19 @@
 //! The marks in the words of a plain ring.
 ghost use Rattle.std.specs.Prelude.{◌≡◌, ℕ, ◌+◌, ◌/◌, ◌%◌, ◌<◌, ◌≤◌, ◌<ℤ◌, pos, length, slice_index};
+ghost use Rattle.ring_layout.specs.Marks.{padding_kind};
 ghost use Rattle.ring_layout.specs.declared.message.Claim.{Claim};
 ghost use Rattle.ring_layout.specs.Headers.{header_of, padding_header};
 ghost use Rattle.ring_layout.specs.Places.{index, IsCapacity};
 ghost use Rattle.ring_layout.specs.Layout.{ring_words};
-ghost use Rattle.ring_snapshot.specs.Marks.{HasMark, header_as, header_at, is_message_of, marked_header, padding_kind};
+ghost use Rattle.ring_snapshot.specs.Marks.{HasMark, header_as, header_at, is_message_of, marked_header};
 ghost use Rattle.ring_snapshot.specs.RingRecords.{length_in};
 
+use ring_layout::mark_descriptor::{ABORTED_KIND, OPEN_KIND, PADDING_KIND};
 use ring_layout::record_descriptor::PADDING_MSG_TYPE_ID;
 use ring_layout::{align8, pack_header, padding_header, unpack_header, word_index};
 
-/// The kind of padding, in the low three bits of a mark. A committed record has the kind 0.
-pub(crate) const PADDING_KIND: u64 = 1;
-
-/// The kind of an open claim.
-const OPEN_KIND: u64 = 2;
-
-/// The kind of an aborted record.
-const ABORTED_KIND: u64 = 3;
-
 /// The header of a mark that makes no sense. No record has the length 1.
-const BAD_HEADER: u64 = 1;
+pub const BAD_HEADER: u64 = 1;
 
 /// Tests whether a slot has the header of a message whose record takes `bytes` bytes.
 fn is_message_of(bytes: u64, slot: u64) -> bool

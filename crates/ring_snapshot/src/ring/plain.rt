@@ -12,8 +12,9 @@ ghost use Rattle.ring_snapshot.specs.PlainRecords.{IsPlain, LiesBetween};
 ghost use Rattle.ring_snapshot.specs.PlainWords.{joined, joined_from, span_at, with_body, with_record, with_zeros};
 
 use crate::ring::RingSnapshot;
-use crate::ring::mark::{PADDING_KIND, header_at};
+use crate::ring::mark::header_at;
 use crate::ring_finding::RingFinding;
+use ring_layout::mark_descriptor::PADDING_KIND;
 use ring_layout::record_descriptor::PADDING_MSG_TYPE_ID;
 use ring_layout::{align8, unpack_header, word_index};
 

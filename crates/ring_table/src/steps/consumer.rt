@@ -6,7 +6,7 @@ ghost use Rattle.ring_table.specs.ConsumerSteps.{ClearsWord, LoadsBody, LoadsHea
 ghost use Rattle.ring_table.specs.ConsumerSteps.{StandsBefore, StoresHead, StoresHeadBefore};
 ghost use Rattle.ring_table.specs.Seats.{IsSameSeat, IsSeatOf};
 
-use crate::mode::{InWords, Mode};
+use crate::mode::InWords;
 use crate::plays::consumer::{
     ClearWord, LoadBody, LoadFirstHeader, LoadNextHeader, LoadPassed, StoreHead, StoreHeadBefore,
 };
@@ -108,7 +108,7 @@ pub fn clear_word(
 }
 
 /// Stores the head after all that the read has passed, which is cleared.
-pub fn store_head<M: Mode>(ring: &SharedRing<M>, consumer: &mut RingSeat, capacity: u32, head: u64)
+pub fn store_head(ring: &SharedRing<InWords>, consumer: &mut RingSeat, capacity: u32, head: u64)
     requires seat { IsSeatOf ring.now.table_id ring.now.key capacity consumer.old }
     requires consumes { consumer.old.me.0.consumes ≡ true }
     requires scan { consumer.old.me.0.consumer.scan ≡ head }
@@ -119,9 +119,10 @@ pub fn store_head<M: Mode>(ring: &SharedRing<M>, consumer: &mut RingSeat, capaci
     ring.store::<StoreHead>(consumer, trailer_word(capacity, HEAD_POSITION_WORD), head);
 }
 
-/// Stores the head before the last message that the read has got, which stays in the ring.
-pub fn store_head_before<M: Mode>(
-    ring: &SharedRing<M>,
+/// Stores the head before the last message that the read has got, which stays in the ring. All words before the message
+/// are cleared.
+pub fn store_head_before(
+    ring: &SharedRing<InWords>,
     consumer: &mut RingSeat,
     capacity: u32,
     head: u64,
@@ -129,6 +130,7 @@ pub fn store_head_before<M: Mode>(
     requires seat { IsSeatOf ring.now.table_id ring.now.key capacity consumer.old }
     requires consumes { consumer.old.me.0.consumes ≡ true }
     requires last { StandsBefore head consumer.old.me.0 }
+    requires cleared { consumer.old.me.0.consumer.cleared ≡ head }
     ensures seat { IsSameSeat consumer.old consumer.new }
     ensures told { StoresHeadBefore consumer.old.me.0 consumer.new.me.0 }
 {

@@ -3,14 +3,13 @@ ghost use Rattle.std.specs.Prelude.{◌≡◌, ◌+◌, ◌-◌, ◌%◌, ◌^�
 ghost use Rattle.ring_layout.specs.declared.message.ClaimState.TheVariants.{Aborted, Committed};
 ghost use Rattle.ring_layout.specs.History.{IsMessage, span};
 ghost use Rattle.ring_table.specs.Changes.{blank, staged};
-ghost use Rattle.ring_table.specs.ConsumerSteps.{LoadsHeader};
+ghost use Rattle.ring_table.specs.ConsumerSteps.{LoadsHeader, StandsBefore, StoresHead, StoresHeadBefore};
 ghost use Rattle.ring_table.specs.Filling.{IsSameTable};
 ghost use Rattle.ring_table.specs.Marks.{LoadsMark};
 ghost use Rattle.ring_table.specs.ProducerSteps.{HasClaimAt, IsStagedOpen, Mine, NeedsPadding, with_changed};
 ghost use Rattle.ring_table.specs.Seats.{IsSameSeat, IsSeatOf};
 ghost use Rattle.ring_table.specs.SlotSteps.{IsHolderOf, IsSameHolder};
 ghost use Rattle.ring_table.specs.Staged.{AreRising, PlacedMessage, Padded, Stored};
-ghost use Rattle.ring_table.specs.ConsumerSteps.{HasLastAhead, StoresHead, StoresHeadBefore};
 
 use crate::mode::InSlots;
 use crate::plays::consumer::{StoreHead, StoreHeadBefore};
@@ -19,20 +18,9 @@ use crate::plays::slots::{LoadFirstMark, LoadNextMark};
 use crate::steps::slots::return_slots;
 use crate::steps::{RingSeat, SharedRing, trailer_word};
 use crate::view::Wanted;
+use ring_layout::mark_descriptor::{ABORTED_KIND, COMMITTED_KIND, OPEN_KIND, PADDING_KIND};
 use ring_layout::ring_buffer_descriptor::HEAD_POSITION_WORD;
 use ring_layout::{align8, padding_header, word_index};
-
-/// The kind of a committed record, in the low three bits of a mark.
-pub const COMMITTED_KIND: u64 = 0;
-
-/// The kind of padding.
-pub const PADDING_KIND: u64 = 1;
-
-/// The kind of an open claim.
-pub const OPEN_KIND: u64 = 2;
-
-/// The kind of an aborted record.
-pub const ABORTED_KIND: u64 = 3;
 
 /// The mark of a record of `len` bytes of body at a place.
 #[inline(always)]
@@ -157,7 +145,6 @@ pub(crate) fn load_first_mark(
     requires seat { IsSeatOf ring.now.table_id ring.now.key capacity consumer.old }
     requires consumes { consumer.old.me.0.consumes ≡ true }
     requires head { consumer.old.me.0.consumer.head ≡ head }
-    requires nothing_cleared { consumer.old.me.0.consumer.cleared ≡ head }
     ensures seat { IsSameSeat consumer.old consumer.new }
     ensures told { LoadsHeader capacity head consumer.old.me.0.consumer.taken
         consumer.old.me.0 result consumer.new.me.0 }
@@ -184,23 +171,9 @@ pub(crate) fn load_next_mark(
     read_mark(ring, consumer, capacity, scan, mark)
 }
 
-/// Stores the head after all that the read has passed, which counts as cleared with this store. The marks there are below
-/// the positions of the next lap, so no word of a record is stored.
-pub fn pass_marks(ring: &SharedRing<InSlots>, consumer: &mut RingSeat, capacity: u32, head: u64)
-    requires seat { IsSeatOf ring.now.table_id ring.now.key capacity consumer.old }
-    requires consumes { consumer.old.me.0.consumes ≡ true }
-    requires scan { consumer.old.me.0.consumer.scan ≡ head }
-    requires ahead { consumer.old.me.0.consumer.cleared ≤ head }
-    requires whole { head % 8 ≡ 0 }
-    ensures seat { IsSameSeat consumer.old consumer.new }
-    ensures told { StoresHead consumer.old.me.0 consumer.new.me.0 }
-{
-    ring.store::<StoreHead>(consumer, trailer_word(capacity, HEAD_POSITION_WORD), head);
-}
-
-/// Stores the head before the last message that the read has got, which stays in the ring. What is before the message
-/// counts as cleared with this store.
-pub fn pass_marks_before(
+/// Stores the head after all that the read has passed. No mark is cleared: those that were passed are not above the
+/// positions of the next lap, so that they say nothing there.
+pub fn store_head_past_marks(
     ring: &SharedRing<InSlots>,
     consumer: &mut RingSeat,
     capacity: u32,
@@ -208,8 +181,24 @@ pub fn pass_marks_before(
 )
     requires seat { IsSeatOf ring.now.table_id ring.now.key capacity consumer.old }
     requires consumes { consumer.old.me.0.consumes ≡ true }
-    requires last { HasLastAhead head consumer.old.me.0 }
-    requires whole { head % 8 ≡ 0 }
+    requires scan { consumer.old.me.0.consumer.scan ≡ head }
+    ensures seat { IsSameSeat consumer.old consumer.new }
+    ensures told { StoresHead consumer.old.me.0 consumer.new.me.0 }
+{
+    ring.store::<StoreHead>(consumer, trailer_word(capacity, HEAD_POSITION_WORD), head);
+}
+
+/// Stores the head before the last message that the read has got, which stays in the ring. No mark is cleared.
+pub fn store_head_before_mark(
+    ring: &SharedRing<InSlots>,
+    consumer: &mut RingSeat,
+    capacity: u32,
+    head: u64,
+)
+    requires seat { IsSeatOf ring.now.table_id ring.now.key capacity consumer.old }
+    requires consumes { consumer.old.me.0.consumes ≡ true }
+    requires last { StandsBefore head consumer.old.me.0 }
+    requires passed { (consumer.old.me.0.consumer.head ≤ head) × (head ≤ consumer.old.me.0.consumer.scan) }
     ensures seat { IsSameSeat consumer.old consumer.new }
     ensures told { StoresHeadBefore consumer.old.me.0 consumer.new.me.0 }
 {

@@ -17,9 +17,10 @@ use crate::plays::slots::{
     CommitRecord, GiveBody, LendBody, OpenRecord, ReserveAt, ReserveBody, ReturnBody, ReturnSlots,
     TakeBody,
 };
-use crate::steps::marks::{COMMITTED_KIND, OPEN_KIND, record_mark};
+use crate::steps::marks::record_mark;
 use crate::steps::{RingSeat, SharedRing, trailer_word};
 use crate::view::Wanted;
+use ring_layout::mark_descriptor::{COMMITTED_KIND, OPEN_KIND};
 use ring_layout::ring_buffer_descriptor::HEAD_CACHE_POSITION_WORD;
 use ring_layout::word_index;
 
@@ -42,8 +43,8 @@ pub fn reserve_body(ring: &SharedRing<InSlots>, producer: &mut RingSeat, capacit
     ensures reserves { ReservesBody producer.old.me producer.new.me }
     ensures rising { AreRising producer.old.me.0.producer.claims }
 {
-    // Any word would do. This one was loaded for the claim, while the claim's own header is on a line that the consumer
-    // wrote last: it would be fetched to be read, and once more to be stored.
+    // Any word would do. This one was loaded for the claim, while the word of the claim's mark is on a line that other
+    // threads used last: the line would be fetched to be read, and once more to be stored.
     ring.load::<ReserveBody>(producer, trailer_word(capacity, HEAD_CACHE_POSITION_WORD));
 }
 

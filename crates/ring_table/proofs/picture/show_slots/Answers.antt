@@ -7,7 +7,7 @@ use Rattle.ring_table.specs.Closed.{IsClosed, IsLeft}
 use Rattle.ring_table.specs.Marks.{IsDecoded, KeepsMarks}
 use Rattle.ring_table.specs.Rule.{Kept}
 use Rattle.ring_table.specs.Staged.{elsewhere}
-use Rattle.ring_table.specs.Views.{ConsumerView, View}
+use Rattle.ring_table.specs.Views.{View}
 use Rattle.ring_table.specs.Walk.{Parts}
 use Rattle.ring_layout.specs.Layout.{head_index}
 use Rattle.ring_table.proofs.CloseLemmas.{leaves_rest}
@@ -31,16 +31,11 @@ module _ (key : Key) (v : View) (closed : Closed ℕ Global) (left : IsLeft else
   kept_marks = subst (λ (z : ℕ × List ℕ). KeepsMarks z.0 key.start z.1 left.final.0.homes left.final.0.views)
       (λ i. (cap_is i, (left.final.2 ∙ sym same) i)) left.final.1.0
 
-  at_rest : kept_marks.kept.consumer.cleared ≡ kept_marks.kept.consumer.head
-  at_rest =
-      let mine = ((kept_marks.kept.seated.each left.id v left.final.1.1).consumes left.last.consumes).1 in
-      ap (λ (z : ConsumerView). z.cleared) (sym mine) ∙ left.last.none_cleared ∙ ap (λ (z : ConsumerView). z.head) mine
-
   module _ (new : List ℕ) (wide : length new ≡ length copied)
       (decodes : IsDecoded ((n - 96) * 8) (slice_index copied (head_index ((n - 96) * 8))) (slots_items closed.slots) copied new)
       (trailer : (i : ℕ) → (n - 96) * 8 / 8 ≤ i → slice_index new i ≡ slice_index copied i) where
     headers_are : kept_marks.headers ≡ new
-    headers_are = sym (headers_back ((n - 96) * 8) key.start copied left.final.0.homes left.final.0.views kept_marks at_rest
+    headers_are = sym (headers_back ((n - 96) * 8) key.start copied left.final.0.homes left.final.0.views kept_marks
         new (slots_items closed.slots)
         (hist_settled ((n - 96) * 8) key.start kept_marks.headers left.final.0.homes left.final.0.views kept_marks.kept
         kept_marks.shelf left.id v left.final.1.1 left.last)
@@ -60,16 +55,14 @@ decode_marks-requires-clause-head c =
     let l = c.requires.left in
     let m = kept_marks l.0 l.1 c.args.closed l.2 c.copy_words.new.words.items c.copy_words.ensures c.len.result
     (c.len.ensures ∙ c.copy_words.new.words.ok.0) in
-    head_fits _ _ _ _ _ m (at_rest l.0 l.1 c.args.closed l.2 c.copy_words.new.words.items c.copy_words.ensures c.len.result
-    (c.len.ensures ∙ c.copy_words.new.words.ok.0))
+    head_fits _ _ _ _ _ m
 
 pub decode_marks-requires-clause-marks : goal.decode_marks-requires-clause-marks
 decode_marks-requires-clause-marks c =
     let l = c.requires.left in
     let m = kept_marks l.0 l.1 c.args.closed l.2 c.copy_words.new.words.items c.copy_words.ensures c.len.result
     (c.len.ensures ∙ c.copy_words.new.words.ok.0) in
-    may_decode_all _ _ _ _ _ m (at_rest l.0 l.1 c.args.closed l.2 c.copy_words.new.words.items c.copy_words.ensures
-    c.len.result (c.len.ensures ∙ c.copy_words.new.words.ok.0))
+    may_decode_all _ _ _ _ _ m
 
 pub decode_marks-requires-clause-capacity : goal.decode_marks-requires-clause-capacity
 decode_marks-requires-clause-capacity c =

@@ -4,8 +4,7 @@ use Rattle.std.specs.Slots.{slots_items, slots_len}
 use Rattle.std.proofs.lemmas.Nat.{mod_below}
 use Rattle.atomic_table.proofs.Lists.{at_index}
 use Rattle.ring_layout.specs.Layout.{ring_words}
-use Rattle.ring_layout.specs.Places.{IsCapacity, index}
-use Rattle.ring_table.specs.ConsumerSteps.{rounded}
+use Rattle.ring_layout.specs.Places.{IsCapacity, index, rounded}
 use Rattle.ring_table.specs.Refilling.{FillsTo}
 use Rattle.ring_table.specs.Staged.{StagedClaim, staged_end}
 use Rattle.ring_table.specs.Walk.{IsCopied}

@@ -1,4 +1,4 @@
-use Rattle.std.proofs.Common.{◌≡◌, ℕ, ◌/◌, ◌≤◌, ◌<◌, List, [], length, slice_index, true, sym, ap, ◌∙◌, subst, arith}
+use Rattle.std.proofs.Common.{◌≡◌, ℕ, ◌/◌, ◌≤◌, ◌<◌, List, [], length, slice_index, true, sym, ◌∙◌, subst, arith}
 use mathlib.Core.Option.{Option, some}
 use lib.ListN.{get_elem?}
 use Rattle.std.specs.Slots.{slots_items}
@@ -9,7 +9,7 @@ use Rattle.ring_table.specs.Refilling.{MayFill, Filled}
 use Rattle.ring_table.specs.Owners.{OwnedHistory}
 use Rattle.ring_table.specs.Rescued.{KeptWith, Rescues, Settles, ShowsClaims}
 use Rattle.ring_table.specs.Staged.{elsewhere, in_words, shown_header, StagedClaim}
-use Rattle.ring_table.specs.Views.{ConsumerView, View}
+use Rattle.ring_table.specs.Views.{View}
 use Rattle.ring_table.proofs.BlankLemmas.{all_blanked, shows_blanked}
 use Rattle.ring_table.proofs.LastMarks.{head_fits, may_decode_all, shows_decoded}
 use Rattle.ring_table.proofs.RescueLemmas.{rescues, shows_left}
@@ -20,11 +20,6 @@ use Rattle.ring_table.proofs.rescue.rescue_slots.Goals as goal
 module _ (C start : ℕ) (words : List ℕ) (homes : List (Option ℕ)) (views : List View)
     (m : KeepsMarks C start words homes views) (id : ℕ) (v : View) (at : get_elem? views id ≡ some v)
     (consumes : v.consumes ≡ true) (rests : v.consumer.cleared ≡ v.consumer.head) where
-  at_rest : m.kept.consumer.cleared ≡ m.kept.consumer.head
-  at_rest =
-      let mine = ((m.kept.seated.each id v at).consumes consumes).1 in
-      ap (λ (z : ConsumerView). z.cleared) (sym mine) ∙ rests ∙ ap (λ (z : ConsumerView). z.head) mine
-
   module _ (bare : v.out ≡ []) (xs : List ℕ)
       (values : (i y : ℕ) → get_elem? homes i ≡ some (some y) → get_elem? xs i ≡ some y) (new one : List ℕ)
       (decodes : IsDecoded C (slice_index words (head_index C)) xs words new)
@@ -36,7 +31,7 @@ module _ (C start : ℕ) (words : List ℕ) (homes : List (Option ℕ)) (views :
 
     shows_one : ShowsClaims in_words C one (all_blanked cs)
     shows_one = shows_blanked C new one cs m.kept.lawful.capacity formatted same
-        (shows_decoded C start words homes views m at_rest new xs _
+        (shows_decoded C start words homes views m new xs _
         (shows_left elsewhere C start m.headers views m.kept id v at consumes rests) decodes trailer
         (heads_it C start m.headers homes views m.kept m.shelf id v at consumes rests bare xs values))
 
@@ -76,7 +71,7 @@ decode_marks-requires-clause-head c =
     let final = saved.final in
     let m = subst (λ (z : ℕ × List ℕ). KeepsMarks z.0 l.0.start z.1 final.0.homes final.0.views)
     (λ i. (l.4 i, (final.2 ∙ sym c.copy_words.ensures) i)) final.1.0 in
-    head_fits _ _ _ _ _ m (at_rest _ _ _ _ _ m saved.id l.1 final.1.1 saved.consumes saved.rests)
+    head_fits _ _ _ _ _ m
 
 pub decode_marks-requires-clause-marks : goal.decode_marks-requires-clause-marks
 decode_marks-requires-clause-marks c =
@@ -85,7 +80,7 @@ decode_marks-requires-clause-marks c =
     let final = saved.final in
     let m = subst (λ (z : ℕ × List ℕ). KeepsMarks z.0 l.0.start z.1 final.0.homes final.0.views)
     (λ i. (l.4 i, (final.2 ∙ sym c.copy_words.ensures) i)) final.1.0 in
-    may_decode_all _ _ _ _ _ m (at_rest _ _ _ _ _ m saved.id l.1 final.1.1 saved.consumes saved.rests)
+    may_decode_all _ _ _ _ _ m
 
 pub settle_words-unsettled-requires-clause-claims : goal.settle_words-unsettled-requires-clause-claims
 settle_words-unsettled-requires-clause-claims c =

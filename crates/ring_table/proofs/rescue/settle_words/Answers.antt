@@ -2,8 +2,7 @@ use Rattle.std.proofs.Common.{◌≡◌, refl, ℕ, ◌+◌, ◌-◌, ◌%◌, �
 use Rattle.std.proofs.lemmas.Nat.{mod_below}
 use Rattle.atomic_table.proofs.Lists.{at_index}
 use Rattle.ring_layout.specs.Layout.{tail_index, head_index, ring_words}
-use Rattle.ring_layout.specs.Places.{index}
-use Rattle.ring_table.specs.ConsumerSteps.{rounded}
+use Rattle.ring_layout.specs.Places.{index, rounded}
 use Rattle.ring_table.specs.Rescued.{settled_word, ShowsClaims}
 use Rattle.ring_table.specs.Settling.{Walks}
 use Rattle.ring_table.specs.Staged.{in_words, StagedClaim}

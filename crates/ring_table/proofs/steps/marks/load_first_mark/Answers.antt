@@ -13,8 +13,8 @@ load-mark-requires c =
     (λ n. n)
     (λ _ n me'. LoadsMark c.args.consumer.now.me.0.capacity c.args.consumer.now.me.0.consumer.head
     c.args.consumer.now.me.0.consumer.taken c.args.consumer.now.me n me')
-    (reads_first c.args.capacity c.args.ring.now.key.start _ _ c.args.consumer.now.me s.view_is c.requires.consumes s.home s.none
-    (c.requires.nothing_cleared ∙ sym c.requires.head))
+    (reads_first c.args.capacity c.args.ring.now.key.start _ _ c.args.consumer.now.me s.view_is c.requires.consumes
+    s.home s.none)
 
 -- what the mark shows, in the words of the code
 shows : (c : After-load-mark) → LoadsMark c.args.capacity c.args.head c.args.consumer.now.me.0.consumer.taken

@@ -1,8 +1,8 @@
 use Rattle.std.proofs.Common.{◌≡◌, ◌+◌, ◌%◌, ◌^◌, ◌∙◌, sym, refl}
+use Rattle.ring_layout.specs.Marks.{aborted_kind}
 use Rattle.ring_layout.specs.declared.message.ClaimState.TheVariants.{Aborted}
 use Rattle.ring_layout.specs.History.{span}
 use Rattle.ring_table.specs.Staged.{AreRising}
-use Rattle.ring_table.specs.Marks.{aborted_kind}
 use Rattle.ring_table.specs.ProducerSteps.{StoresSettled}
 use Rattle.ring_table.proofs.Calls.{same_seat, settled_view, of_as}
 use Rattle.ring_table.proofs.SettleMarks.{settled_mark}

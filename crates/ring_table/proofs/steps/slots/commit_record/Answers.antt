@@ -1,5 +1,6 @@
 use Rattle.std.proofs.Common.{◌≡◌, ℕ, ◌+◌, ◌%◌, ◌^◌, ◌<◌, List, length, ap, ◌∙◌, sym, subst, refl, arith}
 use Rattle.std.proofs.lemmas.List.{length-replicate}
+use Rattle.ring_layout.specs.Marks.{committed_kind}
 use Rattle.ring_layout.specs.declared.message.ClaimState.TheVariants.{Committed}
 use Rattle.ring_layout.specs.declared.message.Message.{Message}
 use Rattle.ring_layout.specs.Headers.{header_of}
@@ -7,7 +8,6 @@ use Rattle.ring_layout.specs.History.{IsMessage, span}
 use Rattle.ring_layout.specs.Places.{index}
 use Rattle.ring_table.specs.Staged.{AreRising, slot_bytes}
 use Rattle.ring_table.specs.Changes.{blank}
-use Rattle.ring_table.specs.Marks.{committed_kind}
 use Rattle.ring_table.specs.Passing.{IsSettled}
 use Rattle.ring_table.specs.SlotSteps.{StoresRecord, HasBody}
 use Rattle.ring_table.specs.Views.{View}
