@@ -661,9 +661,9 @@ int32_t felter_recover_words(const uint64_t *words, size_t word_count, const uin
 
 /* The calls of this part make a ring, a board or counters in memory that the caller passes, for example in a file that
  * the caller has mapped. Then the words of a ring and its slots, which have the headers and the bodies of messages, the
- * words of a board, or the value records and the metadata of counters are in this memory. Everything else is requested from malloc. After a process has died, the file
- * has what the process had stored. Another process can map the file and look at it, but must not write to it. No second
- * process can make handles of the structure.
+ * words of a board, or the value records and the metadata of counters are in this memory. Everything else is requested
+ * from malloc. After a process has died, the file has what the process had stored. Another process can map the file and
+ * look at it, but must not write to it. No second process can make handles of the structure.
  *
  * The functions of this part are not proved. docs/FORMATS.md describes the memory. It begins with a header of 128
  * bytes, whose first 8 bytes are "FELTERIM" as soon as the structure was made.
