@@ -631,8 +631,8 @@ int32_t felter_poll(felter_client *client, uint64_t correlation, int32_t *kind, 
 /* What a ring left ----------------------------------------------------------------------------------------------- */
 
 /* Recovers the messages of a ring whose process died, and lays them into a buffer as felter_read_batch does. `words`
- * are the `word_count` words of the ring, and `slots` are the `slot_count` words of its bodies. If the ring was in
- * memory of the caller, felter_recover below finds both by itself.
+ * are the `word_count` words of the ring, and `slots` are its `slot_count` slots, which have headers and bodies. If the
+ * ring was in memory of the caller, felter_recover below finds both by itself.
  *
  * The messages are those that were committed, from the head on. Each message comes whole, once, and in the order of
  * the claims. What the consumer was shown, and after which it had not moved the head, comes again, before the other
