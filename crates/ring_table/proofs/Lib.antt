@@ -51,10 +51,14 @@ pub mod LawLemmas
 pub mod MarkWords
 pub mod EncodeLemmas
 pub mod MarkSteps
+pub mod RunLemmas
 pub mod LoadsHeaders
+pub mod SplitMarks
 pub mod ReadMarks
 pub mod ClearMarks
 pub mod SeatMarks
 pub mod SettleMarks
 pub mod DecodeLemmas
+pub mod RunPlaces
+pub mod SpreadLemmas
 pub mod LastMarks

@@ -10,6 +10,7 @@ mod bodies;
 mod claim;
 mod decode;
 mod headers;
+mod heads;
 mod laws;
 mod mode;
 mod picture;
@@ -27,6 +28,7 @@ pub use bodies::{
 pub use claim::{PlacedMessage, Stage, StagedClaim};
 pub use decode::decode_mark;
 pub use headers::Headers;
+pub use heads::{store_head_before_run, store_head_past_run};
 pub use laws::{
     last_claim_stands_last, newest_claim_changes_alone, open_claims_are_counted,
     stored_claims_show_one_picture,
@@ -39,7 +41,6 @@ pub use rule::RingRule;
 pub use steps::consumer::{
     clear_word, load_body_word, load_passed_word, store_head, store_head_before,
 };
-pub use steps::marks::{store_head_before_mark, store_head_past_marks};
 pub use steps::producer::{
     load_head, load_own_word, load_tail, move_tail, store_body_word, store_claimed_header,
     store_tail,
@@ -54,4 +55,4 @@ pub use steps::slots::{
 };
 pub use steps::{RingSeat, SharedRing};
 pub use table::{RingTable, open, open_slots};
-pub use view::{ConsumerView, Key, ProducerView, Service, View, Wanted};
+pub use view::{ConsumerView, Key, ProducerView, Run, Service, View, Wanted};
