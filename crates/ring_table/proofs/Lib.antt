@@ -52,12 +52,17 @@ pub mod MarkWords
 pub mod EncodeLemmas
 pub mod MarkSteps
 pub mod RunLemmas
+pub mod RunClaims
+pub mod RunKept
+pub mod RunSlots
+pub mod RunShelf
 pub mod LoadsHeaders
 pub mod SplitMarks
 pub mod ReadMarks
 pub mod ClearMarks
 pub mod SeatMarks
 pub mod SettleMarks
+pub mod CommitRun
 pub mod DecodeLemmas
 pub mod RunPlaces
 pub mod SpreadLemmas

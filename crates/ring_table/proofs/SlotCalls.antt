@@ -100,7 +100,7 @@ module _ {id : TableId} {key : Key} {capacity : ℕ} {seat : Seat ℕ View} (tab
       )
 
 -- a header of an own claim, from where the read has come to on, is the claim's
-header_of_claim : (C start : ℕ) (s : State ℕ View) (r : Kept elsewhere C start s.words s.views) (id : ℕ) (v : View) (k : ℕ)
+pub header_of_claim : (C start : ℕ) (s : State ℕ View) (r : Kept elsewhere C start s.words s.views) (id : ℕ) (v : View) (k : ℕ)
     (c : StagedClaim) (has : HasUnsettled elsewhere C start s.views id v k c) (q : ℕ) → q % 8 ≡ 0 → r.consumer.scan ≤ q
     → c.from ≤ q → q < claim_end c → at_position C s.words q ≡ staged_word elsewhere c q
 header_of_claim C start s r id v k c has q q8 scan from below =

@@ -20,3 +20,4 @@ pub mod Rescued
 pub mod Settling
 pub mod Refilling
 pub mod Marks
+pub mod Runs

@@ -50,8 +50,8 @@ pub use steps::service::{
     draw_correlation_id, load_cache, load_heartbeat, store_cache, store_heartbeat,
 };
 pub use steps::slots::{
-    commit_record, give_body, lend_body, open_record, reserve_at, reserve_body, return_body,
-    take_body,
+    commit_record, commit_run, give_body, lend_body, open_record, reserve_at, reserve_body,
+    return_body, take_body,
 };
 pub use steps::{RingSeat, SharedRing};
 pub use table::{RingTable, open, open_slots};

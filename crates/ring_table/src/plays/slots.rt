@@ -3,6 +3,7 @@ ghost use Rattle.std.specs.Prelude.{◌≡◌};
 ghost use Rattle.ring_table.specs.Staged.{AreRising};
 ghost use Rattle.ring_layout.specs.declared.message.ClaimState.TheVariants.{Committed, Open};
 ghost use Rattle.ring_table.specs.Marks.{LoadsInRun, LoadsMark, SplitsAtLast, SplitsAtScan};
+ghost use Rattle.ring_table.specs.Runs.{StoresRun};
 ghost use Rattle.ring_table.specs.SlotSteps.{GivesBody, LendsBody, ReservesAt, ReservesBody, ReturnsBody};
 ghost use Rattle.ring_table.specs.SlotSteps.{ReturnsSlots, StoresRecord, TakesBody};
 
@@ -31,6 +32,12 @@ pub struct CommitRecord;
 
 impl Play<u64, View> for CommitRecord {
     ghost then = { λ st me n me'. StoresRecord Committed me me' × AreRising me.0.producer.claims };
+}
+
+pub struct CommitRun;
+
+impl Play<u64, View> for CommitRun {
+    ghost then = { λ st me n me'. StoresRun me me' × AreRising me.0.producer.claims };
 }
 
 pub struct TakeBody;
