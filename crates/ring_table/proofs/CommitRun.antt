@@ -330,7 +330,7 @@ module _ (C start : ℕ) (s : State ℕ View) (k : KeepsMarks C start s.words s.
         r.consumer.scan r.consumer.run h.scan h.b8 k.reads)
 
 -- the last claims of one list are one
-last_one : (xs ys : List StagedClaim) (c d : StagedClaim) → xs ++ c ∷ [] ≡ ys ++ d ∷ [] → (xs ≡ ys) × (c ≡ d)
+pub last_one : (xs ys : List StagedClaim) (c d : StagedClaim) → xs ++ c ∷ [] ≡ ys ++ d ∷ [] → (xs ≡ ys) × (c ≡ d)
 last_one [] [] c d e = (refl, mathlib.Core.Option.some-injective c d (ap (λ (l : List StagedClaim). get_elem? l 0) e))
 last_one [] (y ∷ ys) c d e = absurd (no_more ys d (ap rest_of e))
   where
