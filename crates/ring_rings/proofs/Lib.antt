@@ -16,6 +16,7 @@ pub mod MergeLemmas
 pub mod ReadingCopies
 pub mod ReadingSeats
 pub mod ReadingFinds
+pub mod ReadingShown
 pub mod ReadingRuns
 pub mod ReadingEnds
 pub mod ReadingHeeds
