@@ -54,8 +54,8 @@ has_header C slots place m most is have =
     ap (λ q. slice_index slots (index C q)) here ∙ have 0 refl (omega arith)
     ∙ first_word_of (committed_header m.type_id (length m.body)) m.body (committed_small C m most is)
 
-pub heads_of : (C e p : ℕ) (slots : List ℕ) (cs : List StagedClaim) → C ≤ 2 ^ 24 → ArePlaced C e cs → HaveRecords C slots cs
-    → HeadAt p (slice_index slots (index C p)) cs
+pub heads_of : (C e p : ℕ) (slots : List ℕ) (cs : List StagedClaim) → C ≤ 2 ^ 24 → ArePlaced C e cs
+    → HaveRecords C slots cs → HeadAt p (slice_index slots (index C p)) cs
 heads_of C e p slots [] most placed have = tt
 heads_of C e p slots (c ∷ cs) most placed have = (
   λ done at. ap (λ q. slice_index slots (index C q)) (sym at)
@@ -143,7 +143,8 @@ shows_committed p w h ends less kind is =
     let long = is.0 in
     λ i. has_end_at p w (omega arith) (omega arith) i
     && (cond-true (w % 8 == committed_kind) (is_of_run p w h) (mark_of p h == w) (eq-eqb (w % 8) committed_kind kind)
-    ∙ (λ j. le-leb 8 (bytes_of h) is.0 j && le-leb (p + bytes_of h) w ends j && eq-eqb (kind_of h) committed_kind is.1 j)) i
+    ∙ (λ j. le-leb 8 (bytes_of h) is.0 j && le-leb (p + bytes_of h) w ends j
+    && eq-eqb (kind_of h) committed_kind is.1 j)) i
 
 shows_other : (p w h : ℕ) → p + 8 ≤ w - w % 8 → w - w % 8 < p + 2 ^ 31 → w % 8 ≢ committed_kind → mark_of p h ≡ w
     → shows p w h ≡ true

@@ -17,24 +17,24 @@ use Rattle.ring_recovery.specs.declared.message.RecoveredMessage.{RecoveredMessa
 
 -- ---- the next position
 
-module _ (found : Walk → ℕ → Found) (r : Walk) (n m p q : ℕ) (f : Found) (en : n ≡ m + 1) (eq : q ≡ p + 8)
-    (is : found r p ≡ f) where
-  header_is : (found r p).header ≡ f.header
+module _ (found : Walk → ℕ → Found) (v : Walk) (n m p q : ℕ) (f : Found) (en : n ≡ m + 1) (eq : q ≡ p + 8)
+    (is : found v p ≡ f) where
+  header_is : (found v p).header ≡ f.header
   header_is = ap (λ (x : Found). x.header) is
 
   more : n ≡ suc m
   more = omega (arith, en)
 
-  pub passes_zero : f.header ≡ 0 → headers_in found n r p ≡ headers_in found m f.walk q
+  pub passes_zero : f.header ≡ 0 → headers_in found n v p ≡ headers_in found m f.walk q
   passes_zero none =
-      ap (λ k. headers_in found k r p) more
-      ∙ cond-true _ _ _ (eq-eqb (found r p).header 0 (header_is ∙ none))
+      ap (λ k. headers_in found k v p) more
+      ∙ cond-true _ _ _ (eq-eqb (found v p).header 0 (header_is ∙ none))
       ∙ (λ i. headers_in found m (is i).walk (sym eq i))
 
-  pub finds_header : (f.header ≡ 0 → ⊥) → headers_in found n r p ≡ (p, f.header) ∷ headers_in found m f.walk q
+  pub finds_header : (f.header ≡ 0 → ⊥) → headers_in found n v p ≡ (p, f.header) ∷ headers_in found m f.walk q
   finds_header some =
-      ap (λ k. headers_in found k r p) more
-      ∙ cond-false _ _ _ (ne_eqb (found r p).header 0 (λ z. some (sym header_is ∙ z)))
+      ap (λ k. headers_in found k v p) more
+      ∙ cond-false _ _ _ (ne_eqb (found v p).header 0 (λ z. some (sym header_is ∙ z)))
       ∙ (λ i. (p, (is i).header) ∷ headers_in found m (is i).walk (sym eq i))
 
 -- ---- a finding
@@ -79,8 +79,8 @@ no_more : {A : Type 0} (b : Bool) (x : A) (xs : List A) → None ≡ (if b then 
 no_more true x xs e = absurd cc
 no_more false x xs e = refl
 
-module _ (C tail at : ℕ) (words slots : List ℕ) (r : Walk) (aligned : (at % 8 ≡ 0) × (tail % 8 ≡ 0)) (before : at < tail)
-    (o : Option RecoveredMessage) (f : Found) (there_is : f ≡ found_at C words slots r at)
+module _ (C tail at : ℕ) (words slots : List ℕ) (v : Walk) (aligned : (at % 8 ≡ 0) × (tail % 8 ≡ 0))
+    (before : at < tail) (o : Option RecoveredMessage) (f : Found) (there_is : f ≡ found_at C words slots v at)
     (is : o ≡ (if is_committed C tail at f.header then Some (message_at C slots at f.header) else None)) where
   less : (tail - at) / 8 ≡ (tail - (at + 8)) / 8 + 1
   less = omega (arith, aligned.0, aligned.1, before)
@@ -91,16 +91,16 @@ module _ (C tail at : ℕ) (words slots : List ℕ) (r : Walk) (aligned : (at % 
   abbrev rest : List (ℕ × ℕ)
   rest = headers_between C words slots f.walk (at + 8) tail
 
-  passed : f.header ≡ 0 → headers_between C words slots r at tail ≡ rest
-  passed = passes_zero (found_at C words slots) r ((tail - at) / 8) ((tail - (at + 8)) / 8) at (at + 8) f less refl
+  passed : f.header ≡ 0 → headers_between C words slots v at tail ≡ rest
+  passed = passes_zero (found_at C words slots) v ((tail - at) / 8) ((tail - (at + 8)) / 8) at (at + 8) f less refl
       (sym there_is)
 
-  found : (f.header ≡ 0 → ⊥) → headers_between C words slots r at tail ≡ (at, f.header) ∷ rest
-  found = finds_header (found_at C words slots) r ((tail - at) / 8) ((tail - (at + 8)) / 8) at (at + 8) f less refl
+  found : (f.header ≡ 0 → ⊥) → headers_between C words slots v at tail ≡ (at, f.header) ∷ rest
+  found = finds_header (found_at C words slots) v ((tail - at) / 8) ((tail - (at + 8)) / 8) at (at + 8) f less refl
       (sym there_is)
 
   pub finds_message : (m : RecoveredMessage) → o ≡ Some m
-      → messages_of C slots tail (headers_between C words slots r at tail) ≡ m ∷ messages_of C slots tail rest
+      → messages_of C slots tail (headers_between C words slots v at tail) ≡ m ∷ messages_of C slots tail rest
   finds_message m some = dite (ℕ_discrete f.header 0)
       (λ none. let clash : None ≡ Some m = sym (at_zero none) ∙ some in absurd cc)
       (λ there. ap (messages_of C slots tail) (found there)
@@ -108,7 +108,7 @@ module _ (C tail at : ℕ) (words slots : List ℕ) (r : Walk) (aligned : (at % 
       (sym some ∙ is))
 
   pub finds_none : o ≡ None
-      → messages_of C slots tail (headers_between C words slots r at tail) ≡ messages_of C slots tail rest
+      → messages_of C slots tail (headers_between C words slots v at tail) ≡ messages_of C slots tail rest
   finds_none none = dite (ℕ_discrete f.header 0) (λ zero. ap (messages_of C slots tail) (passed zero))
       (λ there. ap (messages_of C slots tail) (found there)
       ∙ no_more (is_committed C tail at f.header) (message_at C slots at f.header) (messages_of C slots tail rest)

@@ -59,7 +59,8 @@ walk_moved v p m y above kind is =
 module _ (C head : ℕ) (words slots headers : List ℕ) (r : ShowsRuns C head slots words headers) (cs : List StagedClaim)
     (cap : IsCapacity C) (head8 : head % 8 ≡ 0) (placed : ArePlaced C head cs) (have : HaveRecords C slots cs)
     (wide : length words ≡ ring_words C)
-    (are : (p : ℕ) → p % 8 ≡ 0 → head ≤ p → p < head + C → at_position C headers p ≡ staged_word_at elsewhere cs p) where
+    (are : (p : ℕ) → p % 8 ≡ 0 → head ≤ p → p < head + C
+    → at_position C headers p ≡ staged_word_at elsewhere cs p) where
   abbrev h : ℕ → ℕ
   h = at_position C headers
 
@@ -75,8 +76,8 @@ module _ (C head : ℕ) (words slots headers : List ℕ) (r : ShowsRuns C head s
   abbrev shown : ℕ → ℕ
   shown p = staged_word_at elsewhere (all_filled_out cs) p
 
-  -- The walk v has come to the position `at`. Nothing begins from there up to `next`, and up to `end` lies the rest of a
-  -- run
+  -- The walk v has come to the position `at`. Nothing begins from there up to `next`, and up to `end` lies the rest of
+  -- a run
   record Walks (v : Walk) (at : ℕ) : Type 0 where
     new : List ℕ
     long : length new ≡ ring_words C

@@ -1,6 +1,6 @@
 -- The headers that the words and the slots of any memory show, if the words have marks. The mark of a committed record
--- may be the end of a run of committed records. Then each of them has its header in its first slot. Positions are running
--- byte counts, C is the capacity of the buffer, and the records end at the tail.
+-- may be the end of a run of committed records, which follow one another. Each of them has its header in its first slot.
+-- Positions are running byte counts, C is the capacity of the buffer, and the records end at the tail.
 use Rattle.std.specs.Prelude.{ℕ, zero, suc, ◌+◌, ◌-◌, ◌/◌, ◌%◌, ◌^◌, Bool, ◌&&◌, ◌||◌, ◌==◌, not, nat_le, nat_lt, int_lt, if◌then◌else◌, ℤ, pos, negsuc, nat_abs, List, [], ◌∷◌, length, slice_index, Option, Some, None}
 use Rattle.ring_counters.specs.Records.{bytes_at}
 use Rattle.ring_layout.specs.Layout.{head_index, tail_index}
@@ -63,8 +63,8 @@ found_at C words slots v p =
       walk = walk_after v p (mark_in v p w) y;
     }
 
--- The headers at n positions from p on, each with its position. `found` gives what a walk finds at a position. The header
--- is 0 if there is none
+-- The headers at n positions from p on, each with its position. `found` gives what a walk finds at a position, and its
+-- header is 0 if there is none
 abbrev pub headers_in : (Walk → ℕ → Found) → ℕ → Walk → ℕ → List (ℕ × ℕ)
 headers_in found zero v p = []
 headers_in found (suc n) v p =

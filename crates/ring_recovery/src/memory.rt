@@ -85,8 +85,9 @@ fn read_memory<'a>(words: &'a [u64], slots: &'a [u64]) -> Result<Recovered<'a>, 
 /// For any other memory the call returns a finding about it, or the messages of the headers that it has. The findings
 /// are, in this order: `BadSize` if no ring has this many words, `BadBodies` if there are not as many slots as words of
 /// the buffer, `UnalignedPosition`, `TailBeforeHead` and `TailTooFar` for positions that make no sense, and `BadLength`
-/// or `BadType` for the first header that no record has there, or that lies inside another record. A mark that is not
-/// the mark of the header beside it gives `BadLength` with the length 1.
+/// or `BadType` for the first header that no record has there, or that lies inside another record. A mark that does not
+/// show the header beside it gives `BadLength` with the length 1. So does a header in a run of committed records that is
+/// not that of a committed record, or whose record would end above the end of the run.
 ///
 /// The call changes nothing, and allocates no memory. Any thread may call it.
 pub fn recover<'a>(words: &'a [u64], slots: &'a [u64]) -> Result<Recovered<'a>, RingFinding>

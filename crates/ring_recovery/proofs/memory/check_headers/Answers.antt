@@ -46,7 +46,8 @@ loop-k-preserved c =
     let count = c.loop-k.invariant.claims in
     elim c.if-found-ne0.branch [
       | then-found-ne0+in_ok-end+then-is_open v ↦
-          let here = finds_header found c.loop-k.walk n m at next f less far (sym c.found_at-found.ensures) (search rules) in
+          let here = finds_header found c.loop-k.walk n m at next f less far (sym c.found_at-found.ensures) (search rules)
+          in
           let one : is_open f.header ≡ true = search rules in
           let claims = ap open_of here ∙ ap (λ b. (if b then 1 else 0) + open_of rest) one in
           record {
@@ -58,7 +59,8 @@ loop-k-preserved c =
             few = omega (arith, v.claims-is);
           }
       | then-found-ne0+in_ok-end+else-is_open v ↦
-          let here = finds_header found c.loop-k.walk n m at next f less far (sym c.found_at-found.ensures) (search rules) in
+          let here = finds_header found c.loop-k.walk n m at next f less far (sym c.found_at-found.ensures) (search rules)
+          in
           let none : is_open f.header ≡ false = search rules in
           let claims = ap open_of here ∙ ap (λ b. (if b then 1 else 0) + open_of rest) none in
           record {
@@ -70,7 +72,8 @@ loop-k-preserved c =
             few = omega (arith, v.claims-is);
           }
       | else-found-ne0 v ↦
-          let passed = passes_zero found c.loop-k.walk n m at next f less far (sym c.found_at-found.ensures) (search rules) in
+          let passed = passes_zero found c.loop-k.walk n m at next f less far (sym c.found_at-found.ensures) (search rules)
+          in
           record {
             rest = ap (λ e. headers_finding C tail e rest) v.end-is
                 ∙ sym (ap (headers_finding C tail c.loop-k.end) passed) ∙ c.loop-k.invariant.rest;

@@ -55,7 +55,8 @@ returns-clause-reads c = λ C ok size.
     let tail : t ≡ slice_index words (tail_index D) = search rules in
     let long : length words ≡ D / 8 + 96 = search rules in
     let same : D ≡ C = same_capacity D C (length words) c.capacity-capacity.ensures.lawful ok long size in
-    let claims : c.in_ok-open_claims.open_claims ≡ open_of (headers_between D words slots new_walk h t) = search rules in
+    let claims : c.in_ok-open_claims.open_claims ≡ open_of (headers_between D words slots new_walk h t) =
+    search rules in
     record {
       capacity = same;
       tail = tail ∙ ap (λ K. tail_of K words) same;
