@@ -1,6 +1,6 @@
 use Rattle.std.proofs.Common.{arith}
 use Rattle.ring_snapshot.proofs.JoinLemmas.{index_inside}
-use Rattle.ring_recovery.proofs.mark.recovered_header.Goals as goal
+use Rattle.ring_recovery.proofs.mark.found_at.Goals as goal
 
 pub bounds-slots-index : goal.bounds-slots-index
 bounds-slots-index c =
