@@ -1,6 +1,6 @@
 -- What follows from a run that was written.
-use Rattle.std.proofs.Common.{◌≡◌, ◌⊎◌, ℕ, zero, suc, ◌+◌, ◌-◌, ◌*◌, ◌/◌, ◌%◌, ◌≤◌, ◌<◌, ℤ, pos, List, [], ◌∷◌, ◌++◌, Bool, true, false, None, length, append-nil, append_assoc, refl, sym, ap, ◌∙◌, ◌==◌, subst, cond, le-ltb, inl, inr, arith}
-use mathlib.Core.Option.{some, some-injective, some-ne-none}
+use Rattle.std.proofs.Common.{◌≡◌, ℕ, zero, suc, ◌+◌, ◌-◌, ◌%◌, ◌≤◌, ◌<◌, pos, List, [], ◌∷◌, ◌++◌, Bool, true, false, length, append-nil, append_assoc, sym, ap, ◌∙◌, subst, inl, inr, arith}
+use mathlib.Core.Option.{some-injective, some-ne-none}
 use lib.ListN.{get_elem?}
 use Rattle.std.proofs.lemmas.Bool.{eq-eqb}
 use Rattle.atomic_table.proofs.Lists.{at_longer}
@@ -8,27 +8,24 @@ use Rattle.ring_layout.specs.declared.admission.Admission.{Admission}
 use Rattle.ring_layout.specs.declared.message.ClaimState.TheVariants.{Committed}
 use Rattle.ring_layout.specs.declared.message.Message.{Message}
 use Rattle.ring_layout.specs.History.{span}
-use Rattle.ring_layout.specs.Places.{end_after, next_place, room}
+use Rattle.ring_layout.specs.Places.{next_place}
 use Rattle.ring_layout.proofs.PlaceLemmas.{next_cases}
 use Rattle.ring_table.specs.declared.claim.StagedClaim.{StagedClaim}
-use Rattle.ring_table.specs.declared.claim.Stage.TheVariants.{Padded, Stored}
+use Rattle.ring_table.specs.declared.claim.Stage.TheVariants.{Stored}
 use Rattle.ring_table.specs.declared.view.View.{View}
 use Rattle.ring_table.specs.Changes.{fresh_stage}
 use Rattle.ring_table.specs.OpenClaims.{open_count}
-use Rattle.ring_table.specs.ProducerSteps.{EndBelow, HasClaimAt, HasNewestAt, IsStagedOpen}
+use Rattle.ring_table.specs.ProducerSteps.{EndBelow, HasNewestAt}
 use Rattle.ring_table.specs.RunBodies.{NeedsRun}
-use Rattle.ring_table.specs.Runs.{run_bytes, run_claims}
-use Rattle.ring_table.specs.Staged.{claim_end, staged_span, AreRising, AreStored}
+use Rattle.ring_table.specs.Runs.{run_claims}
+use Rattle.ring_table.specs.Staged.{claim_end, AreRising, AreStored}
 use Rattle.ring_table.specs.Views.{with_claims}
-use Rattle.ring_rings.specs.Claiming.{looked}
 use Rattle.ring_rings.specs.Making.{KnowsTail, Moves}
 use Rattle.ring_rings.specs.Matching.{Matches}
-use Rattle.ring_rings.specs.Ring.{sent_in}
 use Rattle.ring_rings.specs.Seats.{KeepsOpen}
 use Rattle.ring_rings.proofs.CountLemmas.{open_count-more, stored_more}
 use Rattle.ring_rings.proofs.MadeLemmas.{moved_newest, still_open}
 use Rattle.ring_rings.proofs.RisingLemmas.{rising_more}
-use Rattle.ring_rings.proofs.SentLemmas.{run_sends}
 
 -- ---- the claims of a run come after others
 

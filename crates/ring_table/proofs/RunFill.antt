@@ -4,7 +4,7 @@ use Rattle.std.proofs.Math.Seq.{take-add}
 use Rattle.std.proofs.lemmas.List.{take_more}
 use Rattle.ring_layout.specs.declared.message.Message.{Message}
 use Rattle.ring_layout.specs.History.{IsMessage, span}
-use Rattle.ring_table.specs.RunBodies.{message_of, messages_of, IsSendable, LiesAt, Outgoing}
+use Rattle.ring_table.specs.RunBodies.{message_of, messages_of, LiesAt, Outgoing}
 use Rattle.ring_table.specs.Runs.{run_bytes, run_slots, AreMessages}
 use Rattle.ring_table.specs.Staged.{body_word, headed, slot_bytes}
 use Rattle.ring_table.proofs.RunSlots.{first_record_word, next_record_word}
