@@ -1,9 +1,10 @@
 -- The records of messages in the slots of a run.
-use Rattle.std.proofs.Common.{◌≡◌, ℕ, zero, suc, ◌+◌, ◌-◌, ◌*◌, ◌/◌, ◌%◌, ◌^◌, ◌≤◌, ◌<◌, pos, List, [], ◌∷◌, ◌++◌, All, take, get_or, sym, refl, ap, ◌∙◌, length, arith}
+use Rattle.std.proofs.Common.{◌≡◌, ℕ, zero, suc, ◌+◌, ◌-◌, ◌*◌, ◌/◌, ◌%◌, ◌^◌, ◌≤◌, ◌<◌, pos, List, [], ◌∷◌, ◌++◌, All, take, drop, get_or, sym, refl, ap, ◌∙◌, length, arith}
+use Rattle.std.proofs.Math.Seq.{take-add}
 use Rattle.std.proofs.lemmas.List.{take_more}
 use Rattle.ring_layout.specs.declared.message.Message.{Message}
 use Rattle.ring_layout.specs.History.{IsMessage, span}
-use Rattle.ring_table.specs.RunBodies.{message_of, messages_of, IsSendable, LiesAt, Outgoing}
+use Rattle.ring_table.specs.RunBodies.{message_of, messages_of, LiesAt, Outgoing}
 use Rattle.ring_table.specs.Runs.{run_bytes, run_slots, AreMessages}
 use Rattle.ring_table.specs.Staged.{body_word, headed, slot_bytes}
 use Rattle.ring_table.proofs.RunSlots.{first_record_word, next_record_word}
@@ -29,9 +30,9 @@ record_next h body run k i less lies =
 abbrev pub no_message : Outgoing
 no_message = record { type_id = pos 0; body = record { ref_ptr = (0, 0); now = [] } }
 
-messages_append : (xs : List Outgoing) (o : Outgoing) → messages_of (xs ++ o ∷ []) ≡ messages_of xs ++ message_of o ∷ []
-messages_append [] o = refl
-messages_append (x ∷ xs) o = ap (λ l. message_of x ∷ l) (messages_append xs o)
+messages_append : (xs ys : List Outgoing) → messages_of (xs ++ ys) ≡ messages_of xs ++ messages_of ys
+messages_append [] ys = refl
+messages_append (x ∷ xs) ys = ap (λ l. message_of x ∷ l) (messages_append xs ys)
 
 bytes_append : (ms : List Message) (m : Message) → run_bytes (ms ++ m ∷ []) ≡ run_bytes ms + span (length m.body)
 bytes_append [] m = omega arith
@@ -43,7 +44,7 @@ are_append C (x ∷ ms) m are is = (are.0, are_append C ms m are.1 is)
 
 module _ (os : List Outgoing) (i : ℕ) (lt : i < length os) where
   messages_more : messages_of (take (i + 1) os) ≡ messages_of (take i os) ++ message_of (get_or os i no_message) ∷ []
-  messages_more = ap messages_of (take_more os i no_message lt) ∙ messages_append (take i os) (get_or os i no_message)
+  messages_more = ap messages_of (take_more os i no_message lt) ∙ messages_append (take i os) (get_or os i no_message ∷ [])
 
   pub bytes_more : run_bytes (messages_of (take (i + 1) os))
       ≡ run_bytes (messages_of (take i os)) + span (length (get_or os i no_message).body.now)
@@ -80,3 +81,13 @@ lies_in (x ∷ os) (suc i) lt = λ o o8 less.
 pub first_message : (os : List Outgoing) → 0 < length os → (m : Message) × (ms : List Message) × (messages_of os ≡ m ∷ ms)
 first_message [] some = absurd (omega arith)
 first_message (o ∷ os) some = (message_of o, messages_of os, refl)
+
+-- a run has at least one header
+pub least_bytes : (os : List Outgoing) → 0 < length os → 8 ≤ run_bytes (messages_of os)
+least_bytes [] some = absurd (omega arith)
+least_bytes (o ∷ os) some = omega arith
+
+-- some messages, and the next ones
+pub messages_on : (os : List Outgoing) (a b : ℕ)
+    → messages_of (take (a + b) os) ≡ messages_of (take a os) ++ messages_of (take b (drop a os))
+messages_on os a b = ap messages_of (take-add a b os) ∙ messages_append (take a os) (take b (drop a os))

@@ -1,12 +1,9 @@
-use Rattle.std.proofs.Common.{◌≡◌, ℕ, ◌+◌, ◌*◌, ◌/◌, ◌≤◌, ◌<◌, List, get_or, length, sym, ap, ◌∙◌, subst, take, arith}
+use Rattle.std.proofs.Common.{◌≡◌, ℕ, ◌+◌, ◌/◌, List, get_or, length, sym, ap, ◌∙◌, subst, take, arith}
 use Rattle.std.proofs.lemmas.List.{length-replicate, take_all}
 use Rattle.std.proofs.lemmas.List.Elements.{All-get_or}
-use Rattle.ring_layout.specs.Headers.{committed_header}
-use Rattle.ring_layout.specs.History.{IsMessage}
 use Rattle.ring_table.specs.Filling.{Filling}
-use Rattle.ring_table.specs.RunBodies.{message_of, messages_of, IsSendable, LiesAt, Outgoing}
+use Rattle.ring_table.specs.RunBodies.{messages_of, IsSendable, LiesAt, Outgoing}
 use Rattle.ring_table.specs.Runs.{run_bytes, run_slots}
-use Rattle.ring_table.specs.SlotSteps.{HasBody}
 use Rattle.ring_table.specs.Staged.{headed}
 use Rattle.ring_table.proofs.FillLemmas.{fill_end}
 use Rattle.ring_table.proofs.HeaderCalls.{packs_recorded}

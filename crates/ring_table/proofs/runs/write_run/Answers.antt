@@ -1,12 +1,10 @@
-use Rattle.std.proofs.Common.{◌≡◌, ℕ, ◌+◌, ◌*◌, ◌/◌, ◌%◌, List, ◌∷◌, [], ◌++◌, length, sym, ap, ◌∙◌, subst, arith}
+use Rattle.std.proofs.Common.{◌≡◌, List, [], ◌++◌, sym, ap, ◌∙◌, subst, arith}
 use Rattle.ring_layout.specs.declared.message.Message.{Message}
 use Rattle.ring_layout.specs.Places.{index}
-use Rattle.ring_table.specs.Passing.{placed_message}
 use Rattle.ring_table.specs.Ranges.{numbered}
-use Rattle.ring_table.specs.RunBodies.{messages_of, Outgoing}
-use Rattle.ring_table.specs.Runs.{run_bytes, run_claims, run_slots, AreMessages}
+use Rattle.ring_table.specs.RunBodies.{messages_of}
+use Rattle.ring_table.specs.Runs.{run_claims, run_slots, AreMessages}
 use Rattle.ring_table.specs.SlotSteps.{with_out, HasBody}
-use Rattle.ring_table.specs.Staged.{StagedClaim}
 use Rattle.ring_table.specs.Views.{View, with_claims}
 use Rattle.ring_table.proofs.CommitRun.{last_one}
 use Rattle.ring_table.proofs.RunClaims.{run_whole}
