@@ -73,7 +73,7 @@ module _ (C : ℕ) (slots : List ℕ) (tail : ℕ) (ok : IsCapacity C) (many : l
     picture = λ p p8 from below.
         ap (λ w. slice_index w (index C p)) (s.goes m) ∙ elim (cases_lt p (at + n)) as
         (λ _. slice_index (joined_from C slots tail m (run_of (mark_at C old run at)) (at + n) new) (index C p)
-            ≡ shown p) [
+        ≡ shown p) [
           | inl lt ↦ rest.same p p8 lt (omega (arith, near, from)) ∙ elim (cases_eq p at) as
               (λ _. slice_index new (index C p) ≡ shown p) [
                 | inl e ↦ rw e (s.first ∙ sym first)
@@ -312,7 +312,8 @@ joined_lies C words slots tail head h ok wide many plain =
     let shows = shows_claims C slots tail ok many h ((tail - head) / 8) 0 head cleared long head8 ends near
     (omega (arith, le, head8, tail8))
     (stable C slots words cleared tail h 0 head lap head8
-    (λ x x8 from below. zeros_past C words tail rest x ok wide tail8 few x8 (omega (arith, below, ends)) (omega (arith, whole, from))) plain.claims) in
+    (λ x x8 from below. zeros_past C words tail rest x ok wide tail8 few x8 (omega (arith, below, ends))
+    (omega (arith, whole, from))) plain.claims) in
     record {
       lawful = lawful_claims C words slots tail h 0 head plain.claims;
       ends = ends;

@@ -1,8 +1,8 @@
--- The marks in the words of a plain ring. The word at the index of a position is a mark if it is above the position, and
--- otherwise says nothing: it may be what an earlier lap left. A mark is the end of the record or of the padding that
--- begins at the position, and its kind. The mark of a committed record may also be the end of a run of committed records,
--- of which this one is the first. The slot at the same index has the header that the record has once it is committed.
--- Positions are running byte counts, and C is the capacity of the buffer.
+-- The marks in the words of a plain ring. The word at the index of a position is a mark if it is above the position,
+-- and otherwise says nothing: it may be what an earlier lap left. A mark is the end of the record or of the padding
+-- that begins at the position, and its kind. The mark of a committed record may also be the end of a run of committed
+-- records, of which this one is the first. The slot at the same index has the header that the record has once it is
+-- committed. Positions are running byte counts, and C is the capacity of the buffer.
 use Rattle.std.specs.Prelude.{◌≡◌, ◌⊎◌, ℕ, ◌+◌, ◌-◌, ◌%◌, ◌^◌, ◌<◌, ◌≤◌, Bool, ◌&&◌, ◌||◌, ◌==◌, nat_le, nat_lt, int_lt, if◌then◌else◌, pos, neg_ℤ, nat_abs, List, length, slice_index}
 use Rattle.ring_layout.specs.declared.message.Claim.{Claim}
 use Rattle.ring_layout.specs.declared.message.ClaimState.{ClaimState}
@@ -33,17 +33,18 @@ kind_of c = by_state c.state
     by_state Aborted = aborted_kind
 
 -- a committed claim that ends here has the mark of a run, which goes on after the claim, up to the tail at most
-pub record GoesOn (tail end mark : ℕ) (c : Claim) : Type 0 where
+pub record RunGoesOn (tail end mark : ℕ) (c : Claim) : Type 0 where
   pub committed : kind_of c ≡ committed_kind
   pub whole : mark % 8 ≡ 0
   pub before : end < mark
   pub near : mark ≤ tail
 
--- A claim at this place has this mark, alone or in a run, and the slots have its header in the form of a committed record
+-- A claim at this place has this mark, alone or in a run, and the slots have its header in the form of a committed
+-- record
 pub record HasMark (C tail : ℕ) (slots : List ℕ) (place mark : ℕ) (c : Claim) : Type 0 where
   pub lawful : IsMessage C c.message
   pub aligned : place % 8 ≡ 0
-  pub ends : (mark ≡ place + span_of c + kind_of c) ⊎ GoesOn tail (place + span_of c) mark c
+  pub ends : (mark ≡ place + span_of c + kind_of c) ⊎ RunGoesOn tail (place + span_of c) mark c
   pub header : slice_index slots (index C place) ≡ committed_header c.message.type_id (length c.message.body)
 
 -- The mark of what is at a position, if a run that began before goes on up to `run`. Inside of the run it is the run's
@@ -78,8 +79,8 @@ header_as kind slot =
     if kind == open_kind then header (neg_ℤ (length_in slot)) (type_in slot)
     else (if kind == aborted_kind then header (length_in slot) padding_type else slot)
 
--- The header of the record or padding whose mark has this kind and ends this many bytes after its position, with what is
--- in its first slot. The tail is `most` bytes after the position.
+-- The header of the record or padding whose mark has this kind and ends this many bytes after its position, with what
+-- is in its first slot. The tail is `most` bytes after the position.
 abbrev pub marked_header : ℕ → ℕ → ℕ → ℕ → ℕ
 marked_header most bytes kind slot =
     if kind == padding_kind then (if nat_lt bytes (2 ^ 31) then padding_header bytes else bad_header)

@@ -10,8 +10,8 @@ use Rattle.ring_layout.specs.Places.{index, next_place, end_of}
 use Rattle.ring_snapshot.specs.Marks.{mark_at, run_of, HasMark}
 use Rattle.ring_snapshot.specs.RingRecords.{Lie}
 
--- A plain ring has a claim that comes after e, at this place: the marks of the claim and of the padding before it, and the
--- words of its body. A run that began before goes on up to `run`, and has no padding.
+-- A plain ring has a claim that comes after e, at this place: the marks of the claim and of the padding before it, and
+-- the words of its body. A run that began before goes on up to `run`, and has no padding.
 pub record HasClaim (C : ℕ) (words slots : List ℕ) (tail run e place : ℕ) (c : Claim) : Type 0 where
   pub padding : e < place → (run ≤ e) × (slice_index words (index C e) ≡ place + padding_kind)
   pub mark : HasMark C tail slots place (mark_at C words run place) c

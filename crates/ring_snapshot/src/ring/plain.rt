@@ -49,8 +49,8 @@ fn fill_zeros(words: &mut [u64], index: usize, count: usize)
     words[index..index + count].fill(0);
 }
 
-/// Writes the `count` words after the header at an index in the format. They are zeros if the mark is that of padding, and
-/// otherwise those of the slots.
+/// Writes the `count` words after the header at an index in the format. They are zeros if the mark is that of padding,
+/// and otherwise those of the slots.
 fn join_body(words: &mut [u64], slots: &[u64], mark: u64, index: usize, count: usize)
     requires inside { (index + 1 + count ≤ length slots.now) × (length slots.now ≤ length words.old) }
     ensures words { words.new ≡ with_body slots.now mark index count words.old }
@@ -65,8 +65,8 @@ fn join_body(words: &mut [u64], slots: &[u64], mark: u64, index: usize, count: u
     }
 }
 
-/// Writes the record at a position with this mark in the format, or only its header if no record has this header. Returns
-/// the number of bytes that the record takes, or 0 if there is no record.
+/// Writes the record at a position with this mark in the format, or only its header if no record has this header.
+/// Returns the number of bytes that the record takes, or 0 if there is no record.
 fn join_record(
     words: &mut [u64],
     slots: &[u64],
@@ -143,16 +143,18 @@ fn clear_words(words: &mut [u64], capacity: u32, at: u64, count: usize)
 /// `capacity / 8` words, which have the headers and the bodies at the same indexes. All listings can read the result.
 ///
 /// The call goes from the head to the tail, one record after another. Padding gets its header, and zeros after it. Any
-/// other record gets its header and its body, in each state. A mark of kind 0 can be that of a run of committed records,
-/// which goes on up to the end in the mark. Inside of the run the call reads the headers in the slots, and no words.
+/// other record gets its header and its body, in each state. A mark of kind 0 can be that of a run of committed
+/// records, which goes on up to the end in the mark. Inside of the run the call reads the headers in the slots, and no
+/// words.
 ///
-/// The call ends at a word that is no mark, which becomes 0, and at a mark that makes no sense. [`header_at`] says which
-/// marks these are, and what they become. At a record of a run, it is the mark of the run that makes no sense. A mark also
-/// makes no sense if its record would cross the end of the buffer or the tail. The words after these two stay as they are.
+/// The call ends at a word that is no mark, which becomes 0, and at a mark that makes no sense. [`header_at`] says
+/// which marks these are, and what they become. At a record of a run, it is the mark of the run that makes no sense. A
+/// mark also makes no sense if its record would cross the end of the buffer or the tail. The words after these two stay
+/// as they are.
 ///
-/// All words of the buffer that are not between the head and the tail become 0. No word is changed if the positions make
-/// no sense. If the words and the slots have a history between the head and the tail, the result has the words of the
-/// history.
+/// All words of the buffer that are not between the head and the tail become 0. No word is changed if the positions
+/// make no sense. If the words and the slots have a history between the head and the tail, the result has the words of
+/// the history.
 ///
 /// Returns `BadSize` if no ring has this many words. Otherwise returns `BadBodies` if there are not as many slots as
 /// words of the buffer. After an error no word is changed.

@@ -57,8 +57,8 @@ returns-then-is_ordered-clause-history c = λ C h ok size plain.
     let slots : length c.args.slots.now ≡ D / 8 = search rules in
     let same : D ≡ C = same_capacity D C (length words) c.capacity-capacity.ensures.lawful ok long size in
     subst (λ w. LiesBetween C words w h) (sym (returns-then-is_ordered-clause-joined c C ok size))
-    (joined_lies C words c.args.slots.now (slice_index words (tail_index C)) (slice_index words (head_index C)) h ok size
-    (slots ∙ ap (λ K. K / 8) same) plain)
+    (joined_lies C words c.args.slots.now (slice_index words (tail_index C)) (slice_index words (head_index C)) h ok
+    size (slots ∙ ap (λ K. K / 8) same) plain)
 
 pub returns-else-is_ordered-clause-history : goal.returns-else-is_ordered-clause-history
 returns-else-is_ordered-clause-history c = λ C h ok size plain.
@@ -68,5 +68,5 @@ returns-else-is_ordered-clause-history c = λ C h ok size plain.
     let slots : length c.args.slots.now ≡ D / 8 = search rules in
     let same : D ≡ C = same_capacity D C (length words) c.capacity-capacity.ensures.lawful ok long size in
     subst (λ w. LiesBetween C words w h) (sym (returns-else-is_ordered-clause-joined c C ok size))
-    (joined_lies C words c.args.slots.now (slice_index words (tail_index C)) (slice_index words (head_index C)) h ok size
-    (slots ∙ ap (λ K. K / 8) same) plain)
+    (joined_lies C words c.args.slots.now (slice_index words (tail_index C)) (slice_index words (head_index C)) h ok
+    size (slots ∙ ap (λ K. K / 8) same) plain)
