@@ -70,7 +70,8 @@ def split(image, rng):
             else:
                 marks[index], slots[index] = senseless(at, rng)
             break
-        kind = rng.choice((1, 3)) if is_passed else 2 if length < 0 else 0
+        # (the length of padding is a multiple of 8)
+        kind = rng.choice((1, 3) if length % 8 == 0 else (3,)) if is_passed else 2 if length < 0 else 0
         if kind == 0 and begin is not None and rng.random() < 0.5:
             inside.append((index, begin))
         else:
