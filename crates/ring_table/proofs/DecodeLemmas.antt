@@ -202,7 +202,7 @@ decode_head C (Stored Aborted) p w y b most is p8 m head =
     decoded_aborted p n w y (m.mark s.some ∙ shows_mark p _ n aborted_kind s) p8 (omega arith)
     ∙ ap (λ z. (2 ^ 32 - 1) * 2 ^ 32 + z) y_low
 
-masked_zero : (t : Stage) → masked_record t 0 ≡ 0
+pub masked_zero : (t : Stage) → masked_record t 0 ≡ 0
 masked_zero Moved = refl
 masked_zero Padded = refl
 masked_zero (Stored s) = refl

@@ -111,8 +111,7 @@ pub(crate) fn header_with(slots: &[u64], capacity: u32, tail: u64, mark: u64, at
 ///
 /// Returns the header of the claim or of the padding whose mark the word is. If the mark is that of a run of committed
 /// records, it is the header of the first one. Returns 0 if the word is no mark. Then nothing was stored for the
-/// position, or it is inside of a record or of a run. Returns a header that no record has, with the length 1, if the
-/// mark makes no sense:
+/// position, or it is inside of a record or of a run. Returns `BAD_HEADER` if the mark makes no sense:
 /// - its kind is above 3;
 /// - padding has 2^31 bytes or more;
 /// - the header in the slot is no header of a message;
