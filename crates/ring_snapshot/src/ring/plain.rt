@@ -101,7 +101,7 @@ fn join_record(
 }
 
 /// Writes the records between these positions in the format, up to the first header that no record has.
-#[tactic(auto, using(crate::proofs::JoinLemmas::joined_goes, crate::proofs::JoinLemmas::joined_over, crate::proofs::JoinLemmas::joined_stops))]
+#[tactic(auto, using(crate::proofs::JoinLemmas::joined_goes, crate::proofs::JoinLemmas::joined_over))]
 fn join_records(words: &mut [u64], slots: &[u64], capacity: u32, head: u64, tail: u64)
     requires lawful { IsCapacity capacity }
     requires sizes { (length words.old ≡ ring_words capacity) × (length slots.now ≡ capacity / 8) }
