@@ -23,7 +23,7 @@ end_here q e ends p same = cond-true _ e (ends p) (eq-eqb p q same)
 pub end_else : (q e : ℕ) (ends : ℕ → ℕ) (p : ℕ) → p ≢ q → end_set q e ends p ≡ ends p
 end_else q e ends p other = cond-false _ e (ends p) (ne_eqb p q other)
 
--- Headers, ends and words change from b up to t alone, where no record was committed
+-- Headers, ends and words change from b up to t alone. No record was committed there
 pub record Rewrites (C head : ℕ) (h ends w h' ends' w' : ℕ → ℕ) (b t : ℕ) : Type 0 where
   pub none_was : (p : ℕ) → p % 8 ≡ 0 → b ≤ p → p < t → IsCommitted (h p) → ⊥
   pub headers_stay : (p : ℕ) → p % 8 ≡ 0 → head ≤ p → p < head + C → (p < b) ⊎ (t ≤ p) → h' p ≡ h p
@@ -279,7 +279,7 @@ module _ (C start : ℕ) (law : IsLawful C start) (head : ℕ) (headers : List �
               (λ zero. absurd (full (sym header_now ∙ zero)));
         })
 
-  -- The head goes up to `to`, which is the end of each record before it, and where no record is inside of a run: the
+  -- The head goes up to `to`, which is the end of each record before it. No run has records on both sides of it. The
   -- headers before it go away, and the words stay
   module _ (to : ℕ) (headers' : List ℕ) (up : head ≤ to) (below : to ≤ head + C) (to8 : to % 8 ≡ 0)
       (wide : length headers' ≡ length headers)

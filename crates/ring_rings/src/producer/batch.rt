@@ -77,8 +77,9 @@ fn test_batch(capacity: u32, messages: &[Outgoing<'_>]) -> Result<(), ClaimFault
 impl<K: Kind> Ring<K, InSlots> {
     /// Writes the messages of a batch in their order, and returns how many were written. Those that were written are
     /// the first ones. They are all messages, unless there was no room for more, or another producer was faster.
+    /// If nothing could be written, the call returns an error, so it returns 0 only for an empty batch.
     ///
-    /// Messages whose records lie next to one another in the buffer are one run, of at most an eighth of the capacity.
+    /// Messages whose records are next to one another in the buffer are one run, of at most an eighth of the capacity.
     /// A run costs one move of the tail and one store of a mark, as a single message does. The consumer sees all
     /// messages of a run at once.
     ///
@@ -99,6 +100,7 @@ impl<K: Kind> Ring<K, InSlots> {
         ensures sent { IfOk result (λ n. sent producer.new ≡ sent producer.old ++ batch_of (first_of n messages.now))
             × OnErr result (sent producer.new ≡ sent producer.old) }
         ensures count { IfOk result (λ n. n ≤ length messages.now) }
+        ensures some { 0 < length messages.now → IfOk result (λ n. 0 < n) }
         ensures keeps { OpensNone self.now producer.old producer.new }
     {
         test_batch(self.capacity, messages)?;
