@@ -154,22 +154,24 @@ fn run_up_to(end: u64) -> ([u64; 112], [u64; 16]) {
     words[16 + 48] = 96;
     words[16 + 16] = 144;
     words[12] = end;
-    for index in [12usize, 14, 0] {
-        slots[index] = COMMITTED;
-        slots[index + 1] = index as u64;
-    }
+    slots[12] = COMMITTED;
+    slots[13] = 0x1111;
+    slots[14] = COMMITTED;
+    slots[15] = 0x2222;
+    slots[0] = COMMITTED;
+    slots[1] = 0;
     (words, slots)
 }
 
 /// The words of this plain ring in the format, with this header at the position 128.
 fn joined_run(header: u64) -> [u64; 112] {
     let (mut words, _) = run_up_to(40);
-    words[2..12].fill(0);
-    for index in [12usize, 14, 0] {
-        words[index] = COMMITTED;
-        words[index + 1] = index as u64;
-    }
+    words[12] = COMMITTED;
+    words[13] = 0x1111;
+    words[14] = COMMITTED;
+    words[15] = 0x2222;
     words[0] = header;
+    words[1..12].fill(0);
     words
 }
 
@@ -190,21 +192,22 @@ fn joins_a_run(rt: HostRuntime) {
 
 #[test]
 fn joins_what_comes_after_a_run(rt: HostRuntime) {
-    let (mut words, mut slots) = run_up_to(128);
+    let (mut words, slots) = run_up_to(128);
     words[0] = 144 + 3;
     assert_eq!(rt; join_bodies(&mut words, &slots), Ok(()));
     assert_eq!(rt; words.as_slice(), joined_run(ABORTED).as_slice());
-    let (mut words, _) = run_up_to(128);
+    let (mut words, slots) = run_up_to(128);
     assert_eq!(rt; join_bodies(&mut words, &slots), Ok(()));
     let mut wanted = joined_run(0);
     wanted[1] = 40;
     assert_eq!(rt; words.as_slice(), wanted.as_slice());
     // (a record in the run is longer than the rest of the run, or its slot has no header of a message)
     for (end, slot) in [(136, COMMITTED), (144, ABORTED), (144, 0)] {
-        let (mut words, _) = run_up_to(end);
+        let (mut words, mut slots) = run_up_to(end);
         slots[0] = slot;
+        let mut wanted = joined_run(BAD);
+        wanted[1] = 40;
         assert_eq!(rt; join_bodies(&mut words, &slots), Ok(()));
-        wanted[0] = BAD;
         assert_eq!(rt; words.as_slice(), wanted.as_slice());
     }
 }
