@@ -60,7 +60,10 @@ fn reads_in_parts<K: Kind>(rt: &impl Abort, alloc: Global) {
     let last = ring.read(&mut consumer, 9, &mut script);
     assert_eq!(rt; last, end(3, 48, Stop::Unpublished));
     assert!(rt; script.is_done());
-    assert_eq!(rt; ring.positions(&mut producer), Positions { head: 64, tail: 64 });
+    assert_eq!(rt;
+        ring.positions(&mut producer),
+        Positions { head: 64, tail: 64 }
+    );
 }
 
 #[test]
@@ -105,7 +108,10 @@ fn refuses_all<K: Kind>(rt: &impl Abort, alloc: Global) {
     let fault = ClaimFault::BadType { type_id: 0 };
     assert_eq!(rt; refused, Err(TryFault::Refused(fault)));
     assert_eq!(rt; ring.write_batch(&mut producer, &[]), Ok(0));
-    assert_eq!(rt; ring.positions(&mut producer), Positions { head: 0, tail: 0 });
+    assert_eq!(rt;
+        ring.positions(&mut producer),
+        Positions { head: 0, tail: 0 }
+    );
 }
 
 #[test]
