@@ -74,7 +74,12 @@ fn batches_are_read_in_parts(rt: HostRuntime) {
 
 /// Writes a batch that begins near the end of the buffer, and is longer than the ring.
 fn fills_the_ring<K: Kind>(rt: &impl Abort, alloc: Global) {
-    let (ring, mut producer, mut consumer) = opened::<K, InSlots>(rt, alloc, 120);
+    let (ring, mut producer, mut consumer) = opened::<K, InSlots>(rt, alloc, 0);
+    let shown: [Message<'_>; 31] = [(1, &[]); 31];
+    let mut script = Script::new(&[], &shown);
+    assert_eq!(rt; ring.write_batch(&mut producer, &[EMPTY; 15]), Ok(15));
+    let first = ring.read(&mut consumer, 20, &mut script);
+    assert_eq!(rt; first, end(15, 120, Stop::Unpublished));
     assert_eq!(rt; ring.write_batch(&mut producer, &[EMPTY; 20]), Ok(16));
     let full = ring.write_batch(&mut producer, &[EMPTY; 2]);
     let fault = ClaimFault::InsufficientCapacity {
@@ -82,8 +87,6 @@ fn fills_the_ring<K: Kind>(rt: &impl Abort, alloc: Global) {
         head: 120,
     };
     assert_eq!(rt; full, Err(TryFault::Refused(fault)));
-    let shown: [Message<'_>; 16] = [(1, &[]); 16];
-    let mut script = Script::new(&[], &shown);
     let block = ring.read(&mut consumer, 20, &mut script);
     assert_eq!(rt; block, end(1, 8, Stop::Block));
     let rest = ring.read(&mut consumer, 20, &mut script);
