@@ -6,6 +6,7 @@ pub mod RisingLemmas
 pub mod MadeLemmas
 pub mod MoveLemmas
 pub mod SentLemmas
+pub mod RunMade
 pub mod ReceivedLemmas
 pub mod CloseLemmas
 pub mod RescueLemmas

@@ -1,5 +1,5 @@
 -- A message that a turn of a read finds and shows.
-use Rattle.std.proofs.Common.{◌≡◌, ℕ, ℤ, pos, ◌+◌, ◌/◌, ◌%◌, ◌*◌, ◌≤◌, ◌<◌, ◌^◌, List, [], ◌∷◌, ◌++◌, length, All, Bool, FitsSigned, ap, sym, ◌∙◌, subst, arith}
+use Rattle.std.proofs.Common.{◌≡◌, ℕ, ℤ, pos, ◌+◌, ◌/◌, ◌≤◌, ◌^◌, List, [], ◌∷◌, ◌++◌, length, Bool, FitsSigned, ap, sym, ◌∙◌, subst, arith}
 use Rattle.std.specs.Int.{cast_signed, cast_unsigned, w32}
 use Rattle.std.proofs.lemmas.Int.{to_z-of_z}
 use Rattle.std.proofs.lemmas.List.{append_assoc}
@@ -13,7 +13,6 @@ use Rattle.ring_table.specs.declared.claim.PlacedMessage.{PlacedMessage}
 use Rattle.ring_table.specs.declared.view.Run.{Run}
 use Rattle.ring_table.specs.declared.view.View.{View}
 use Rattle.ring_table.specs.Views.{scanned, with_consumer, with_run}
-use Rattle.ring_table.specs.ConsumerSteps.{with_scan}
 use Rattle.ring_rings.specs.Reading.{body_loads, record_loads}
 use Rattle.ring_rings.specs.ReadingSteps.{FindsOne, HasBodyAt, HasComeNear, HasGotLast, HasLastAt, IsPassed, LoadsWholeBody, ShowsOne}
 

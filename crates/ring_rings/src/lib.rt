@@ -36,6 +36,6 @@ pub use ring::{
     PlainOneToOneRing, PlainRing, Producer, Ring,
 };
 pub use ring_layout::{MakeFault, NoShares};
-pub use ring_table::{InSlots, InWords, Unsettled};
+pub use ring_table::{InSlots, InWords, Outgoing, Unsettled};
 pub use ring_words::{Action, ClaimFault, Handler, Positions, PutRange, ReadEnd, Standing, Stop};
 pub use source::{CommandSource, Heartbeat, Rescue};

@@ -1,26 +1,25 @@
 -- The mark of a run is stored: the rule with marks.
-use Rattle.std.proofs.Common.{◌≡◌, ◌≢◌, ◌⊎◌, ℕ, ◌+◌, ◌/◌, ◌%◌, ◌≤◌, ◌<◌, List, [], ◌∷◌, ◌++◌, cond, ltb, set, slice_index, sym, refl, ap, ◌∙◌, subst, inl, inr, ⊎_elim, length, append-nil, length-set, get_or-set_other, get_or-set_same, lt-ltb, le-ltb, arith}
+use Rattle.std.proofs.Common.{◌≡◌, ◌≢◌, ◌⊎◌, ℕ, ◌+◌, ◌/◌, ◌%◌, ◌≤◌, ◌<◌, List, [], ◌∷◌, ◌++◌, cond, ltb, set, slice_index, sym, refl, ap, ◌∙◌, subst, inl, inr, ⊎_elim, length, length-set, get_or-set_other, get_or-set_same, lt-ltb, le-ltb, arith}
 use mathlib.Core.Option.{Option, some}
 use mathlib.Core.Logic.{dite}
 use native.Mathlib.Decide.{ℕ_discrete}
 use lib.ListN.{get_elem?}
 use Rattle.std.proofs.lemmas.Bool.{cases_lt, cond-true, cond-false}
-use Rattle.atomic_table.specs.Table.{State, Allows, homes_after, carried_after}
+use Rattle.atomic_table.specs.Table.{State, Allows, homes_after}
 use Rattle.ring_layout.specs.declared.message.Message.{Message}
 use Rattle.ring_layout.specs.Headers.{committed_header}
-use Rattle.ring_layout.specs.History.{IsMessage, span}
-use Rattle.ring_layout.specs.Marks.{committed_kind}
+use Rattle.ring_layout.specs.History.{span}
 use Rattle.ring_layout.specs.Places.{index}
-use Rattle.ring_table.specs.Staged.{elsewhere, StagedClaim, PlacedMessage, AreRising, Stored, claim_end, staged_word, staged_word_at}
+use Rattle.ring_table.specs.Staged.{elsewhere, StagedClaim, AreRising, Stored, claim_end}
 use Rattle.ring_layout.specs.declared.message.ClaimState.TheVariants.{Committed}
-use Rattle.ring_table.specs.Passing.{IsSettled, placed_message}
-use Rattle.ring_table.specs.Views.{ConsumerView, View, with_claims}
+use Rattle.ring_table.specs.Passing.{placed_message}
+use Rattle.ring_table.specs.Views.{View, with_claims}
 use Rattle.ring_table.specs.ProducerSteps.{Mine}
 use Rattle.ring_table.specs.Rule.{IsLawful}
-use Rattle.ring_table.specs.Ranges.{numbered, gives_first}
+use Rattle.ring_table.specs.Ranges.{gives_first}
 use Rattle.ring_table.specs.Shelf.{IsShelf}
 use Rattle.ring_table.specs.SlotSteps.{with_out, HasBody}
-use Rattle.ring_table.specs.Marks.{at_position, bytes_of, kind_of, Begins, Encodes, IsCommitted, IsOfRun, KeepsMarks, Precedes, ReadsRun}
+use Rattle.ring_table.specs.Marks.{at_position, bytes_of, kind_of, IsCommitted, IsOfRun, KeepsMarks}
 use Rattle.ring_table.specs.Runs.{run_bytes, run_claims, run_slots, AreMessages, StoresRun}
 use Rattle.ring_table.proofs.DecodeLemmas.{inner_word}
 use Rattle.ring_table.proofs.EncodeLemmas.{Fills, Rewrites, encodes_rewritten, reads_beside}
@@ -29,11 +28,10 @@ use Rattle.ring_table.proofs.LoadLemmas.{stands}
 use Rattle.ring_table.proofs.MarkSteps.{Marked, remarked, rests_after, rests_same, with_headers}
 use Rattle.ring_table.proofs.MarkWords.{whole_bytes}
 use Rattle.ring_table.proofs.MemoryLemmas.{index_inside, not_inside, one_position}
-use Rattle.ring_table.proofs.OutPlaces.{one_out}
 use Rattle.ring_table.proofs.RangeLemmas.{valid_gives}
 use Rattle.ring_table.proofs.SlotCalls.{header_of_claim}
 use Rattle.ring_table.proofs.StoreLemmas.{rising}
-use Rattle.ring_table.proofs.RunClaims.{first_committed, first_word_is, run_inside, run_whole, run_word, some_span, IsInside}
+use Rattle.ring_table.proofs.RunClaims.{first_committed, first_word_is, run_inside, run_word, some_span}
 use Rattle.ring_table.proofs.RunKept.{FillsRun, RunWords, blank_there, its, kept_now}
 use Rattle.ring_table.proofs.RunShelf.{homes_are, run_shelf}
 use Rattle.ring_table.proofs.RunSlots.{one_held}
@@ -330,7 +328,7 @@ module _ (C start : ℕ) (s : State ℕ View) (k : KeepsMarks C start s.words s.
         r.consumer.scan r.consumer.run h.scan h.b8 k.reads)
 
 -- the last claims of one list are one
-last_one : (xs ys : List StagedClaim) (c d : StagedClaim) → xs ++ c ∷ [] ≡ ys ++ d ∷ [] → (xs ≡ ys) × (c ≡ d)
+pub last_one : (xs ys : List StagedClaim) (c d : StagedClaim) → xs ++ c ∷ [] ≡ ys ++ d ∷ [] → (xs ≡ ys) × (c ≡ d)
 last_one [] [] c d e = (refl, mathlib.Core.Option.some-injective c d (ap (λ (l : List StagedClaim). get_elem? l 0) e))
 last_one [] (y ∷ ys) c d e = absurd (no_more ys d (ap rest_of e))
   where

@@ -19,7 +19,6 @@ use Rattle.ring_table.proofs.MemoryLemmas.{head_bounds}
 use Rattle.ring_table.proofs.MarkWords.{whole_bytes, few_of, long_bytes}
 use Rattle.ring_table.proofs.MarkSteps.{header_near, position_of}
 use Rattle.ring_table.proofs.RunPlaces.{head_of_committed, none_inside}
-use Rattle.ring_table.proofs.RunShelf.{run_shelf}
 use Rattle.ring_table.proofs.DecodeLemmas.{HeadAt, all_filled_out, decode_all, filled_ends, filled_none, filled_placed}
 
 -- each settled claim of a history has its header there

@@ -55,6 +55,7 @@ pub mod RunLemmas
 pub mod RunClaims
 pub mod RunKept
 pub mod RunSlots
+pub mod RunFill
 pub mod RunShelf
 pub mod LoadsHeaders
 pub mod SplitMarks

@@ -1,17 +1,17 @@
 -- The claims of a run in the place of one claim.
-use Rattle.std.proofs.Common.{◌≡◌, ◌≢◌, ◌⊎◌, ℕ, zero, suc, ◌+◌, ◌-◌, ◌/◌, ◌%◌, ◌^◌, ◌≤◌, ◌<◌, List, [], ◌∷◌, ◌++◌, cond, eqb, true, false, sym, refl, ap, ◌∙◌, subst, inl, inr, ⊎_elim, length, append_assoc, eq-eqb, ne_eqb, le-leb, lt-ltb, le-ltb, arith}
-use mathlib.Core.Option.{some, some-injective, some-ne-none}
+use Rattle.std.proofs.Common.{◌≡◌, ◌≢◌, ◌⊎◌, ℕ, ◌+◌, ◌-◌, ◌%◌, ◌^◌, ◌≤◌, ◌<◌, List, [], ◌∷◌, ◌++◌, cond, eqb, true, false, sym, refl, ap, ◌∙◌, subst, inl, inr, ⊎_elim, length, eq-eqb, ne_eqb, le-leb, lt-ltb, le-ltb, arith}
+use mathlib.Core.Option.{some-injective, some-ne-none}
 use mathlib.Core.Logic.{dite}
 use native.Mathlib.Decide.{ℕ_discrete}
 use lib.ListN.{get_elem?}
 use Rattle.std.proofs.lemmas.Bool.{cases_lt, cond-true, cond-false}
 use Rattle.ring_layout.specs.declared.message.Message.{Message}
 use Rattle.ring_layout.specs.declared.message.ClaimState.TheVariants.{Committed}
-use Rattle.ring_layout.specs.Headers.{committed_header, header_of}
+use Rattle.ring_layout.specs.Headers.{committed_header}
 use Rattle.ring_layout.specs.History.{IsMessage, span}
 use Rattle.ring_layout.specs.Places.{next_place, room}
 use Rattle.ring_layout.proofs.Laps.{mod_step}
-use Rattle.ring_table.specs.Staged.{Bodies, elsewhere, StagedClaim, PlacedMessage, Stage, Moved, Stored, ArePlaced, LiesAfter, claim_end, staged_end, staged_span, staged_word, staged_word_at}
+use Rattle.ring_table.specs.Staged.{Bodies, elsewhere, StagedClaim, PlacedMessage, Moved, Stored, ArePlaced, claim_end, staged_end, staged_word_at}
 use Rattle.ring_table.specs.Owners.{OwnedHistory, all_of, owned_by}
 use Rattle.ring_table.specs.Passing.{IsSettled, Reaches}
 use Rattle.ring_table.specs.Marks.{bytes_of, kind_of, IsCommitted}

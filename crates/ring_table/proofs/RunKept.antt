@@ -1,16 +1,15 @@
 -- The claims of a run take the place of the one claim that was made for them: the rule with headers.
-use Rattle.std.proofs.Common.{◌≡◌, ◌≢◌, ◌⊎◌, ℕ, ◌+◌, ◌-◌, ◌/◌, ◌%◌, ◌≤◌, ◌<◌, List, [], ◌∷◌, ◌++◌, cond, set, slice_index, sym, refl, ap, ◌∙◌, subst, inl, inr, ⊎_elim, length, append-nil, lt-ltb, le-ltb, arith}
+use Rattle.std.proofs.Common.{◌≡◌, ◌≢◌, ◌⊎◌, ℕ, ◌+◌, ◌-◌, ◌/◌, ◌%◌, ◌≤◌, ◌<◌, List, [], ◌∷◌, ◌++◌, cond, set, slice_index, sym, refl, ap, ◌∙◌, subst, inl, inr, ⊎_elim, length, append-nil, le-ltb, arith}
 use mathlib.Core.Option.{some, some-ne-none}
-use mathlib.Core.Logic.{dite}
 use lib.ListN.{get_elem?}
-use Rattle.std.proofs.lemmas.Bool.{cases_lt, cond-true, cond-false}
-use Rattle.std.proofs.Common.{eq-eqb, ne_eqb}
+use Rattle.std.proofs.lemmas.Bool.{cases_lt, cond-false}
+use Rattle.std.proofs.Common.{ne_eqb}
 use Rattle.atomic_table.proofs.Lists.{at_last}
 use Rattle.ring_layout.specs.declared.message.Message.{Message}
 use Rattle.ring_layout.specs.Places.{index, next_place}
 use Rattle.ring_layout.specs.Layout.{tail_index, head_cache_index, head_index, correlation_index, heartbeat_index}
 use Rattle.ring_layout.proofs.PlaceLemmas.{next_within}
-use Rattle.ring_table.specs.Staged.{elsewhere, StagedClaim, Padded, Moved, ArePlaced, LiesAfter, claim_end, staged_end, staged_span, staged_word, staged_word_at, masked_record, record_word, claim_of}
+use Rattle.ring_table.specs.Staged.{elsewhere, StagedClaim, Padded, ArePlaced, LiesAfter, claim_end, staged_end, staged_span, staged_word, staged_word_at, masked_record, record_word, claim_of}
 use Rattle.ring_table.specs.Owners.{OwnedHistory, all_of, owned_by}
 use Rattle.ring_table.specs.Passing.{IsSettled, Reaches}
 use Rattle.ring_table.specs.Views.{View, with_claims}

@@ -1,18 +1,17 @@
 -- The words that the slots of a run have.
-use Rattle.std.proofs.Common.{◌≡◌, ◌≢◌, ◌⊎◌, ℕ, zero, suc, ◌+◌, ◌-◌, ◌*◌, ◌/◌, ◌%◌, ◌^◌, ◌≤◌, ◌<◌, List, [], ◌∷◌, ◌++◌, All, drop, replicate, get_or, slice_index, sym, refl, ap, ◌∙◌, subst, inl, inr, ⊎_elim, length, length-append, arith}
+use Rattle.std.proofs.Common.{◌≡◌, ℕ, zero, suc, ◌+◌, ◌-◌, ◌%◌, ◌^◌, ◌≤◌, ◌<◌, List, [], ◌∷◌, ◌++◌, All, drop, replicate, get_or, sym, refl, ap, ◌∙◌, subst, ⊎_elim, length, length-append, arith}
 use mathlib.Core.Option.{some, some-injective, some-ne-none}
 use lib.ListN.{get_elem?}
-use Rattle.std.specs.Int.{from_le_bytes, w64}
 use Rattle.std.proofs.lemmas.Bool.{cases_lt}
 use Rattle.std.proofs.lemmas.List.{get_or-append-add, get_or-append_right, get_or-drop, get_or-replicate, get_or_append_left, get_or_past, length-replicate}
 use Rattle.std.proofs.lemmas.List.Elements.{All-append, All-replicate}
 use Rattle.ring_layout.specs.declared.message.Message.{Message}
 use Rattle.ring_layout.specs.Headers.{committed_header}
-use Rattle.ring_layout.specs.History.{IsMessage, span}
+use Rattle.ring_layout.specs.History.{span}
 use Rattle.ring_layout.proofs.WordBytes.{from_le_bytes-same}
 use Rattle.ring_table.specs.Staged.{StagedClaim, body_word, slot_bytes}
-use Rattle.ring_table.specs.Ranges.{numbered, values_of}
-use Rattle.ring_table.specs.SlotSteps.{words_of, HasBody, AreWordsOf}
+use Rattle.ring_table.specs.Ranges.{values_of}
+use Rattle.ring_table.specs.SlotSteps.{HasBody, AreWordsOf}
 use Rattle.ring_table.specs.Runs.{padded_bytes, run_bytes, run_claims, run_slots, AreMessages}
 use Rattle.ring_table.proofs.FillLemmas.{same_body}
 use Rattle.ring_table.proofs.HeaderWords.{one_committed}

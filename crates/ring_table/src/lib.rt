@@ -18,6 +18,7 @@ mod plays;
 mod putting;
 mod rescue;
 mod rule;
+mod runs;
 mod steps;
 mod table;
 mod view;
@@ -38,6 +39,7 @@ pub use picture::{copy_words, show_slots};
 pub use putting::put_slots;
 pub use rescue::{Unsettled, rescue_slots, rescue_words, settle_words};
 pub use rule::RingRule;
+pub use runs::{Outgoing, write_run};
 pub use steps::consumer::{
     clear_word, load_body_word, load_passed_word, store_head, store_head_before,
 };

@@ -1,6 +1,7 @@
 //! Plain rings, whose words have marks and whose slots have headers and bodies.
 use crate::listing::random::Numbers;
 use crate::listing::words::words_of;
+use ring_layout::is_capacity;
 use ring_snapshot::{Record, RecordState, RingFinding, RingSnapshot, header_at, join_bodies};
 use ring_words::{Action, Handler, SoloRing};
 use std::alloc::Global;
@@ -71,7 +72,8 @@ fn padding_has_zeros_after_its_header(rt: HostRuntime) {
 }
 
 /// The header at the position 128 of a plain ring, at which the word and the slot are these.
-fn header_of(word: u64, slot: u64) -> u64 {
+fn header_of(rt: &impl Abort, word: u64, slot: u64) -> u64 {
+    assert!(rt; is_capacity(128));
     let (mut words, mut slots) = ([0u64; 112], [0u64; 16]);
     words[0] = word;
     slots[0] = slot;
@@ -90,7 +92,7 @@ fn headers_of_marks(rt: HostRuntime) {
         (144 + 3, COMMITTED, ABORTED),
     ];
     for (word, slot, header) in wanted {
-        assert_eq!(rt; header_of(word, slot), header);
+        assert_eq!(rt; header_of(&rt, word, slot), header);
     }
 }
 
@@ -110,7 +112,7 @@ fn marks_that_make_no_sense(rt: HostRuntime) {
         ((1 << 40) + 1, COMMITTED),
     ];
     for (word, slot) in wrong {
-        assert_eq!(rt; header_of(word, slot), BAD);
+        assert_eq!(rt; header_of(&rt, word, slot), BAD);
     }
 }
 

@@ -1,4 +1,4 @@
-use Rattle.std.proofs.Common.{◌≡◌, ℕ, ◌≤◌, List, ap, sym, ◌∙◌, subst, refl, arith}
+use Rattle.std.proofs.Common.{List, ap, sym, arith}
 use Rattle.ring_table.specs.declared.claim.PlacedMessage.{PlacedMessage}
 use Rattle.ring_table.specs.declared.view.Run.{Run}
 use Rattle.ring_table.specs.Views.{with_run}
