@@ -30,19 +30,24 @@ class Live(Checks):
                 found[kind, int(capacity)] = (shows.split()[1:], summary.strip())
         return found
 
-    def copy(self, pid, words):
-        """A copy of the region of memory in which a ring is, as a file."""
-        address = int(words[words.index("--at") + 1], 0)
+    def look_at_copy(self, pid, words, stop):
+        """A copy of the region of memory in which a ring is has no addresses, so the places of the ring are given."""
+        at, bodies_at = (int(words[words.index(it) + 1], 0) for it in ("--at", "--bodies-at"))
         with open(f"/proc/{pid}/maps", encoding="utf-8") as maps:
             for line in maps:
                 low, high = (int(end, 16) for end in line.split()[0].split("-"))
-                if low <= address < high:
+                if low <= at < high:
                     break
         path = os.path.join(self.folder, "copy")
         with open(f"/proc/{pid}/mem", "rb") as memory, open(path, "wb") as file:
             memory.seek(low)
             file.write(memory.read(high - low))
-        return path
+        self.check("a plain ring is not found by its words", ("ring", 1024) not in self.found(path))
+        self.check("both parts are in the region", low <= bodies_at < high, words)
+        places = {"--at": at - low, "--bodies-at": bodies_at - low}
+        moved = [str(places.get(before, it)) for before, it in zip(["", *words], words)]
+        status, text = self.show("ring", path, *moved[2:], "--limit", "0")
+        self.check("a copy of its memory has the same", status == 0 and text.strip().endswith(stop), text)
 
     def tail(self, pid, words):
         """The tail of a ring in memory, and the moment at which it was read."""
@@ -143,9 +148,8 @@ class Live(Checks):
         self.look_at_rates(pid, found["ring", 4096][0])
         self.look_at_the_restless(found["ring", 1 << 24][0])
         self.look_at_all(pid, known)
-        copied = self.found(self.copy(pid, words)).get(("ring", 1024), ("", ""))
         stop = "a read stops at 16 (open, type 5, length 28)"
-        self.check("a copy of its memory has the same", copied[1].endswith(stop), copied)
+        self.look_at_copy(pid, words, stop)
         self.look_at_core(pid, found)
 
     def look_at_busy(self, pid):
