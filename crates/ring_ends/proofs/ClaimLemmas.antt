@@ -14,9 +14,11 @@ use Rattle.ring_table.specs.ProducerSteps.{with_changed}
 use Rattle.ring_rings.specs.Bodies.{put_at, PutsBytes}
 use Rattle.ring_rings.specs.Claiming.{claim_behind, Claims}
 use Rattle.ring_rings.specs.Holding.{AreApart, AreOpenAt}
-use Rattle.ring_rings.specs.Seats.{IsOpenAt, KeepsAllBut, KeepsOpen, OpensAt}
+use Rattle.ring_rings.specs.Seats.{IsOpenAt, KeepsAllBut, KeepsBothOpen, KeepsOpen, OpensAt}
+use Rattle.ring_rings.specs.Joining.{Joins}
+use Rattle.ring_table.proofs.LawLemmas.{open_count-interleaved}
 use Rattle.ring_rings.proofs.CountLemmas.{count_kept, open_count-more, settles_one}
-use Rattle.ring_rings.proofs.HoldingLemmas.{all_parts, one_changed_open, one_less_open, one_more_open, one_open}
+use Rattle.ring_rings.proofs.HoldingLemmas.{all_parts, both_open, one_changed_open, one_less_open, one_more_open, one_open}
 use Rattle.ring_rings.proofs.LeavingLemmas.{gains_looked}
 use Rattle.ring_ends.specs.Claiming.{AreAllOpen}
 use Rattle.ring_ends.specs.Claims.{aborted, claim_numbered, without, Takes}
@@ -154,6 +156,20 @@ module _ (C : ℕ) (v w : View) (claims : List ClaimAt) where
         are = subst (AreOpenAt C w) (append-nil claims) (one_less_open C v w claims [] t held.are keeps);
         all = omega (arith, one, fewer, was, long);
       }
+
+-- the open claims of two producers that were joined
+pub all_both : (C : ℕ) (v other w : View) (claims more : List ClaimAt) → KeepsBothOpen C v other w → Joins C v other w
+    → AreAllOpen C v claims → AreAllOpen C other more → AreAllOpen C w (claims ++ more)
+all_both C v other w claims more keeps joins held also =
+    let count = ap (λ (u : View). open_count u.producer.claims) joins.view
+    ∙ open_count-interleaved v.producer.claims other.producer.claims in
+    let mine = held.all in
+    let its = also.all in
+    let long = length-append claims more in
+    record {
+      are = both_open C v other w claims more keeps held.are also.are;
+      all = omega (arith, count, mine, its, long);
+    }
 
 -- bytes that are put into a claim, or refused, open and settle none
 pub put_count : (r : Result (Unit {0}) PutRange) (place offset : ℕ) (bytes : List ℕ) (v w : View)

@@ -11,6 +11,7 @@ use Rattle.ring_table.specs.Views.{with_claims}
 use Rattle.ring_rings.specs.Bodies.{PutsBytes}
 use Rattle.ring_rings.specs.Claiming.{Claims, RefusesTry}
 use Rattle.ring_rings.specs.Holding.{AreOpenAt}
+use Rattle.ring_rings.specs.Joining.{Joins}
 use Rattle.ring_ends.specs.Claims.{aborted, claim_numbered, without}
 use Rattle.ring_ends.specs.End.{Does, End}
 use Rattle.ring_ends.specs.declared.claiming.Claimed.{Claimed}
@@ -71,3 +72,8 @@ Settles state number p r q = WithClaim number (λ t. (r ≡ Ok tt) × (q.claims 
 -- the view of a producer after these claims were aborted
 abbrev pub aborted_view : List ClaimAt → View → View
 aborted_view claims v = with_claims (aborted claims v.producer.claims) v
+
+-- another producer was joined, with its shares and its open claims
+abbrev pub TakesIn : NumberedClaims → NumberedClaims → NumberedClaims → Type 0
+TakesIn p other q = (q.claims ≡ p.claims ++ other.claims)
+    × Does (λ v (r : Unit {0}) w. Joins p.end.capacity v other.end.view w) p.end tt q.end

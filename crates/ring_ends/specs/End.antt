@@ -41,6 +41,10 @@ shares p = p.view.producer.shares
 abbrev pub AreOfOneRing : End → End → Type 0
 AreOfOneRing p q = q ≡ record p { view = q.view }
 
+-- both are ends of rings of one table and one capacity
+abbrev pub AreOfOneTable : End → End → Type 0
+AreOfOneTable p q = (q.table ≡ p.table) × (q.capacity ≡ p.capacity)
+
 -- the claim in the producer's hands is one of its own, and open
 abbrev pub IsOpenIn : End → ClaimAt → Type 0
 IsOpenIn p t = IsOpenAt p.capacity p.view t

@@ -7,9 +7,9 @@ ghost use Rattle.ring_table.specs.ServiceSteps.{DrawsId, LoadsHeartbeat};
 ghost use Rattle.ring_table.specs.Views.{producer_alone, without_share};
 ghost use Rattle.ring_ends.specs.declared.many_to_one.SplitFault.TheVariants.{OneShare};
 ghost use Rattle.ring_ends.specs.Claims.{claims_in};
-ghost use Rattle.ring_ends.specs.Claiming.{aborted_view, AreAllOpen, OfEnd, Puts, Settles, TriesToKeep};
-ghost use Rattle.ring_ends.specs.End.{shares, AreOfOneRing, Does, LoadsThem, Sends, TriesWrite, WritesAlone};
-ghost use Rattle.ring_rings.specs.Joining.{Joins};
+ghost use Rattle.ring_ends.specs.Claiming.{aborted_view, AreAllOpen, OfEnd, Puts, Settles, TakesIn};
+ghost use Rattle.ring_ends.specs.Claiming.{TriesToKeep};
+ghost use Rattle.ring_ends.specs.End.{shares, AreOfOneTable, Does, LoadsThem, Sends, TriesWrite, WritesAlone};
 
 use crate::many_to_one::SplitFault;
 use crate::open_claims::OpenClaims;
@@ -211,5 +211,20 @@ impl<B: Bodies> NumberedEnd<ManyToOne, B> {
     {
         let end = self.end.split()?;
         Ok(NumberedEnd::of(alloc, end))
+    }
+
+    /// Joins another producer of the same ring to this one, with its shares and its open claims. If memory runs out, the
+    /// other producer comes back, and both are unchanged.
+    pub fn join(&mut self, other: Self) -> Result<(), Self>
+        requires { AreOfOneTable self.old.end other.end }
+        ensures joined { OnOk result (TakesIn self.old other self.new) }
+        ensures refused { IfErr result (λ r. (self.new ≡ self.old) × (r ≡ other)) }
+    {
+        let NumberedEnd { end, mut claims } = other;
+        let Ok(()) = self.claims.append(&mut claims) else {
+            return Err(NumberedEnd { end, claims });
+        };
+        self.end.join(end);
+        Ok(())
     }
 }

@@ -5,7 +5,7 @@ ghost use Rattle.ring_table.specs.Views.{producer_alone, without_share};
 ghost use Rattle.ring_rings.specs.Joining.{Joins};
 ghost use Rattle.ring_rings.specs.Ring.{message, AreMerged};
 ghost use Rattle.ring_rings.specs.Seats.{KeepsBothOpen, OpensAt};
-ghost use Rattle.ring_ends.specs.End.{sent, shares, AreOfOneRing, Does, HasMessage, KeepsClaims, Sends, WaitsToClaim, WaitsToWrite};
+ghost use Rattle.ring_ends.specs.End.{sent, shares, AreOfOneTable, Does, HasMessage, KeepsClaims, Sends, WaitsToClaim, WaitsToWrite};
 
 use crate::producer::ProducerEnd;
 use ring_rings::{Bodies, Claim, ClaimFault, ManyToOne, NoShares};
@@ -60,7 +60,7 @@ impl<B: Bodies> ProducerEnd<ManyToOne, B> {
 
     /// Takes another end of the same ring in, with its shares and its claims, which this one settles from then on.
     pub fn join(&mut self, other: Self)
-        requires { AreOfOneRing self.old other }
+        requires { AreOfOneTable self.old other }
         ensures sent { AreMerged (sent self.old) (sent other) (sent self.new) }
         ensures does { Does (λ v r w. Joins self.old.capacity v other.view w) self.old result self.new }
         ensures keeps { KeepsBothOpen self.old.capacity self.old.view other.view self.new.view }

@@ -11,7 +11,7 @@ pub struct Numbered<T> {
 }
 
 impl<T> Numbered<T> {
-    ghost use Rattle.ring_ends.specs.Held.{Comes, Goes, HasRoomToHold, IsFree, held_in};
+    ghost use Rattle.ring_ends.specs.Held.{Comes, Goes, HasRoomToHold, IsFree, IsHeld, held_in};
 
     /// Makes an empty collection, of which no number was drawn.
     pub fn new(alloc: Global) -> Self
@@ -46,6 +46,15 @@ impl<T> Numbered<T> {
         self.drawn()
     }
 
+    /// Returns the thing that is kept under this number. Returns `None` if there is no such thing.
+    pub fn get(&self, number: usize) -> Option<&T>
+        ensures held { IfSome result (λ x. IsHeld (held_in self.now) number x.now) }
+        ensures free { IfNone result (IsFree (held_in self.now) number) }
+    {
+        let index = number.checked_sub(1)?;
+        self.held.get(index)?.as_ref()
+    }
+
     /// Takes the thing that is kept under this number. Returns `None` if there is no such thing. Nothing has then
     /// changed.
     pub fn take(&mut self, number: usize) -> Option<T>
@@ -59,7 +68,7 @@ impl<T> Numbered<T> {
 }
 
 impl<T> Numbered<T> {
-    ghost use Rattle.ring_ends.specs.Held.{IsVacant, held_count, held_in};
+    ghost use Rattle.ring_ends.specs.Held.{IsVacant, held_in};
 
     /// Keeps a thing again, under the number from which it was taken.
     pub fn put_back(&mut self, number: usize, x: T)
@@ -68,16 +77,5 @@ impl<T> Numbered<T> {
     {
         let old = self.held[number - 1].replace(x);
         let None = old else { unreachable!() };
-    }
-
-    /// Drops the collection, in which no thing is kept.
-    pub fn discard(self)
-        requires { held_count (held_in self) ≡ 0 }
-    {
-        let Numbered { mut held } = self;
-        while let Some(slot) = held.pop() {
-            let None = slot else { unreachable!() };
-        }
-        held.destroy_empty();
     }
 }

@@ -4,14 +4,14 @@ ghost use Rattle.ring_layout.specs.Refusals.{all_shares};
 ghost use Rattle.ring_board.specs.Refusals.{subscribe_refusal_of, IsSubscribedUnless};
 ghost use Rattle.ring_board.specs.Seats.{shares_of};
 ghost use Rattle.ring_service.specs.Conducting.{KeepsTheRest, transmitter_of};
-ghost use Rattle.ring_standalone.specs.Held.{IsFree, held_in};
-ghost use Rattle.ring_standalone.specs.Receivers.{LeavesAt, ReceivesAt, Subscribes, by_number, shares_in, AreReceiversOf};
+ghost use Rattle.ring_ends.specs.Held.{IsFree, held_in};
+ghost use Rattle.ring_ends.specs.Receivers.{LeavesAt, ReceivesAt, Subscribes, by_number, shares_in, AreReceiversOf};
 ghost use Rattle.ring_scenario.specs.Keeping.{KeepsButListeners, KeepsRing};
 
 use super::CommandService;
 use ring_board::{Board, CopyReceiver, SubscribeFault};
 use ring_service::Conductor;
-use ring_standalone::{Numbered, Received, receive_at};
+use ring_ends::{Numbered, Received, receive_at};
 use std::alloc::{AllocError, Global};
 
 /// Makes a listener, keeps it under the next number, and returns the number. The room for the listener is made first.

@@ -5,14 +5,14 @@ ghost use Rattle.ring_counters.specs.Manager.{writes_of};
 ghost use Rattle.ring_counters.specs.Seats.{values_count};
 ghost use Rattle.ring_service.specs.Conducting.{manager_in, value_shares_of, KeepsAllCounters};
 ghost use Rattle.ring_counters.specs.declared.values.seats.ValueReader.{ValueReader};
-ghost use Rattle.ring_standalone.specs.Held.{IsFree, IsHeld, held_count, held_in};
+ghost use Rattle.ring_ends.specs.Held.{IsFree, IsHeld, held_count, held_in};
 ghost use Rattle.ring_scenario.specs.Keeping.{KeepsButWatchers, KeepsRing};
 ghost use Rattle.ring_scenario.specs.Watchers.{AreWatchedBy, AreWatchers, Peeks, Unwatches, Watches};
 
 use super::CommandService;
 use ring_counters::{BadId, CounterValues, NoShares, ValueReader};
 use ring_service::Conductor;
-use ring_standalone::Numbered;
+use ring_ends::Numbered;
 use std::alloc::AllocError;
 
 /// Makes a watcher, keeps it under the next number, and returns the number. The room for the watcher is made first.

@@ -10,8 +10,7 @@ returns-clause-line g c =
     IfOk-weaker c.done.result _ _
     (λ text shown. record {
       sent = call.result;
-      written = rw same at call.ensures.written;
-      refused = rw same at call.ensures.refused;
+      wrote = rw same at call.ensures.wrote;
       rest = call.ensures.rest;
       prints = shown;
     }) c.done.ensures

@@ -1,6 +1,6 @@
 use Rattle.std.proofs.Common.{◌-◌}
 use Rattle.ring_board.specs.Seats.{IsReceiverOf}
-use Rattle.ring_standalone.proofs.HeldLemmas.{of_goes}
+use Rattle.ring_ends.proofs.HeldLemmas.{of_goes}
 use Rattle.ring_scenario.proofs.service.listening.join_listener.Goals as goal
 
 pub join_receiver-requires-clause-receiver : goal.join_receiver-requires-clause-receiver

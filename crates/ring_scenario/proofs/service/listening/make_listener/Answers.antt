@@ -1,7 +1,7 @@
 use Rattle.std.proofs.Common.{subst}
 use Rattle.ring_board.specs.Seats.{IsReceiverOf}
-use Rattle.ring_standalone.specs.Held.{Comes, held_in}
-use Rattle.ring_standalone.proofs.HeldLemmas.{of_comes}
+use Rattle.ring_ends.specs.Held.{Comes, held_in}
+use Rattle.ring_ends.proofs.HeldLemmas.{of_comes}
 use Rattle.ring_scenario.proofs.service.listening.make_listener.Goals as goal
 
 pub returns-clause-numbered : goal.returns-clause-numbered

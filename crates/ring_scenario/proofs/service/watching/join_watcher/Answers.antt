@@ -1,6 +1,6 @@
 use Rattle.std.proofs.Common.{◌-◌}
 use Rattle.ring_counters.specs.Seats.{IsReaderOf}
-use Rattle.ring_standalone.proofs.HeldLemmas.{of_goes}
+use Rattle.ring_ends.proofs.HeldLemmas.{of_goes}
 use Rattle.ring_scenario.proofs.service.watching.join_watcher.Goals as goal
 
 pub join_value_reader-requires-clause-reader : goal.join_value_reader-requires-clause-reader

@@ -1,7 +1,7 @@
 use Rattle.std.proofs.Common.{◌-◌}
 use Rattle.std.proofs.lemmas.Result.{IfOk-weaker}
 use Rattle.ring_counters.specs.Seats.{IsReaderOf}
-use Rattle.ring_standalone.proofs.HeldLemmas.{count_stays, of_stays, stays, stays_same, vacated}
+use Rattle.ring_ends.proofs.HeldLemmas.{count_stays, of_stays, stays, stays_same, vacated}
 use Rattle.ring_scenario.proofs.ServiceLemmas.{OnErr-from}
 use Rattle.ring_scenario.proofs.service.watching.load_at.Goals as goal
 

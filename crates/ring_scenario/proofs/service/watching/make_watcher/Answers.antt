@@ -1,7 +1,7 @@
 use Rattle.std.proofs.Common.{subst}
 use Rattle.ring_counters.specs.Seats.{IsReaderOf}
-use Rattle.ring_standalone.specs.Held.{Comes, held_in}
-use Rattle.ring_standalone.proofs.HeldLemmas.{of_comes}
+use Rattle.ring_ends.specs.Held.{Comes, held_in}
+use Rattle.ring_ends.proofs.HeldLemmas.{of_comes}
 use Rattle.ring_scenario.proofs.service.watching.make_watcher.Goals as goal
 
 pub returns-clause-watched : goal.returns-clause-watched
