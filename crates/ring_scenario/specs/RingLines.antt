@@ -51,45 +51,52 @@ pub record WritesLine (type_id : ℤ) (body : List ℕ) (old new : RunRing) (tex
   pub prints : text ≡ done_text claim_refused written
 
 -- a claim was made, which has the next number
-pub record ClaimsNumber (type_id : ℤ) (len : ℕ) (old : RunRing) (claimed : Claimed) (new : RunRing) : Type 0 where
+pub record MakesNumber (type_id : ℤ) (len : ℕ) (old : RunRing) (claimed : Claimed) (new : RunRing) : Type 0 where
   pub place : ℕ
   pub keeps : Keeps type_id len old.producer (record { number = place; index = claimed.index }) new.producer
   pub comes : Comes place (held_in old.places) claimed.number (held_in new.places)
 
--- a claim was refused
-pub record ClaimsNone (type_id : ℤ) (len : ℕ) (old : RunRing) (fault : ClaimFault) (new : RunRing) : Type 0 where
-  pub refused : KeepsNone type_id len old.producer (Refused (try.Refused fault)) new.producer
-  pub same : held_in new.places ≡ held_in old.places
+-- the result of a try to claim
+abbrev pub ClaimsNumber : ℤ → ℕ → RunRing → Result Claimed ClaimFault → RunRing → Type 0
+ClaimsNumber type_id len old tried new = MatchResult tried (λ claimed. MakesNumber type_id len old claimed new)
+    (λ fault. KeepsNone type_id len old.producer (Refused (try.Refused fault)) new.producer
+    × (held_in new.places ≡ held_in old.places))
 
 -- room was claimed, or refused
 pub record ClaimsLine (type_id : ℤ) (len : ℕ) (old new : RunRing) (text : List ℕ) : Type 0 where
   pub tried : Result Claimed ClaimFault
-  pub claimed : MatchResult tried (λ claimed. ClaimsNumber type_id len old claimed new)
-      (λ fault. ClaimsNone type_id len old fault new)
+  pub claimed : ClaimsNumber type_id len old tried new
   pub consumer : new.consumer ≡ old.consumer
   pub prints : text ≡ answer_text claimed_text claim_refused tried
 
--- what the producer returned, if the claim was open
+-- the result of the producer's call, if the claim was open
 abbrev pub of_open : Result (Unit {0}) PutRange → Result (Unit {0}) NumberFault
 of_open (Ok x) = Ok tt
 of_open (Err fault) = Err number.PutRange
 
--- bytes were put into the claim of this number, or refused
-pub record PutsLine (number offset : ℕ) (bytes : List ℕ) (old new : RunRing) (text : List ℕ) : Type 0 where
+-- the result of a try to put bytes into the claim of this number, which was open
+pub record PutsNumber (number offset : ℕ) (bytes : List ℕ) (old : RunRing) (tried : Result (Unit {0}) PutRange)
+    (new : RunRing) : Type 0 where
   pub place : ℕ
   pub numbered : IsHeld (held_in old.places) number place
-  pub tried : Result (Unit {0}) PutRange
   pub put : Puts place offset bytes old.producer (of_open tried) new.producer
+
+-- bytes were put into the claim of this number, or refused
+pub record PutsLine (number offset : ℕ) (bytes : List ℕ) (old new : RunRing) (text : List ℕ) : Type 0 where
+  pub tried : Result (Unit {0}) PutRange
+  pub put : PutsNumber number offset bytes old tried new
   pub rest : KeepsButProducing old new
   pub prints : text ≡ done_text put_refused tried
 
--- the claim of this number was settled
-pub record SettlesLine (state : ClaimState) (number : ℕ) (old new : RunRing) (text : List ℕ) : Type 0 where
+-- the claim of this number, which was open, was settled
+pub record SettlesNumber (state : ClaimState) (number : ℕ) (old new : RunRing) : Type 0 where
   pub place : ℕ
   pub numbered : IsHeld (held_in old.places) number place
   pub settled : Settles state place old.producer (Ok tt) new.producer
-  pub rest : KeepsButProducing old new
-  pub prints : text ≡ ok_text
+
+abbrev pub SettlesLine : ClaimState → ℕ → RunRing → RunRing → List ℕ → Type 0
+SettlesLine state number old new text =
+    SettlesNumber state number old new × KeepsButProducing old new × (text ≡ ok_text)
 
 -- at most `limit` messages were read, and each was printed
 pub record ReadsLine (limit : ℕ) (old new : RunRing) (text : List ℕ) : Type 0 where

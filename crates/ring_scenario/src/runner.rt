@@ -1,7 +1,7 @@
 //! The parts of a run, and the text that its calls print.
 ghost use Rattle.std.specs.Prelude.{◌≡◌, ◌≢◌, ◌↔◌, ℕ, None, IfErr, IfOk, IfSome, IsOkUnless, IsSome, IsTrue, OnOk, codes, string_bytes};
 ghost use Rattle.ring_ends.specs.End.{Does, LoadsThem};
-ghost use Rattle.ring_ends.specs.Held.{IsFree, IsHeld, held_in};
+ghost use Rattle.ring_ends.specs.Held.{IsFree, held_in};
 ghost use Rattle.ring_scenario.specs.Closing.{read_count};
 ghost use Rattle.ring_scenario.specs.Sizes.{size_fault_of};
 ghost use Rattle.ring_scenario.specs.Texts.{number_text, positions_text};
@@ -13,12 +13,11 @@ mod texts;
 use crate::fault::RunFault;
 use crate::options::Options;
 use crate::printer::Printer;
-use crate::ring::{Claimed, RunRing};
+use crate::ring::RunRing;
 use crate::service::{CommandService, Served};
 use ring_lines::{Call, LineError, LineFault};
-use ring_ends::{ClaimRefused, Claimed as Kept, NumberFault, StandaloneBoard};
-use ring_rings::TryFault;
-use ring_words::{Action, MakeFault, Positions, PutRange};
+use ring_ends::StandaloneBoard;
+use ring_words::{Action, Positions};
 use std::alloc::{AllocError, Global};
 use std::sync::Wait;
 use std::thread::Threads;
@@ -65,8 +64,13 @@ impl Runner {
         ensures made { IsOkUnless result RunFault.OutOfMemory }
         ensures options { IfOk result (RunsBy options.now) }
     {
-        let ring = RunRing::new(alloc, options.ring).map_err(from_make)?;
-        let board = StandaloneBoard::new(alloc, options.board).map_err(from_make)?;
+        // The sizes were tested, so the only possible error is out of memory.
+        let Ok(ring) = RunRing::new(alloc, options.ring) else {
+            return Err(RunFault::OutOfMemory);
+        };
+        let Ok(board) = StandaloneBoard::new(alloc, options.board) else {
+            return Err(RunFault::OutOfMemory);
+        };
         let service = CommandService::new(alloc, options)?;
         Ok(Runner {
             alloc,
@@ -94,13 +98,15 @@ impl Runner {
                 bytes,
             } => self.put(number, offset, bytes.as_slice())?,
             Call::Commit { number } => {
-                let place = self.place_of(number)?;
-                self.ring.producer.commit(place).map_err(not_held)?;
+                self.ring
+                    .commit(number)
+                    .ok_or(LineFault::Bad(LineError::NotHeld))?;
                 self.ok()?
             }
             Call::Abort { number } => {
-                let place = self.place_of(number)?;
-                self.ring.producer.abort(place).map_err(not_held)?;
+                self.ring
+                    .abort(number)
+                    .ok_or(LineFault::Bad(LineError::NotHeld))?;
                 self.ok()?
             }
             Call::Read { limit } => self.read(limit)?,
@@ -141,31 +147,8 @@ impl Runner {
             ClaimsLine type_id len self.old.ring self.new.ring (string_bytes text)) }
         ensures rest { KeepsButRing self.old self.new }
     {
-        self.ring.places.reserve()?;
-        let tried = match self.ring.producer.claim(type_id, len) {
-            Ok(Kept {
-                number: place,
-                index,
-            }) => Ok(Claimed {
-                number: self.ring.places.hold(place),
-                index,
-            }),
-            Err(ClaimRefused::Refused(TryFault::Refused(fault))) => Err(fault),
-            Err(ClaimRefused::Refused(TryFault::Contended { .. })) => unreachable!(),
-            Err(ClaimRefused::NoMemory) => return Err(AllocError),
-        };
+        let tried = self.ring.claim(type_id, len)?;
         self.claimed(tried)
-    }
-
-    /// Returns the place of the claim of this number.
-    fn place_of(&self, number: usize) -> Result<u64, LineFault>
-        ensures numbered { IfOk result (IsHeld (held_in self.now.ring.places) number) }
-        ensures bad { IfErr result (λ _. HasNoClaim self.now.ring number) }
-    {
-        match self.ring.places.get(number) {
-            Some(&place) => Ok(place),
-            None => Err(LineFault::Bad(LineError::NotHeld)),
-        }
     }
 
     fn put(&mut self, number: usize, offset: usize, bytes: &[u8]) -> Result<String, LineFault>
@@ -174,11 +157,8 @@ impl Runner {
         ensures rest { KeepsButRing self.old self.new }
         ensures bad { IfErr result (λ fault. fault ≢ LineFault.OutOfMemory → HasNoClaim self.old.ring number) }
     {
-        let place = self.place_of(number)?;
-        let put = match self.ring.producer.put(place, offset, bytes) {
-            Ok(()) => Ok(()),
-            Err(NumberFault::PutRange) => Err(PutRange),
-            Err(NumberFault::NoClaim) => return Err(LineFault::Bad(LineError::NotHeld)),
+        let Some(put) = self.ring.put(number, offset, bytes) else {
+            return Err(LineFault::Bad(LineError::NotHeld));
         };
         Ok(self.done(put)?)
     }
@@ -285,21 +265,5 @@ impl Runner {
             left: u64::from(left),
             served: serves.then_some(served),
         })
-    }
-}
-
-/// The fault of a line that names a claim that is not open.
-fn not_held(_fault: NumberFault) -> LineFault
-    ensures { result ≡ LineFault.Bad LineError.NotHeld }
-{
-    LineFault::Bad(LineError::NotHeld)
-}
-
-fn from_make(fault: MakeFault) -> RunFault
-    ensures { fault ≡ MakeFault.OutOfMemory → result ≡ RunFault.OutOfMemory }
-{
-    match fault {
-        MakeFault::OutOfMemory => RunFault::OutOfMemory,
-        MakeFault::BadCapacity | MakeFault::BadStart => RunFault::BadCapacity,
     }
 }
