@@ -631,8 +631,8 @@ int32_t felter_poll(felter_client *client, uint64_t correlation, int32_t *kind, 
 /* What a ring left ----------------------------------------------------------------------------------------------- */
 
 /* Recovers the messages of a ring whose process died, and lays them into a buffer as felter_read_batch does. `words`
- * are the `word_count` words of the ring, and `slots` are the `slot_count` words of its bodies. If the ring was in
- * memory of the caller, felter_recover below finds both by itself.
+ * are the `word_count` words of the ring, and `slots` are its `slot_count` slots, which have headers and bodies. If the
+ * ring was in memory of the caller, felter_recover below finds both by itself.
  *
  * The messages are those that were committed, from the head on. Each message comes whole, once, and in the order of
  * the claims. What the consumer was shown, and after which it had not moved the head, comes again, before the other
@@ -660,10 +660,10 @@ int32_t felter_recover_words(const uint64_t *words, size_t word_count, const uin
 /* Memory of the caller ------------------------------------------------------------------------------------------- */
 
 /* The calls of this part make a ring, a board or counters in memory that the caller passes, for example in a file that
- * the caller has mapped. Then the words and the bodies of a ring, the words of a board, or the value records and the
- * metadata of counters are in this memory. Everything else is requested from malloc. After a process has died, the file
- * has what the process had stored. Another process can map the file and look at it, but must not write to it. No second
- * process can make handles of the structure.
+ * the caller has mapped. Then the words of a ring and its slots, which have the headers and the bodies of messages, the
+ * words of a board, or the value records and the metadata of counters are in this memory. Everything else is requested
+ * from malloc. After a process has died, the file has what the process had stored. Another process can map the file and
+ * look at it, but must not write to it. No second process can make handles of the structure.
  *
  * The functions of this part are not proved. docs/FORMATS.md describes the memory. It begins with a header of 128
  * bytes, whose first 8 bytes are "FELTERIM" as soon as the structure was made.
@@ -734,8 +734,8 @@ int32_t felter_unmap_at_end(void *memory, size_t length);
  * this order:
  *   - FELTER_NULL_POINTER;
  *   - FELTER_BAD_MEMORY if `image` does not begin at a multiple of 8 bytes;
- *   - FELTER_NO_IMAGE if the header is not that of a ring, for example since the ring was not completely made, or if
- *     the memory is shorter than the ring;
+ *   - FELTER_NO_IMAGE if the header is not that of a ring, for example since the ring was not completely made or the
+ *     image has another version, or if the memory is shorter than the ring;
  *   - FELTER_UNALIGNED_POSITION, FELTER_TAIL_BEFORE_HEAD, FELTER_TAIL_TOO_FAR, FELTER_BAD_HEADER_LENGTH or
  *     FELTER_BAD_HEADER_TYPE if the ring is damaged. felter_finding then says what was found, and at which place;
  *   - FELTER_SHORT_BUFFER if the buffer is too short for all messages. The three numbers are then written as above,

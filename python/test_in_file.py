@@ -130,9 +130,12 @@ class InFile(unittest.TestCase):
             image = file.read()
         cases = [
             (0, 0, felter.Number.NO_IMAGE, "the memory is not the image of a ring"),
-            (128, header(7, 7), felter.Number.BAD_HEADER_LENGTH,
-             "a header has a length that no record has there: byte 0 of the buffer, length 7"),
-            (128, header(13, -5), felter.Number.BAD_HEADER_TYPE,
+            # (the kind of the mark, and the length and the type id in the slot)
+            (128, 16 + 4, felter.Number.BAD_HEADER_LENGTH,
+             "a header has a length that no record has there: byte 0 of the buffer, length 1"),
+            (896 + 256, header(17, 7), felter.Number.BAD_HEADER_LENGTH,
+             "a header has a length that no record has there: byte 0 of the buffer, length 1"),
+            (896 + 256, header(13, -5), felter.Number.BAD_HEADER_TYPE,
              "a header has a type id that no record has: byte 0 of the buffer, type id -5"),
             (128 + 256 + 384, 24, felter.Number.TAIL_BEFORE_HEAD, "the tail is before the head: head 24, tail 16"),
             (128 + 256 + 128, 264, felter.Number.TAIL_TOO_FAR,

@@ -134,14 +134,30 @@ def expected(data):
     return recovered(*parts)
 
 
+def place_in(data, capacity, rng):
+    """A byte of an image. Half of them are in a mark or in its slot, and some are in the head or the tail."""
+    positions = [HEADER + capacity + at for at in (384, 128)]
+    head, tail = (struct.unpack_from("<Q", data, at)[0] for at in positions)
+    marks = [at % capacity for at in range(head, min(tail, head + capacity), 8)
+             if struct.unpack_from("<Q", data, HEADER + at % capacity // 8 * 8)[0] > at]
+    part = rng.random()
+    if part < 0.05:
+        return rng.choice(positions) + rng.randrange(8)
+    if part < 0.55 and marks:
+        return rng.choice((HEADER, len(data) - capacity)) + rng.choice(marks) // 8 * 8 + rng.randrange(8)
+    return rng.randrange(rng.choice((0, HEADER)), len(data))
+
+
 def changed(data, rng):
-    """The image with some of its bytes and words changed, and sometimes cut off."""
-    data, places = bytearray(data), (0, HEADER, HEADER, len(data))
+    """The image with some of its bytes, lengths, type ids and words changed, and sometimes cut off."""
+    data, capacity = bytearray(data), int.from_bytes(data[24:32], "little")
     for _ in range(rng.choice((0, 1, 1, 2, 6))):
-        low = rng.choice(places[:3])
-        at = rng.randrange(low, len(data))
-        if rng.random() < 0.4:
+        at, kind = place_in(data, capacity, rng), rng.random()
+        if kind < 0.3:
             data[at] = rng.randrange(256)
+        elif kind < 0.6:
+            at += rng.choice((0, 4, 4)) - at % 8
+            data[at:at + 4] = struct.pack("<i", rng.choice((0, -1, -2, -3, 1, 8, -8, 2**31 - 1, -2**31)))
         else:
             at -= at % 8
             lengths = header_of(rng.choice((8, 9, 16, -8, -16, 7, 0)), rng.choice((1, -1, -2, -3, 0)))

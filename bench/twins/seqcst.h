@@ -1,4 +1,4 @@
-/* Steps that are sequentially consistent, each on one word: what `sc` consists of, and what `pb` has but for bodies. */
+/* Steps that are sequentially consistent, each on one word: all steps of `sc`, and those of `pb` on words. */
 #ifndef TWINS_SEQCST_H
 #define TWINS_SEQCST_H
 

@@ -1,16 +1,21 @@
 /* The steps on shared memory, of which each twin has its own:
  *
  *   load, store                    a control word
- *   load_header                    the header of a record in a ring
- *   open_header, settle_header     the header of a claim, and of a record that is committed, aborted or padding
+ *   load_record                    the header of the record at a place of a ring. Its length is not positive if the
+ *                                  record is not settled
+ *   store_padding                  what shows padding
+ *   open_record                    what shows a claim
+ *   commit_record, abort_record    what shows that a claim is settled
+ *   write_record                   a whole record
  *   put_body, show_body            the bytes of a message in a ring: in, and out (in place, or a copy)
- *   pass_record, clear_block       what a reader has passed: record by record, and then the whole block
+ *   clear_block                    what a reader has passed
  *   put_copy, get_copy             the bytes of a message in a broadcast buffer
  *   load_copied, store_copied      the header of a record there
  *   before_bodies, before_check    fences of a broadcast buffer
  *
- * and HAS_BODIES_APART: whether the bodies of a ring are in a block of their own. HAS_CLAIMS says whether a ring has
- * claims and takes many producers; that of `ta` has batches instead. */
+ * A record of a ring has a word and a slot, which is the memory of its header and body. HAS_MARKS says whether the word
+ * is a mark, and the slots are a block of their own. Otherwise the word is the header, and the slot is at the same
+ * address. HAS_CLAIMS says whether a ring has claims and takes many producers; that of `ta` has batches instead. */
 #ifndef TWINS_STEPS_H
 #define TWINS_STEPS_H
 

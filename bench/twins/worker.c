@@ -63,7 +63,7 @@ static const struct entry {
     {"batches", "o2o-" TWIN "-batch", true, true, BATCHES, BATCHES},
     {"pair", "o2o-" TWIN "-batch", true, true, FLOW, FLOW},
 #endif
-#if !HAS_BODIES_APART && HAS_CLAIMS /* (those of `pb` would be those of `sc`, and those of `ta` those of `ar`) */
+#if !HAS_MARKS && HAS_CLAIMS /* (those of `pb` would be those of `sc`, and those of `ta` those of `ar`) */
     {"broadcast", "board-" TWIN, false, false, BROADCAST, BROADCAST},
     {"counters", "counters-" TWIN, false, false, SETS, WATCHED_SETS},
 #endif

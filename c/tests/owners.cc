@@ -359,10 +359,10 @@ void recovering() {
     CHECK(felter::recover({memory.data(), memory.size() - 1}, room).code() == FELTER_NO_IMAGE);
     CHECK(felter::recover({nullptr, 1}, room).code() == FELTER_NULL_POINTER);
     CHECK(felter::finding({nullptr, 1}) == "a pointer is NULL");
-    memory[128 + 16] = 5;
+    memory[128 + 16] = 32 + 4; // (no mark has the kind 4)
     CHECK(felter::recover(memory, room).code() == FELTER_BAD_HEADER_LENGTH);
     CHECK(felter::finding(memory) ==
-          "a header has a length that no record has there: byte 16 of the buffer, length 5");
+          "a header has a length that no record has there: byte 16 of the buffer, length 1");
 }
 
 } // namespace

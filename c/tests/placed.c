@@ -110,7 +110,7 @@ static void ring(int is_one, uint32_t capacity) {
     EXPECT(FELTER_OK, felter_claim(&producer, 9, 4, &claim));
     EXPECT(FELTER_OK, felter_put(&producer, claim, 0, "half", 4));
     EXPECT(FELTER_OK, felter_set_heartbeat(&consumer, 1234));
-    /* (a mark is the end of a record and its kind, which is 0 for a committed one, 2 for an open and 3 for an aborted) */
+    /* (a mark is the end of a record and its kind: 0 if it is committed, 2 if it is open, and 3 if it is aborted) */
     CHECK(word(128) == 16 && word(128 + 16) == 32 + 2);
     CHECK(word(bodies) == header_word(8 + 5, 7) && memcmp(memory + bodies + 8, "first\0\0", 8) == 0);
     CHECK(word(bodies + 16) == header_word(8 + 4, 9) && memcmp(memory + bodies + 24, "half\0\0\0", 8) == 0);
@@ -349,11 +349,13 @@ static void *make_many_in(void *of_thread) {
     felter_producer producer = FELTER_EMPTY;
     felter_consumer consumer = FELTER_EMPTY;
     for (int k = 0; k < ROUNDS; k++) {
-        uint64_t header = 0;
+        const unsigned char *slots = its + 128 + 1024 + 768;
+        uint64_t mark = 0, header = 0;
         EXPECT(FELTER_OK, felter_many_to_one_new_in(its, 4096, 1024, &producer, &consumer));
         EXPECT(FELTER_OK, felter_write(&producer, 7, &k, sizeof k));
-        memcpy(&header, its + 128, 8);
-        CHECK(header == header_word(8 + 4, 7) && memcmp(its + 128 + 1024 + 768 + 8, &k, sizeof k) == 0);
+        memcpy(&mark, its + 128, 8);
+        memcpy(&header, slots, 8);
+        CHECK(mark == 16 && header == header_word(8 + 4, 7) && memcmp(slots + 8, &k, sizeof k) == 0);
         felter_free(&consumer.handle);
         felter_free(&producer.handle);
     }

@@ -6,6 +6,9 @@
 #define MOST 4096
 #define FILLED 0xa7
 
+/* The kinds of marks, after that of a committed record, which is 0. */
+enum kind { PADDING = 1, OPEN, ABORTED };
+
 /* A ring in memory, and the messages that are expected to be recovered. */
 #define ALIGNED __attribute__((aligned(64)))
 
@@ -241,7 +244,7 @@ static uint64_t header(int32_t len, int32_t type_id) {
 #define TYPE_TEXT "a header has a type id that no record has: byte "
 
 static void damage(void) {
-    const size_t words = 128, tail = 128 + 256 + 128, head = 128 + 256 + 384;
+    const size_t words = 128, tail = 128 + 256 + 128, head = 128 + 256 + 384, slots = 128 + 256 + 768;
     begin(0, 256);
     /* Records at 0, 16 and 40. The tail is 56. The first one is read, so the head is 16. */
     write_one(7, "first", 5);
@@ -256,18 +259,29 @@ static void damage(void) {
             "the tail is more than the capacity after the head: head 16, tail 280");
     damaged(tail, (uint64_t)-8, FELTER_TAIL_TOO_FAR,
             "the tail is more than the capacity after the head: head 16, tail 18446744073709551608");
-    /* (shorter than a header, longer than a message, across the tail, inside another record) */
-    damaged(words + 16, header(7, 8), FELTER_BAD_HEADER_LENGTH, LENGTH_TEXT "16 of the buffer, length 7");
-    damaged(words + 16, header(-7, 8), FELTER_BAD_HEADER_LENGTH, LENGTH_TEXT "16 of the buffer, length -7");
-    damaged(words + 16, header(41, 8), FELTER_BAD_HEADER_LENGTH, LENGTH_TEXT "16 of the buffer, length 41");
-    damaged(words + 40, header(17, 9), FELTER_BAD_HEADER_LENGTH, LENGTH_TEXT "40 of the buffer, length 17");
-    damaged(words + 24, header(8, 1), FELTER_BAD_HEADER_LENGTH, LENGTH_TEXT "24 of the buffer, length 8");
-    damaged(words + 16, header(18, 0), FELTER_BAD_HEADER_TYPE, TYPE_TEXT "16 of the buffer, type id 0");
-    damaged(words + 40, header(12, -3), FELTER_BAD_HEADER_TYPE, TYPE_TEXT "40 of the buffer, type id -3");
-    damaged(words + 40, header(-12, -1), FELTER_BAD_HEADER_TYPE, TYPE_TEXT "40 of the buffer, type id -1");
+    /* (marks that make no sense: an end in its own header, a kind above 3, and another end than that of the slot) */
+    damaged(words + 16, 16 + 1, FELTER_BAD_HEADER_LENGTH, LENGTH_TEXT "16 of the buffer, length 1");
+    damaged(words + 16, 40 + 4, FELTER_BAD_HEADER_LENGTH, LENGTH_TEXT "16 of the buffer, length 1");
+    damaged(words + 16, 40 + 7, FELTER_BAD_HEADER_LENGTH, LENGTH_TEXT "16 of the buffer, length 1");
+    damaged(words + 16, 48, FELTER_BAD_HEADER_LENGTH, LENGTH_TEXT "16 of the buffer, length 1");
+    damaged(words + 16, 32 + ABORTED, FELTER_BAD_HEADER_LENGTH, LENGTH_TEXT "16 of the buffer, length 1");
+    damaged(words + 16, (uint64_t)-8, FELTER_BAD_HEADER_LENGTH, LENGTH_TEXT "16 of the buffer, length 1");
+    damaged(slots + 16, header(7, 8), FELTER_BAD_HEADER_LENGTH, LENGTH_TEXT "16 of the buffer, length 1");
+    damaged(slots + 16, header(-18, 8), FELTER_BAD_HEADER_LENGTH, LENGTH_TEXT "16 of the buffer, length 1");
+    damaged(slots + 40, header(17, 9), FELTER_BAD_HEADER_LENGTH, LENGTH_TEXT "40 of the buffer, length 1");
+    /* (longer than a message, across the tail, inside another record) */
+    damaged(words + 16, 64 + OPEN, FELTER_BAD_HEADER_LENGTH, LENGTH_TEXT "16 of the buffer, length -48");
+    damaged(words + 40, 64 + OPEN, FELTER_BAD_HEADER_LENGTH, LENGTH_TEXT "40 of the buffer, length -24");
+    damaged(words + 40, 64 + PADDING, FELTER_BAD_HEADER_LENGTH, LENGTH_TEXT "40 of the buffer, length 24");
+    damaged(words + 16, 48 + PADDING, FELTER_BAD_HEADER_LENGTH, LENGTH_TEXT "40 of the buffer, length 12");
+    damaged(words + 24, 32 + OPEN, FELTER_BAD_HEADER_LENGTH, LENGTH_TEXT "24 of the buffer, length -8");
+    damaged(slots + 16, header(18, 0), FELTER_BAD_HEADER_TYPE, TYPE_TEXT "16 of the buffer, type id 0");
+    damaged(slots + 40, header(12, -3), FELTER_BAD_HEADER_TYPE, TYPE_TEXT "40 of the buffer, type id -3");
     /* (what is outside of the head and the tail is not looked at) */
-    store(words, header(3, -9));
-    store(words + 56, header(3, -9));
+    store(words, 256 + 5);
+    store(words + 56, (uint64_t)-1);
+    store(slots, header(3, -9));
+    store(slots + 56, header(3, -9));
     expect_recovered(0);
     end();
 }
@@ -342,15 +356,15 @@ static void words(void) {
                                                      buffer, sizeof buffer));
     CHECK(place == 8 && found == 144 && open_claims == 5 && count == 6 && used == 7);
     place = 1, found = -1;
-    its[head] = 0, its[tail] = 24, its[1] = header(-9, 5), its[0] = header(8, 2147483647);
+    its[head] = 0, its[tail] = 24, its[0] = 8, slots[0] = header(8, 2147483647), its[1] = 24 + OPEN;
     EXPECT(FELTER_OK, felter_recover_words(its, 112, slots, 16, &place, &found, &open_claims, &count, &used, buffer,
                                            sizeof buffer));
     CHECK(place == 1 && found == -1 && open_claims == 1 && count == 1 && used == 16);
-    its[1] = header(-100, 5);
+    its[1] = 112 + OPEN;
     EXPECT(FELTER_BAD_HEADER_LENGTH, felter_recover_words(its, 112, slots, 16, &place, &found, &open_claims, &count,
                                                           &used, buffer, sizeof buffer));
-    CHECK(place == 8 && found == -100 && open_claims == 1 && count == 1 && used == 16);
-    its[1] = header(9, -7);
+    CHECK(place == 8 && found == -104 && open_claims == 1 && count == 1 && used == 16);
+    its[1] = 24, slots[1] = header(9, -7);
     EXPECT(FELTER_BAD_HEADER_TYPE, felter_recover_words(its, 112, slots, 16, &place, &found, &open_claims, &count,
                                                         &used, buffer, sizeof buffer));
     CHECK(place == 8 && found == -7);

@@ -39,9 +39,9 @@ def recover(image: Buffer) -> Recovered:
     """Recovers the messages of a ring whose process died. The image is what was in the file of the ring, for example
     what `read` of the file returned. The call copies an image that is not a `bytes`.
 
-    The messages are those that were committed, from the point on up to which the consumer had cleared. Each message
-    comes whole, once, and in the order of the claims. What the consumer was shown and had not cleared comes again,
-    before the other messages. The library proves this for the memory of any ring.
+    The messages are those that were committed, from the head on. Each message comes whole, once, and in the order of
+    the claims. What the consumer was shown, and after which it had not moved the head, comes again, before the other
+    messages. The library proves this for the memory of any ring.
 
     To go on, make a ring in a new file, and write the messages to it by `write_all`. A ring of the same capacity has
     room for all of them.

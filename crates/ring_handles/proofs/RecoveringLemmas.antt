@@ -106,13 +106,14 @@ positions_pass false b c d f g h e = let clash : Some f ≡ None = e in absurd c
 
 -- what is recovered takes at most twice the capacity
 pub within : (C : ℕ) (words slots : List ℕ) → finding_of C words slots ≡ None
-    → laid_end 0 (without_places (all_placed (messages_of C slots (tail_of C words) (all_headers C words)))) ≤ 2 * C
+    → laid_end 0 (without_places (all_placed (messages_of C slots (tail_of C words) (all_headers C words slots))))
+    ≤ 2 * C
 within C words slots none =
     let head : ℕ = head_of C words in
     let tail : ℕ = tail_of C words in
     let size : Option RingFinding = if length slots == C / 8 then None else Some (BadBodies (length slots)) in
     let positions : Option RingFinding = positions_finding C head tail in
-    let headers : Option RingFinding = headers_finding C tail head (all_headers C words) in
+    let headers : Option RingFinding = headers_finding C tail head (all_headers C words slots) in
     let parts = both_none positions headers (both_none size (or_else positions headers) none).1 in
     let pass = positions_pass (head % 8 == 0) (tail % 8 == 0) (nat_lt tail head) (nat_lt (head + C) tail)
     (UnalignedPosition head tail) (TailBeforeHead head tail) (TailTooFar head tail) parts.0 in
@@ -120,7 +121,7 @@ within C words slots none =
     let far : nat_lt (head + C) tail ≡ false = pass.1 in
     let order : head ≤ tail = grind (arith, nat_tests, before) in
     let room : tail ≤ head + C = grind (arith, nat_tests, far) in
-    let most = headers_within C tail head slots (all_headers C words) 0 order parts.1 in
+    let most = headers_within C tail head slots (all_headers C words slots) 0 order parts.1 in
     omega arith
 
 -- what is not refused has no finding
@@ -144,7 +145,7 @@ refused_by (Some g) f h =
 module _ (words slots : List ℕ) where
   -- the messages of r are laid
   pub laid_as : (r : Recovered) (before after : Recovery) (code : ℤ)
-      → ((C start : ℕ) (m : Remains C start words slots) → IsRecoveredOf m.rule.hist m.rule.consumer r)
+      → ((C start : ℕ) (m : Remains C start words slots) → IsRecoveredOf m.rule.kept.hist m.rule.kept.consumer r)
       → ((C : ℕ) → IsCapacity C → length words ≡ ring_words C → IsRefusedBy (finding_of C words slots) (Ok r))
       → ((C : ℕ) → IsCapacity C → length words ≡ ring_words C → Reads C words slots r)
       → IsCapacity r.capacity → length words ≡ ring_words r.capacity → LaysAll r before after code

@@ -92,7 +92,7 @@ LaysOrFinds finding Holds before after code =
 -- first finding, and if there is none, it lays the committed messages of the headers
 pub record Recovers (words slots : List ℕ) (before after : Recovery) (code : ℤ) : Type 0 where
   pub recovered : (C start : ℕ) (m : Remains C start words slots)
-      → LaysRecovered (λ r. IsRecoveredOf m.rule.hist m.rule.consumer r) before after code
+      → LaysRecovered (λ r. IsRecoveredOf m.rule.kept.hist m.rule.kept.consumer r) before after code
   pub no_ring : ((C : ℕ) → IsCapacity C → length words ≢ ring_words C)
       → Finds (BadSize (length words)) before after code
   pub ring : (C : ℕ) → IsCapacity C → length words ≡ ring_words C

@@ -113,7 +113,7 @@ fn report(finding: RingFinding, place: &mut u64, found: &mut i64) -> i32
 }
 
 /// Recovers the messages of a ring whose threads all died, each at any step, and lays them into a buffer. `words` are
-/// the words of the ring, and `slots` its bodies.
+/// the words of the ring, which have marks, and `slots` its slots, which have the headers and the bodies.
 ///
 /// The messages are those that `ring_recovery::recover` returns, in the same order. The call reports how many messages
 /// there are, how many bytes of the buffer they take, and how many claims were open. The messages take at most twice

@@ -21,12 +21,13 @@ use Rattle.ring_table.specs.declared.claim.PlacedMessage.{PlacedMessage}
 use Rattle.ring_table.specs.declared.claim.Stage.{Stage}
 use Rattle.ring_table.specs.declared.claim.Stage.TheVariants.{Moved, Padded, Stored}
 use Rattle.ring_table.specs.declared.claim.StagedClaim.{StagedClaim}
+use Rattle.ring_table.proofs.DecodeLemmas.{masked_zero}
 use Rattle.ring_table.proofs.StagedWords.{staged_word-body, staged_word-header, staged_word-padding, staged_word-padding_behind}
 use Rattle.ring_recovery.specs.Headers.{bytes_in, headers_in, is_type, message_at}
 use Rattle.ring_recovery.specs.Recovered.{all_placed}
 use Rattle.ring_recovery.proofs.HeaderLemmas.{IsHeader, abs_neg, bytes_are, committed_is, length_fits, neg_below, neg_not_above, not_negative, not_zero, open_is, pos_above, type_above, type_is}
 use Rattle.ring_recovery.proofs.ScanLemmas.{one, zeros}
-use Rattle.ring_recovery.proofs.GivenLemmas.{Adds, AreShown, Gives, HaveBody, adds, far, gives_below, masked_zero}
+use Rattle.ring_recovery.proofs.GivenLemmas.{Adds, AreShown, Gives, HaveBody, adds, far, gives_below}
 
 module _ (C tail : ℕ) (slots : List ℕ) (shown : ℕ → ℕ) (e : ℕ) (c : StagedClaim) (cs : List StagedClaim)
     (a : AreShown C tail shown e (c ∷ cs)) where

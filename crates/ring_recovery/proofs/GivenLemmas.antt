@@ -6,10 +6,8 @@ use Rattle.ring_layout.specs.Places.{IsCapacity, index, rounded}
 use Rattle.ring_layout.proofs.PlaceLemmas.{next_le}
 use Rattle.ring_table.specs.Passing.{IsSettled, placed_committed_of}
 use Rattle.ring_table.specs.Rescued.{unsettled_count}
-use Rattle.ring_table.specs.Staged.{elsewhere, ArePlaced, body_word, claim_end, masked_record, staged_end, staged_span, staged_word_at}
+use Rattle.ring_table.specs.Staged.{elsewhere, ArePlaced, body_word, claim_end, staged_end, staged_span, staged_word_at}
 use Rattle.ring_table.specs.declared.claim.PlacedMessage.{PlacedMessage}
-use Rattle.ring_table.specs.declared.claim.Stage.{Stage}
-use Rattle.ring_table.specs.declared.claim.Stage.TheVariants.{Moved, Padded, Stored}
 use Rattle.ring_table.specs.declared.claim.StagedClaim.{StagedClaim}
 use Rattle.ring_recovery.specs.Headers.{bytes_in, headers_finding, is_committed, is_open, message_at, messages_of, open_of}
 use Rattle.ring_recovery.specs.Recovered.{all_placed}
@@ -75,11 +73,6 @@ module _ (C tail : ℕ) (slots : List ℕ) where
       }
 
 -- ---- claims that are found
-
-pub masked_zero : (t : Stage) → masked_record t 0 ≡ 0
-masked_zero Moved = refl
-masked_zero Padded = refl
-masked_zero (Stored s) = refl
 
 -- the claims from e on are before the tail, and are what is found there
 pub record AreShown (C tail : ℕ) (shown : ℕ → ℕ) (e : ℕ) (cs : List StagedClaim) : Type 0 where

@@ -1,6 +1,6 @@
 -- The headers that the marks and the slots of a ring show are those of its claims.
 use Rattle.std.specs.Prelude.{◌&&◌, ⊤}
-use Rattle.std.proofs.Common.{◌≡◌, ◌≢◌, ℕ, ◌+◌, ◌-◌, ◌*◌, ◌/◌, ◌%◌, ◌^◌, ◌≤◌, ◌<◌, List, [], ◌∷◌, cond, length, slice_index, refl, sym, ap, ◌∙◌, subst, ⊎_elim, lt-ltb, le-ltb, eq-eqb, ne_eqb, ltb, arith}
+use Rattle.std.proofs.Common.{◌≡◌, ℕ, ◌+◌, ◌-◌, ◌*◌, ◌/◌, ◌%◌, ◌^◌, ◌≤◌, ◌<◌, List, [], ◌∷◌, cond, length, slice_index, refl, sym, ap, ◌∙◌, subst, ⊎_elim, lt-ltb, le-ltb, eq-eqb, ltb, arith}
 use mathlib.Core.Logic.{dite}
 use native.Mathlib.Decide.{ℕ_discrete}
 use Rattle.std.proofs.lemmas.Bool.{cases_lt, cond-true, cond-false, le-leb, lt-leb}
@@ -16,13 +16,13 @@ use Rattle.ring_table.specs.Staged.{elsewhere, ArePlaced, claim_end, masked_reco
 use Rattle.ring_table.specs.declared.claim.Stage.{Stage}
 use Rattle.ring_table.specs.declared.claim.Stage.TheVariants.{Moved, Padded, Stored}
 use Rattle.ring_table.specs.declared.claim.StagedClaim.{StagedClaim}
-use Rattle.ring_table.proofs.DecodeLemmas.{HeadAt, Marks, all_filled_out, decode_all, decoded_none, filled_end, filled_out, filled_placed, filled_record, filled_settled_one}
+use Rattle.ring_table.proofs.DecodeLemmas.{HeadAt, Marks, all_filled_out, decode_all, decoded_none, filled_end, filled_out, filled_placed, filled_record, filled_settled_one, inner_word}
 use Rattle.ring_table.proofs.MarkWords.{committed_small, few_of, long_bytes, near_all, shows_claim, shows_mark, whole_bytes}
 use Rattle.ring_table.proofs.SlotBytes.{first_word_of, slot_later}
-use Rattle.ring_table.proofs.StagedWords.{staged_word-header, staged_word-record}
+use Rattle.ring_table.proofs.StagedWords.{staged_word-header}
 use Rattle.ring_recovery.specs.Headers.{recovered_header}
 use Rattle.ring_recovery.specs.Image.{HaveRecord}
-use Rattle.ring_recovery.proofs.GivenLemmas.{HaveAll, HaveBody, masked_zero}
+use Rattle.ring_recovery.proofs.GivenLemmas.{HaveAll, HaveBody}
 
 -- ---- the bytes of a header
 
@@ -93,11 +93,6 @@ same_head C p (Stored Open) m most is filled long =
     ∙ sym (shows_mark p _ (span (length m.body)) open_kind (shows_claim C m Open most is))
 same_head C p (Stored Committed) m most is filled long = refl
 same_head C p (Stored Aborted) m most is filled long = refl
-
--- a word inside a record
-inner_word : (c : StagedClaim) (p : ℕ) → c.place ≤ p → p ≢ c.place → staged_word elsewhere c p ≡ 0
-inner_word c p le ne = staged_word-record elsewhere c p le ∙ ap (masked_record c.stage)
-    (cond-false _ _ _ (ne_eqb (p - c.place) 0 (λ none. omega arith))) ∙ masked_zero c.stage
 
 same_padding : (c : StagedClaim) (p : ℕ) → p < c.place
     → staged_word elsewhere (filled_record c) p ≡ staged_word elsewhere c p

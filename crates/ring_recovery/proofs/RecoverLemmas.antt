@@ -98,12 +98,12 @@ module _ (C start : ℕ) (words slots : List ℕ) (m : Remains C start words slo
   marked : (p : ℕ) → p % 8 ≡ 0 → head ≤ p → p < head + C
       → Marks p (slice_index words (index C p)) (staged_word_at elsewhere claims p)
   marked p p8 from below =
-      let high : rule.consumer.cleared ≤ p = omega (arith, m.rule.rests, from) in
+      let high : rule.consumer.cleared ≤ p = omega (arith, m.rule.none_cleared, from) in
       let shows : slice_index m.rule.headers (index C p) ≡ staged_word_at elsewhere claims p =
       rule.memory.shows p p8 from below ∙ cond-false _ _ _ (le-ltb p rule.consumer.cleared high) in
       record {
-        none = λ none. m.rule.encodes.none p p8 high below (shows ∙ none);
-        mark = λ some. m.rule.encodes.marks p p8 high below (λ none. some (sym shows ∙ none)) ∙ ap (mark_of p) shows;
+        none = λ none. m.rule.encodes.none p p8 from below (shows ∙ none);
+        mark = λ some. m.rule.encodes.marks p p8 from below (λ none. some (sym shows ∙ none)) ∙ ap (mark_of p) shows;
       }
 
   are_shown : AreShown C tail (recovered_header C words slots) head (all_filled_out left)

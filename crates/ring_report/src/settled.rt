@@ -84,8 +84,8 @@ fn positions_in<'a, R: AllocGlobal + Files + Input>(
     Ok(positions(words.as_slice(), true))
 }
 
-/// Returns the words of a plain ring in the format, as `settled_words` does. Slots are read after the words, so a record
-/// that is shown as committed was whole. Both reads are between two looks at the positions.
+/// Returns the words of a plain ring in the format, as `settled_words` does. Slots are read after the words, so a
+/// record that is shown as committed was whole. Both reads are between two looks at the positions.
 fn joined_words<'a, R: AllocGlobal + Files + Input>(
     rt: &R,
     section: Section<'a>,
@@ -107,7 +107,8 @@ fn joined_words<'a, R: AllocGlobal + Files + Input>(
     Ok(Words { words, is_settled })
 }
 
-/// Returns the words of a ring in the format. `bodies_at` is the byte of the file at which the slots of a plain ring begin.
+/// Returns the words of a ring in the format. `bodies_at` is the byte of the file at which the slots of a plain ring
+/// begin.
 pub fn ring_words<'a, R: AllocGlobal + Files + Input>(
     rt: &R,
     section: Section<'a>,

@@ -1,6 +1,6 @@
--- The marks in the words of a plain ring. The word at the index of a position is a mark if it is above the position, and
--- otherwise says nothing: it may be what an earlier lap left. A mark is the end of the record or of the padding that
--- begins at the position, and its kind. The slot at the same index has the header that the record has once it is
+-- The marks in the words of a plain ring. The word at the index of a position is a mark if it is above the position,
+-- and otherwise says nothing: it may be what an earlier lap left. A mark is the end of the record or of the padding
+-- that begins at the position, and its kind. The slot at the same index has the header that the record has once it is
 -- committed. Positions are running byte counts, and C is the capacity of the buffer.
 use Rattle.std.specs.Prelude.{◌≡◌, ℕ, ◌+◌, ◌-◌, ◌%◌, ◌^◌, Bool, ◌&&◌, ◌==◌, nat_le, nat_lt, int_lt, if◌then◌else◌, pos, neg_ℤ, nat_abs, List, length, slice_index}
 use Rattle.ring_layout.specs.declared.message.Claim.{Claim}

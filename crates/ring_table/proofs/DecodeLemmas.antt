@@ -207,12 +207,12 @@ decode_head C (Stored Aborted) p w y b most is p8 m head =
     decoded_aborted p n w y (m.mark s.some ∙ shows_mark p _ n aborted_kind s) p8 (omega arith)
     ∙ ap (λ z. (2 ^ 32 - 1) * 2 ^ 32 + z) y_low
 
-masked_zero : (t : Stage) → masked_record t 0 ≡ 0
+pub masked_zero : (t : Stage) → masked_record t 0 ≡ 0
 masked_zero Moved = refl
 masked_zero Padded = refl
 masked_zero (Stored s) = refl
 
-inner_word : (c : StagedClaim) (p : ℕ) → c.place ≤ p → p ≢ c.place → staged_word elsewhere c p ≡ 0
+pub inner_word : (c : StagedClaim) (p : ℕ) → c.place ≤ p → p ≢ c.place → staged_word elsewhere c p ≡ 0
 inner_word c p le ne = staged_word-record elsewhere c p le ∙ ap (masked_record c.stage)
     (cond-false _ _ _ (ne_eqb (p - c.place) 0 (λ none. omega arith))) ∙ masked_zero c.stage
 

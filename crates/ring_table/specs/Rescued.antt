@@ -63,8 +63,8 @@ pub record ShowsClaims (B : Bodies) (C : ℕ) (words : List ℕ) (cs : List Stag
   pub shows : (p : ℕ) → p % 8 ≡ 0 → slice_index words (head_index C) ≤ p → p < slice_index words (head_index C) + C
       → slice_index words (index C p) ≡ staged_word_at B cs p
 
--- The words show settled claims from the head on. The committed ones are those of cs, with their places, in their order;
--- `claims` claims of cs were not settled, and `silent` bytes had no header
+-- The words show settled claims from the head on. The committed ones are those of cs, with their places, in their
+-- order; `claims` claims of cs were not settled, and `silent` bytes had no header
 pub record Settles (C head : ℕ) (cs : List StagedClaim) (words : List ℕ) (claims silent : ℕ) : Type 0 where
   pub now : List StagedClaim
   pub placed : ArePlaced C head now
@@ -98,7 +98,8 @@ KeptWith elsewhere C start hist n words homes views =
 pub record HadHistory (bodies : Bodies) (k : Key) (v : View) (closed : Closed ℕ Global) (hist : OwnedHistory)
     (drawn : ℕ) : Type 0 where
   pub id : ℕ
-  pub final : Final (Seen (λ s. KeptWith bodies k.capacity k.start hist drawn s.words s.homes s.views) id v) (slots_items closed.words) (slots_items closed.slots)
+  pub final : Final (Seen (λ s. KeptWith bodies k.capacity k.start hist drawn s.words s.homes s.views) id v)
+      (slots_items closed.words) (slots_items closed.slots)
 
 -- What is left of a table whose other seats may be lost, which had this history and this number of draws, and one seat
 -- of which knew v and consumes. v's own claims are its part of the history. The messages that v's consumer took are the

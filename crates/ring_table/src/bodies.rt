@@ -122,8 +122,8 @@ pub(crate) fn look_slot(ring: &SharedRing<InSlots>, seat: &mut RingSeat, slot: u
     word
 }
 
-/// Copies the body of a record, whose `count` slots after that of the header, and this one, are all that the seat has, to
-/// the front of the scratch.
+/// Copies the body of a record, whose `count` slots after that of the header, and this one, are all that the seat has,
+/// to the front of the scratch.
 #[inline(always)]
 pub fn copy_slots(
     ring: &SharedRing<InSlots>,
@@ -163,8 +163,8 @@ pub fn copy_slots(
     }
 }
 
-/// Fills the slots of a claim of `len` bytes with its header and zeros, and stores its mark. The claim is open from then
-/// on, with zeros for its bytes.
+/// Fills the slots of a claim of `len` bytes with its header and zeros, and stores its mark. The claim is open from
+/// then on, with zeros for its bytes.
 pub fn store_claimed_slots(
     ring: &SharedRing<InSlots>,
     producer: &mut RingSeat,

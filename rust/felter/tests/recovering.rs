@@ -56,7 +56,7 @@ fn the_messages_come_whole_and_in_order() {
 fn a_ring_without_messages_has_none() {
     let mut image = image_of(&[]);
     assert_eq!(felter::recover(&image).map(|it| (it.messages, it.open_claims)), Ok((vec![], 1)));
-    // neither has one whose claim has no header yet
+    // neither has one whose claim has no mark yet
     store(&mut image, 128, 0);
     assert_eq!(felter::recover(&image), Ok(felter::Recovered::default()));
 }
@@ -64,6 +64,7 @@ fn a_ring_without_messages_has_none() {
 #[test]
 fn damage_is_found_at_its_place() {
     let (tail, head) = (128 + CAPACITY as usize + 128, 128 + CAPACITY as usize + 384);
+    let slots = 896 + CAPACITY as usize;
     let whole = image_of(&[(7, b"first")]);
     let cases = [
         (0, 5, Error::NoImage, "the memory is not the image of a ring"),
@@ -71,13 +72,19 @@ fn damage_is_found_at_its_place() {
         (head, 40, Error::TailBeforeHead, "the tail is before the head: head 40, tail 32"),
         (tail, 264, Error::TailTooFar, "the tail is more than the capacity after the head: head 0, tail 264"),
         (
-            128 + 16,
+            slots + 16,
             7 << 32 | 41,
             Error::BadHeaderLength,
-            "a header has a length that no record has there: byte 16 of the buffer, length 41",
+            "a header has a length that no record has there: byte 16 of the buffer, length 1",
         ),
         (
             128 + 16,
+            16 + 48 + 2,
+            Error::BadHeaderLength,
+            "a header has a length that no record has there: byte 16 of the buffer, length -48",
+        ),
+        (
+            slots + 16,
             13,
             Error::BadHeaderType,
             "a header has a type id that no record has: byte 16 of the buffer, type id 0",

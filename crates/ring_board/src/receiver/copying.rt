@@ -85,6 +85,7 @@ impl CopyReceiver {
     }
 
     /// Copies the next message to the front of the receiver's scratch.
+    #[inline(always)]
     fn copy_next(&mut self, board: &Board) -> Result<Option<CopiedMessage>, Lapped>
         requires { IsReceiverOf board.now self.old }
         ensures board { IsReceiverOf board.now self.new }
@@ -100,6 +101,7 @@ impl CopyReceiver {
     }
 
     /// Returns the copy at the front of the scratch.
+    #[inline(always)]
     fn front(&self, front: CopiedMessage) -> Copied<'_>
         requires { front.len ≤ vec_len self.now.scratch }
         ensures { (result.place ≡ front.place) × (result.type_id ≡ front.type_id)
@@ -114,6 +116,7 @@ impl CopyReceiver {
 
     /// Copies the next message, if there is one, and validates the copy. Returns `Lapped` if the transmitter overtook
     /// the receiver. The count has then risen by one, and the next call starts with the record at latest.
+    #[inline(always)]
     pub fn receive(&mut self, board: &Board) -> Result<Option<Copied<'_>>, Lapped>
         requires { IsReceiverOf board.now self.old }
         ensures* after { sem 𝓛 (Rests self.entry (λ new. CopiesNext self.old new result

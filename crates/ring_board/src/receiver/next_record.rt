@@ -18,6 +18,7 @@ use ring_layout::put_word;
 use ring_layout::record_descriptor::{HEADER_LENGTH, unpack_header};
 
 /// Returns the number of bytes that a header announces, the header included.
+#[inline(always)]
 fn announced(header: u64) -> u64
     ensures { (result ≡ announced header) × (result < 2 ^ 32) }
 {
@@ -25,6 +26,7 @@ fn announced(header: u64) -> u64
 }
 
 /// Returns the type id that a header announces.
+#[inline(always)]
 fn announced_type(header: u64) -> i32
     ensures { result ≡ cast_signed w32 (header / 2 ^ 32) }
 {
@@ -32,6 +34,7 @@ fn announced_type(header: u64) -> i32
 }
 
 /// Tests whether a header is one of padding.
+#[inline(always)]
 fn is_padding(header: u64) -> bool
     ensures { result ≡ is_padding header }
 {
@@ -41,6 +44,7 @@ fn is_padding(header: u64) -> bool
 impl Board {
     /// Tests whether an intent has reached a place plus the capacity. If so, the words that were loaded at that place
     /// may be overwritten.
+    #[inline(always)]
     pub(crate) fn is_lapped(&self, place: u64, intent: u64) -> bool
         requires { place ≤ max_position }
         ensures { result ≡ nat_le (place + self.now.capacity) intent }
@@ -50,6 +54,7 @@ impl Board {
 
     /// Goes to the next entry, and past padding if there is some. Loads the header of the entry, which is not yet
     /// validated.
+    #[inline(always)]
     fn load_next_header(&self, seat: &mut BoardSeat, place: u64) -> Found
         requires seat { IsSeatOf self.now seat.old }
         requires stage { RestsAt self.now.capacity place seat.old.me }
@@ -73,6 +78,7 @@ impl Board {
     }
 
     /// Looks for the next entry, and validates its header.
+    #[inline(always)]
     fn find(&self, seat: &mut BoardSeat, place: u64) -> Found
         requires seat { IsSeatOf self.now seat.old }
         requires stage { RestsAt self.now.capacity place seat.old.me }
@@ -125,6 +131,7 @@ impl Board {
     }
 
     /// Copies the words of a body to the front of the scratch, after its header was validated.
+    #[inline(always)]
     fn copy_body(&self, seat: &mut BoardSeat, place: u64, words: usize, scratch: &mut [u8])
         requires seat { IsSeatOf self.now seat.old }
         requires stage { (w : ℕ) × (seat.old.me.0.stage ≡ Reading w []) × (words ≡ word_count (body_len w))
@@ -144,6 +151,7 @@ impl Board {
 
     /// Copies a body to the front of the scratch after its header was validated, and validates again. Otherwise returns
     /// the intent that showed that the receiver was lapped.
+    #[inline(always)]
     fn take(
         &self,
         seat: &mut BoardSeat,
@@ -196,6 +204,7 @@ impl Board {
 
     /// Copies the next message to the front of the scratch, if there is one. Otherwise returns the place and the intent
     /// of a failed validation.
+    #[inline(always)]
     pub(crate) fn copy_next(
         &self,
         seat: &mut BoardSeat,

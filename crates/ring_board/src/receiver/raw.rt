@@ -103,6 +103,7 @@ impl Receiver {
 
     /// Copies the next message to the front of a scratch, if there is a message. Validates the copy, and goes past the
     /// message.
+    #[inline(always)]
     pub(crate) fn copy_next(
         &mut self,
         board: &Board,

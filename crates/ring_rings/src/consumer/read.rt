@@ -22,8 +22,7 @@ impl<K, B: Bodies> Ring<K, B> {
         start < scan && byte_index(self.capacity, scan) == 0
     }
 
-    /// Ends a read that began at the head `start` and has come to `scan`. Clears what the read passed, and stores the
-    /// head.
+    /// Ends a read that began at the head `start` and has come to `scan`. Moves the head past what the read passed.
     #[inline(always)]
     fn finish(
         &self,
@@ -159,7 +158,7 @@ impl<K, B: Bodies> Ring<K, B> {
     /// Reads as `read` does, and follows the handler's actions:
     /// - `Abort` leaves the message, and stops with `Action`.
     /// - `Break` takes the message, and stops with `Action`.
-    /// - `Commit` clears what was passed, moves the head, and goes on.
+    /// - `Commit` takes the message, moves the head past it, and goes on.
     /// - `Continue` goes on.
     ///
     /// If a message is left, the padding and the aborted records before it stay passed.

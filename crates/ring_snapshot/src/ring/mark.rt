@@ -58,8 +58,8 @@ fn marked_header(bytes: u64, kind: u64, slot: u64) -> u64
 /// Returns the header at a position of a plain ring, as the format has it. `words` are those of a ring of `capacity`
 /// bytes, and `slots` are the `capacity / 8` words with the messages and their headers.
 ///
-/// Returns the header of the claim or of the padding whose mark the word is. Returns 0 if the word at the position is no
-/// mark, since nothing was stored for the position. Returns a header that no record has, with the length 1, if the mark makes no sense:
+/// Returns the header of the claim or of the padding whose mark the word is. Returns 0 if the word at the position is
+/// no mark, since nothing was stored for the position. Returns `BAD_HEADER` if the mark makes no sense:
 /// - its kind is above 3;
 /// - padding has 2^31 bytes or more;
 /// - the header in the slot is no header of a message, or its record would not end at the end in the mark.

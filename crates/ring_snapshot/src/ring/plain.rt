@@ -65,8 +65,8 @@ fn join_body(words: &mut [u64], slots: &[u64], index: usize, count: usize)
     }
 }
 
-/// Writes the record at a position in the format, or only its header if no record has this header. Returns the number of
-/// bytes that the record takes, or 0 if there is no record.
+/// Writes the record at a position in the format, or only its header if no record has this header. Returns the number
+/// of bytes that the record takes, or 0 if there is no record.
 fn join_record(words: &mut [u64], slots: &[u64], capacity: u32, tail: u64, at: u64) -> u64
     requires lawful { IsCapacity capacity }
     requires sizes { (length words.old ≡ ring_words capacity) × (length slots.now ≡ capacity / 8) }
@@ -136,10 +136,10 @@ fn clear_words(words: &mut [u64], capacity: u32, at: u64, count: usize)
 /// The call goes from the head to the tail, one record after another. Padding gets its header, and zeros after it. Any
 /// other record gets its header and its body, in each state. The call ends at a word that is no mark, which becomes 0,
 /// and at a mark that makes no sense. [`header_at`] says which marks these are, and what they become. A mark also makes
-/// no sense if its record would cross the end of the buffer or the tail. The words after these two stay as they are. All
-/// words of the buffer that are not between the head and the tail become 0. No word is changed if the positions make no
-/// sense. If the words and the slots have a history between the head and the tail, the result has the words of the
-/// history.
+/// no sense if its record would cross the end of the buffer or the tail. The words after these two stay as they are.
+/// All words of the buffer that are not between the head and the tail become 0. No word is changed if the positions
+/// make no sense. If the words and the slots have a history between the head and the tail, the result has the words of
+/// the history.
 ///
 /// Returns `BadSize` if no ring has this many words. Otherwise returns `BadBodies` if there are not as many slots as
 /// words of the buffer. After an error no word is changed.
