@@ -9,7 +9,8 @@ use Rattle.ring_table.specs.declared.view.View.{View}
 use Rattle.ring_rings.specs.Claiming.{AfterTries, Claims, Refuses, RefusesTry, Writes}
 use Rattle.ring_rings.specs.Joining.{LoadsPositions}
 use Rattle.ring_rings.specs.Ring.{message, received_in, sent_in, HasMessageAt}
-use Rattle.ring_rings.specs.Seats.{IsOpenAt, KeepsOpen}
+use Rattle.ring_rings.specs.Seats.{view_of, IsOpenAt, KeepsOpen, MayClaim}
+use Rattle.ring_rings.specs.declared.ring.Producer.{Producer}
 use Rattle.ring_rings.specs.declared.fault.TryFault.{TryFault}
 
 pub record End : Type 0 where
@@ -44,6 +45,13 @@ AreOfOneRing p q = q ≡ record p { view = q.view }
 -- both are ends of rings of one table and one capacity
 abbrev pub AreOfOneTable : End → End → Type 0
 AreOfOneTable p q = (q.table ≡ p.table) × (q.capacity ≡ p.capacity)
+
+-- the producer is the end's
+pub record IsOfEnd (e : End) (p : Producer) : Type 0 where
+  pub table : p.seat.table_id ≡ e.table
+  pub capacity : p.seat.me.0.capacity ≡ e.capacity
+  pub view : view_of p ≡ e.view
+  pub sole : MayClaim e.many p
 
 -- the claim in the producer's hands is one of its own, and open
 abbrev pub IsOpenIn : End → ClaimAt → Type 0

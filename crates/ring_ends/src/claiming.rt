@@ -1,5 +1,5 @@
 //! A producer that keeps its open claims, which its calls name by number.
-ghost use Rattle.std.specs.Prelude.{◌≡◌, [], IfErr, IfOk, OnOk};
+ghost use Rattle.std.specs.Prelude.{◌≡◌, ◌≢◌, [], IfErr, IfOk, OnOk};
 ghost use Rattle.ring_layout.specs.declared.message.ClaimState.TheVariants.{Aborted, Committed};
 ghost use Rattle.ring_layout.specs.Refusals.{all_shares};
 ghost use Rattle.ring_table.specs.OpenClaims.{open_count};
@@ -9,12 +9,12 @@ ghost use Rattle.ring_ends.specs.declared.many_to_one.SplitFault.TheVariants.{On
 ghost use Rattle.ring_ends.specs.Claims.{claims_in};
 ghost use Rattle.ring_ends.specs.Claiming.{aborted_view, AreAllOpen, OfEnd, Puts, Settles, TakesIn};
 ghost use Rattle.ring_ends.specs.Claiming.{TriesToKeep};
-ghost use Rattle.ring_ends.specs.End.{shares, AreOfOneTable, Does, LoadsThem, Sends, TriesWrite, WritesAlone};
+ghost use Rattle.ring_ends.specs.End.{shares, AreOfOneTable, Does, IsOfEnd, LoadsThem, Sends, TriesWrite, WritesAlone};
 
 use crate::many_to_one::SplitFault;
 use crate::open_claims::OpenClaims;
 use crate::producer::ProducerEnd;
-use ring_rings::{Bodies, ClaimFault, Kind, ManyToOne, Positions, TryFault};
+use ring_rings::{Bodies, ClaimFault, Kind, ManyToOne, Positions, Producer, TryFault};
 use std::alloc::Global;
 use std::marker::Model;
 
@@ -186,17 +186,56 @@ impl<K: Kind, B: Bodies> NumberedEnd<K, B> {
         Ok(())
     }
 
+    /// Aborts all open claims, the youngest first.
+    pub fn abort_open(&mut self)
+        ensures { self.new
+            ≡ record { end = record self.old.end { view = aborted_view self.old.claims self.old.end.view }; claims = [] } }
+    {
+        abort_each(&mut self.end, &mut self.claims);
+    }
+
     /// Aborts all open claims, and returns the producer without them.
-    pub fn into_end(self) -> ProducerEnd<K, B>
+    pub fn into_end(mut self) -> ProducerEnd<K, B>
         ensures none { open_count result.view.producer.claims ≡ 0 }
         ensures aborted { result ≡ record self.end { view = aborted_view self.claims self.end.view } }
     {
-        let NumberedEnd {
-            mut end,
-            mut claims,
-        } = self;
-        abort_each(&mut end, &mut claims);
+        self.abort_open();
+        let NumberedEnd { end, claims: _ } = self;
         end
+    }
+
+    /// Returns the producer without its ring. Claims that are open stay open for good.
+    pub fn into_producer(self) -> Producer
+        ensures { IsOfEnd self.end result }
+    {
+        let NumberedEnd { end, claims: _ } = self;
+        end.into_producer()
+    }
+
+    /// Returns the bytes of the ring's buffer.
+    pub fn capacity(&self) -> u32
+        ensures { result ≡ self.now.end.capacity }
+    {
+        self.end.capacity()
+    }
+
+    /// Returns the number of shares of the ring that this producer holds.
+    pub fn shares(&self) -> u32
+        ensures { result ≡ shares self.now.end }
+    {
+        self.end.shares()
+    }
+
+    /// Returns the number of open claims.
+    pub fn open_claims(&self) -> u64
+        ensures { result ≡ open_count self.now.end.view.producer.claims }
+    {
+        self.end.open_claims()
+    }
+
+    /// Returns the number of ends and others that own the ring.
+    pub fn owners(&self) -> usize {
+        self.end.owners()
     }
 }
 
@@ -208,6 +247,7 @@ impl<B: Bodies> NumberedEnd<ManyToOne, B> {
         ensures left { OnOk result (self.new
             ≡ record self.old { end = record self.old.end { view = without_share self.old.end.view } }) }
         ensures refused { IfErr result (λ fault. (self.new ≡ self.old) × (fault ≡ OneShare → shares self.old.end ≡ 1)) }
+        ensures spare { OnOk result (shares self.old.end ≢ 1) }
     {
         let end = self.end.split()?;
         Ok(NumberedEnd::of(alloc, end))

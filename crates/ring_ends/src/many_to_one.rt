@@ -1,5 +1,5 @@
 //! The calls of one of many producers of a ring.
-ghost use Rattle.std.specs.Prelude.{◌≡◌, [], replicate, IfErr, IfOk, OnOk};
+ghost use Rattle.std.specs.Prelude.{◌≡◌, ◌≢◌, [], replicate, IfErr, IfOk, OnOk};
 ghost use Rattle.ring_ends.specs.declared.many_to_one.SplitFault.TheVariants.{OneShare};
 ghost use Rattle.ring_table.specs.Views.{producer_alone, without_share};
 ghost use Rattle.ring_rings.specs.Joining.{Joins};
@@ -47,6 +47,7 @@ impl<B: Bodies> ProducerEnd<ManyToOne, B> {
         ensures left { OnOk result (self.new ≡ record self.old { view = without_share self.old.view }) }
         ensures right { IfOk result (λ other. other ≡ record self.old { view = producer_alone self.old.view }) }
         ensures refused { IfErr result (λ fault. (self.new ≡ self.old) × (fault ≡ OneShare → shares self.old ≡ 1)) }
+        ensures spare { OnOk result (shares self.old ≢ 1) }
         ensures keeps { KeepsClaims self.old self.new }
     {
         let Ok(ring) = Arc::try_clone(&self.ring) else {

@@ -44,6 +44,10 @@ impl<K: Kind, B: Bodies> Model for ProducerEnd<K, B> {
 }
 
 impl<K: Kind, B: Bodies> ProducerEnd<K, B> {
+    ghost use Rattle.std.specs.Arc.{arc_value};
+    ghost use Rattle.ring_rings.specs.Seats.{capacity_of, start_of, view_of, IsProducerOf, MayClaim};
+    ghost use Rattle.ring_ends.specs.End.{IsOfEnd};
+
     /// Writes a message, by one try. It never waits.
     pub fn try_write(&mut self, type_id: i32, body: &[u8]) -> Result<(), TryFault>
         ensures sent { Sends type_id body.now self.old result self.new }
@@ -157,5 +161,40 @@ impl<K: Kind, B: Bodies> ProducerEnd<K, B> {
         ensures { result ≡ open_count self.now.view.producer.claims }
     {
         self.producer.open_claims()
+    }
+
+    /// Puts a producer and its ring together.
+    pub fn of(ring: Arc<Ring<K, B>>, producer: Producer) -> Self
+        requires producer { IsProducerOf (arc_value ring) producer }
+        requires sole { MayClaim K.many producer }
+        ensures { result ≡ record {
+          many = K.many;
+          table = (arc_value ring).table.shared.table_id;
+          capacity = capacity_of (arc_value ring);
+          start = start_of (arc_value ring);
+          view = view_of producer;
+        } }
+    {
+        ProducerEnd { ring, producer }
+    }
+
+    /// Returns the producer without its ring.
+    pub fn into_producer(self) -> Producer
+        ensures { IsOfEnd self result }
+    {
+        let ProducerEnd { ring: _, producer } = self;
+        producer
+    }
+
+    /// Returns the bytes of the ring's buffer.
+    pub fn capacity(&self) -> u32
+        ensures { result ≡ self.now.capacity }
+    {
+        self.ring.capacity()
+    }
+
+    /// Returns the number of ends and others that own the ring.
+    pub fn owners(&self) -> usize {
+        Arc::strong_count(&self.ring)
     }
 }

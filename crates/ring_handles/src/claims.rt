@@ -15,7 +15,8 @@ pub(crate) fn write_in<K: Kind>(
     type_id: i32,
     body: &[u8],
 ) -> i32
-    ensures { (i : Identity) → Wrote type_id body.now (side i end.old) (side i end.new) result }
+    ensures kind { end.new.end.many ≡ end.old.end.many }
+    ensures code { (i : Identity) → Wrote type_id body.now (side i end.old) (side i end.new) result }
 {
     match end.try_write(type_id, body) {
         Ok(()) => DONE,
@@ -30,7 +31,8 @@ pub(crate) fn claim_in<K: Kind>(
     len: usize,
     number: &mut u64,
 ) -> i32
-    ensures { (i : Identity)
+    ensures kind { end.new.end.many ≡ end.old.end.many }
+    ensures code { (i : Identity)
         → Claimed type_id len number.old number.new (side i end.old) (side i end.new) result }
 {
     match end.claim(type_id, len) {
@@ -61,21 +63,24 @@ pub(crate) fn put_in<K: Kind>(
     offset: usize,
     bytes: &[u8],
 ) -> i32
-    ensures { (i : Identity) → Put number offset bytes.now (side i end.old) (side i end.new) result }
+    ensures kind { end.new.end.many ≡ end.old.end.many }
+    ensures code { (i : Identity) → Put number offset bytes.now (side i end.old) (side i end.new) result }
 {
     code_of(end.put(number, offset, bytes))
 }
 
 /// Commits the claim of this number.
 pub(crate) fn commit_in<K: Kind>(end: &mut NumberedEnd<K, InSlots>, number: u64) -> i32
-    ensures { (i : Identity) → Settled Committed number (side i end.old) (side i end.new) result }
+    ensures kind { end.new.end.many ≡ end.old.end.many }
+    ensures code { (i : Identity) → Settled Committed number (side i end.old) (side i end.new) result }
 {
     code_of(end.commit(number))
 }
 
 /// Aborts the claim of this number.
 pub(crate) fn abort_in<K: Kind>(end: &mut NumberedEnd<K, InSlots>, number: u64) -> i32
-    ensures { (i : Identity) → Settled Aborted number (side i end.old) (side i end.new) result }
+    ensures kind { end.new.end.many ≡ end.old.end.many }
+    ensures code { (i : Identity) → Settled Aborted number (side i end.old) (side i end.new) result }
 {
     code_of(end.abort(number))
 }

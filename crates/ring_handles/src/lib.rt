@@ -3,7 +3,7 @@
 //!
 //! - `handle`, `held`, `loose`: what such a program keeps, and what it can be. `identity`: what distinguishes two
 //!   rings. `code`: what calls return. `opening`: what is made for handles.
-//! - `producer`, `claims`, `open_claims`, `consumer`, `copying`, `taking`, `batch`, `closing`, `ring`: handles of a
+//! - `producer`, `claims`, `consumer`, `copying`, `taking`, `batch`, `closing`, `ring`: handles of a
 //!   ring.
 //! - `boards`, `raw`, `board_ending`: handles of a broadcast buffer. `counters`, `counting`, `reading`: of counters and
 //!   their readers. `adders`, `adding`: of shared counters.
@@ -33,7 +33,6 @@ mod held;
 mod identity;
 mod lending;
 mod loose;
-mod open_claims;
 mod opening;
 mod producer;
 mod raw;

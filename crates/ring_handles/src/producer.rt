@@ -7,31 +7,10 @@ ghost use Rattle.ring_handles.specs.Side.{AreOfOneRing};
 use crate::claims::{abort_in, claim_in, commit_in, put_in, write_in};
 use crate::code::{DONE, NO_SHARES, OTHER_RING, OUT_OF_MEMORY, WRONG_HANDLE};
 use crate::identity::Identity;
-use ring_ends::{NumberedEnd, SplitFault};
-use ring_rings::{InSlots, ManyToOne, OneToOne};
+use crate::ring::{AnyProducer, on_end};
+use ring_ends::SplitFault;
 use std::alloc::Global;
 use std::marker::Model;
-
-/// A producer of a ring of either kind, with its ring and its open claims.
-#[derive(Drop)]
-pub enum AnyProducer {
-    /// One of any number of producers of its ring.
-    Many(NumberedEnd<ManyToOne, InSlots>),
-    /// The only producer of its ring.
-    One(NumberedEnd<OneToOne, InSlots>),
-}
-
-/// Works on a producer of either kind, which the work names.
-macro_rules! on_end {
-    ($any:expr, $end:ident => $work:expr) => {
-        match $any {
-            $crate::producer::AnyProducer::Many($end) => $work,
-            $crate::producer::AnyProducer::One($end) => $work,
-        }
-    };
-}
-
-pub(crate) use on_end;
 
 /// A producer, with the ring that it writes into.
 #[derive(Drop)]
@@ -63,14 +42,14 @@ impl ProducerSide {
     pub fn write(&mut self, type_id: i32, body: &[u8]) -> i32
         ensures { Wrote type_id body.now self.old self.new result }
     {
-        on_end!(&mut self.end, end => write_in(end, type_id, body))
+        on_end!(&mut self.end, end => return write_in(end, type_id, body))
     }
 
     /// Claims room for a message, and keeps the claim.
     pub fn claim(&mut self, type_id: i32, len: usize, number: &mut u64) -> i32
         ensures { Claimed type_id len number.old number.new self.old self.new result }
     {
-        on_end!(&mut self.end, end => claim_in(end, type_id, len, number))
+        on_end!(&mut self.end, end => return claim_in(end, type_id, len, number))
     }
 
     /// Puts bytes into the open claim of this number.
@@ -159,22 +138,26 @@ impl ProducerSide {
         ensures joined { OnOk result (TakesIn self.old other self.new) }
         ensures refused { IfErr result (λ r. (self.new ≡ self.old) × (r.1 ≡ other) × IsApart self.old other r.0) }
     {
-        let ProducerSide { end, identity } = other;
-        let (AnyProducer::Many(mine), AnyProducer::Many(its)) = (&mut self.end, end) else {
+        let AnyProducer::Many(mine) = &mut self.end else {
             return Err((WRONG_HANDLE, other));
         };
-        if !self.identity.is(identity) {
-            return Err((OTHER_RING, other));
-        }
-        match mine.join(its) {
-            Ok(()) => Ok(()),
-            Err(its) => Err((
-                OUT_OF_MEMORY,
-                ProducerSide {
-                    end: AnyProducer::Many(its),
-                    identity,
-                },
-            )),
-        }
+        let ProducerSide { end, identity } = other;
+        let its = match end {
+            AnyProducer::Many(its) => its,
+            AnyProducer::One(its) => {
+                let end = AnyProducer::One(its);
+                return Err((WRONG_HANDLE, ProducerSide { end, identity }));
+            }
+        };
+        let (code, its) = if !self.identity.is(identity) {
+            (OTHER_RING, its)
+        } else {
+            match mine.join(its) {
+                Ok(()) => return Ok(()),
+                Err(its) => (OUT_OF_MEMORY, its),
+            }
+        };
+        let end = AnyProducer::Many(its);
+        Err((code, ProducerSide { end, identity }))
     }
 }
