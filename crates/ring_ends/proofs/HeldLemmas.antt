@@ -153,6 +153,22 @@ module _ {A : Type 0} where
       stay.others ∙ ap (λ z. set old (number - 1) (Some z)) same ∙ ap (λ o. set old (number - 1) o) (sym stay.here.has)
       ∙ set-get_or old (number - 1) None
 
+  -- the sum of the shares stays, if one goes to what came
+  pub sum_comes : (x : A) (old : List (Option A)) (next : ℕ) (new : List (Option A)) (shares left all : ℕ)
+      → Comes x old next new → 0 < shares → left ≡ shares - 1 → shares + count_by is_some old ≡ all
+      → left + count_by is_some new ≡ all
+  sum_comes x old next new shares left all comes some less sum =
+      let count = ap (count_by is_some) comes.held ∙ count_pushed old x in
+      omega (arith, count, some, less, sum)
+
+  -- the sum of the shares stays, if the one of what went comes back
+  pub sum_goes : (x : A) (old : List (Option A)) (number : ℕ) (new : List (Option A)) (shares more all : ℕ)
+      → Goes x old number new → more ≡ shares + 1 → shares + count_by is_some old ≡ all
+      → more + count_by is_some new ≡ all
+  sum_goes x old number new shares more all goes one sum =
+      let count = ap (λ l. count_by is_some l + 1) goes.given_up ∙ count_set old (number - 1) None x goes.here.has in
+      omega (arith, count, one, sum)
+
   -- the same number is held then
   pub count_stays : (x y : A) (old : List (Option A)) (number : ℕ) (new : List (Option A)) → Stays x y old number new
       → count_by is_some new ≡ count_by is_some old

@@ -32,53 +32,6 @@ pub struct StandaloneBoard {
     ghost shares: { shares_in (by_number transmitter receivers) ≡ all_shares },
 }
 
-/// Makes a receiver, keeps it under the next number, and returns the number. The room for the receiver is made first.
-fn make_receiver(
-    alloc: Global,
-    board: &Board,
-    transmitter: &mut Transmitter,
-    receivers: &mut Numbered<CopyReceiver>,
-) -> Result<Result<usize, SubscribeFault>, AllocError>
-    requires { AreReceiversOf board.now (by_number transmitter.old receivers.old) }
-    ensures numbered { AreReceiversOf board.now (by_number transmitter.new receivers.new) }
-    ensures made { IfOk result (λ made. IfOk made (λ number.
-        Subscribes (by_number transmitter.old receivers.old) number (by_number transmitter.new receivers.new))) }
-    ensures same { IfOk result (λ made. OnErr made
-        ((transmitter.new ≡ transmitter.old) × (held_in receivers.new ≡ held_in receivers.old))) }
-    ensures refused { IfOk result (λ made. IsSubscribedUnless (subscribe_refusal_of (shares_of transmitter.old)) made) }
-    ensures shares { shares_in (by_number transmitter.new receivers.new)
-        ≡ shares_in (by_number transmitter.old receivers.old) }
-{
-    receivers.reserve()?;
-    let receiver = match board.subscribe(alloc, transmitter) {
-        Ok(receiver) => receiver,
-        Err(fault) => return Ok(Err(fault)),
-    };
-    Ok(Ok(receivers.hold(receiver)))
-}
-
-/// Joins the receiver of this number, if it has not left.
-fn join_receiver(
-    board: &Board,
-    transmitter: &mut Transmitter,
-    receivers: &mut Numbered<CopyReceiver>,
-    number: usize,
-) -> Option<()>
-    requires { AreReceiversOf board.now (by_number transmitter.old receivers.old) }
-    ensures numbered { AreReceiversOf board.now (by_number transmitter.new receivers.new) }
-    ensures left { OnSome result
-        (LeavesAt (by_number transmitter.old receivers.old) number (by_number transmitter.new receivers.new)) }
-    ensures same { IfNone result
-        ((transmitter.new ≡ transmitter.old) × (held_in receivers.new ≡ held_in receivers.old)) }
-    ensures free { IfNone result (IsFree (held_in receivers.old) number) }
-    ensures shares { shares_in (by_number transmitter.new receivers.new)
-        ≡ shares_in (by_number transmitter.old receivers.old) }
-{
-    let receiver = receivers.take(number)?;
-    board.join(transmitter, receiver);
-    Some(())
-}
-
 impl StandaloneBoard {
     /// Makes an empty broadcast buffer.
     pub fn new(alloc: Global, capacity: u32) -> Result<Self, MakeFault>
@@ -108,7 +61,7 @@ impl StandaloneBoard {
         self.board.transmit(&mut self.transmitter, type_id, body)
     }
 
-    /// Makes a receiver, and returns its number.
+    /// Makes a receiver, and returns its number. The room for the receiver is made first.
     pub fn subscribe(&mut self, alloc: Global) -> Result<Result<usize, SubscribeFault>, AllocError>
         ensures refused { IfOk result (λ made.
             IsSubscribedUnless (subscribe_refusal_of (shares_of self.old.transmitter)) made) }
@@ -119,12 +72,11 @@ impl StandaloneBoard {
             × (held_in self.new.receivers ≡ held_in self.old.receivers))) }
         ensures board { self.new.board ≡ self.old.board }
     {
-        make_receiver(
-            alloc,
-            &self.board,
-            &mut self.transmitter,
-            &mut self.receivers,
-        )
+        self.receivers.reserve()?;
+        match self.board.subscribe(alloc, &mut self.transmitter) {
+            Ok(receiver) => Ok(Ok(self.receivers.hold(receiver))),
+            Err(fault) => Ok(Err(fault)),
+        }
     }
 
     /// Asks the receiver of this number for the next message. Returns `None` if there is no such receiver. Nothing has
@@ -149,12 +101,9 @@ impl StandaloneBoard {
         ensures free { IfNone result (IsFree (held_in self.old.receivers) number) }
         ensures board { self.new.board ≡ self.old.board }
     {
-        join_receiver(
-            &self.board,
-            &mut self.transmitter,
-            &mut self.receivers,
-            number,
-        )
+        let receiver = self.receivers.take(number)?;
+        self.board.join(&mut self.transmitter, receiver);
+        Some(())
     }
 
     /// Joins all receivers, in rising order of their numbers. The transmitter has all shares afterwards.

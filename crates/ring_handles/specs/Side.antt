@@ -8,11 +8,9 @@ use Rattle.ring_table.specs.declared.view.View.{View}
 use Rattle.ring_words.specs.Open.{ClaimAt}
 use Rattle.ring_rings.specs.Closing.{close_refusal_of}
 use Rattle.ring_rings.specs.declared.fault.CloseFault.{CloseFault}
-use Rattle.ring_rings.specs.declared.ring.Ring.{Ring}
-use Rattle.ring_rings.specs.declared.bodies.Bodies.{Ghosts}
 use Rattle.ring_rings.specs.declared.ring.Producer.{Producer}
 use Rattle.ring_rings.specs.declared.ring.Consumer.{Consumer}
-use Rattle.ring_rings.specs.Seats.{capacity_of, shares_of, start_of, view_of, IsConsumerOf, IsProducerOf}
+use Rattle.ring_rings.specs.Seats.{capacity_of, shares_of, start_of, IsConsumerOf, IsProducerOf}
 use Rattle.ring_handles.specs.declared.identity.Identity.{Identity}
 use Rattle.ring_ends.specs.Claiming.{NumberedClaims}
 use Rattle.ring_handles.specs.declared.ring.AnyProducer.{AnyProducer}

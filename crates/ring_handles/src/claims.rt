@@ -10,11 +10,7 @@ use ring_ends::{ClaimRefused, NumberFault, NumberedEnd};
 use ring_rings::{InSlots, Kind};
 
 /// Writes a message, by one try.
-pub(crate) fn write_in<K: Kind>(
-    end: &mut NumberedEnd<K, InSlots>,
-    type_id: i32,
-    body: &[u8],
-) -> i32
+pub(crate) fn write_in<K: Kind>(end: &mut NumberedEnd<K, InSlots>, type_id: i32, body: &[u8]) -> i32
     ensures kind { end.new.end.many ≡ end.old.end.many }
     ensures code { (i : Identity) → Wrote type_id body.now (side i end.old) (side i end.new) result }
 {

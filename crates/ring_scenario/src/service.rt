@@ -16,9 +16,9 @@ mod working;
 pub use closing::Served;
 use ring_board::{Board, CopyReceiver};
 use ring_counters::{CounterValues, ValueReader};
+use ring_ends::Numbered;
 use ring_rings::{ManyToOneRing, Producer};
 use ring_service::Conductor;
-use ring_ends::Numbered;
 
 /// A conductor with its ring, its broadcast buffer and its counters. It also has the listeners to its replies, and the
 /// watchers of the counters' values. Listeners are numbered from 1, and watchers are too. No number is given to two

@@ -1,8 +1,7 @@
-use Rattle.std.proofs.Common.{◌∙◌, [], ap, append-nil, refl, subst, sym}
-use Rattle.ring_table.specs.declared.view.View.{View}
+use Rattle.std.proofs.Common.{◌∙◌, [], ap, subst, sym}
 use Rattle.ring_table.specs.Views.{with_claims}
 use Rattle.ring_rings.proofs.HoldingLemmas.{one_open}
-use Rattle.ring_ends.specs.Claims.{aborted, claims_in}
+use Rattle.ring_ends.specs.Claims.{claims_in}
 use Rattle.ring_ends.specs.Claiming.{aborted_view, AreAllOpen}
 use Rattle.ring_ends.proofs.ClaimLemmas.{aborted_last, all_last}
 use Rattle.ring_ends.proofs.EndLemmas.{one_ring, open_of}

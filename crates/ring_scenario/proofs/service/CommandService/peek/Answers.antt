@@ -1,20 +1,31 @@
-use Rattle.std.proofs.Common.{◌-◌}
+use Rattle.std.proofs.Common.{◌∙◌, ◌+◌, ◌-◌, ap}
 use Rattle.std.proofs.lemmas.Result.{IfOk-weaker}
 use Rattle.ring_counters.specs.Seats.{IsReaderOf}
+use Rattle.ring_service.specs.Conducting.{value_shares_of}
 use Rattle.ring_ends.proofs.HeldLemmas.{count_stays, of_stays, stays, stays_same, vacated}
 use Rattle.ring_scenario.proofs.ServiceLemmas.{OnErr-from}
-use Rattle.ring_scenario.proofs.service.watching.load_at.Goals as goal
+use Rattle.ring_scenario.proofs.service.CommandService.peek.Goals as goal
 
 pub load-loaded-requires : goal.load-loaded-requires
-load-loaded-requires c = c.requires (c.args.number - 1) c.in_ok-watcher.watcher c.in_ok-watcher.ensures.taken.here.has
+load-loaded-requires c = c.args.self.now.watch.watchers (c.args.number - 1) c.in_ok-watcher.watcher
+    c.in_ok-watcher.ensures.taken.here.has
 
 pub put_back-requires : goal.put_back-requires
 put_back-requires c = vacated _ _ _ _ c.in_ok-watcher.ensures.taken
 
-pub returns-clause-watchers : goal.returns-clause-watchers
-returns-clause-watchers c =
+pub invariant_of-self-2-clause-watch : goal.invariant_of-self-2-clause-watch
+invariant_of-self-2-clause-watch c =
     let held = stays _ _ _ _ _ _ c.in_ok-watcher.ensures.taken c.put_back.ensures in
-    of_stays (IsReaderOf c.args.values.now) _ _ _ _ _ c.requires held c.load-loaded.ensures.reader
+    record {
+      manager = c.args.self.now.watch.manager;
+      watchers = of_stays (IsReaderOf c.args.self.now.values) _ _ _ _ _ c.args.self.now.watch.watchers held
+          c.load-loaded.ensures.reader;
+    }
+
+pub invariant_of-self-2-clause-value_shares : goal.invariant_of-self-2-clause-value_shares
+invariant_of-self-2-clause-value_shares c =
+    let held = stays _ _ _ _ _ _ c.in_ok-watcher.ensures.taken c.put_back.ensures in
+    ap (λ n. value_shares_of c.args.self.now.conductor + n) (count_stays _ _ _ _ _ held) ∙ c.args.self.now.value_shares
 
 pub returns-clause-loaded : goal.returns-clause-loaded
 returns-clause-loaded c =
@@ -34,6 +45,3 @@ returns-clause-refused c =
 
 pub returns-clause-here : goal.returns-clause-here
 returns-clause-here c = (c.in_ok-watcher.watcher, c.in_ok-watcher.ensures.taken.here)
-
-pub returns-clause-count : goal.returns-clause-count
-returns-clause-count c = count_stays _ _ _ _ _ (stays _ _ _ _ _ _ c.in_ok-watcher.ensures.taken c.put_back.ensures)
