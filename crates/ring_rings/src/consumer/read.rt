@@ -109,7 +109,8 @@ impl<K, B: Bodies> Ring<K, B> {
     /// of each message, unless it decides on the message by its header. No memory is taken.
     ///
     /// Stops with `Limit` after `limit` messages. Otherwise stops with `Block` at the end of the buffer, or with
-    /// `Unpublished` if no settled record was at the head. The read sets what it passes to 0, and then moves the head.
+    /// `Unpublished` if no settled record was at the head. The read then moves the head past what it passed. If bodies
+    /// are in words, it first sets these words to 0.
     pub fn read<H: Handler>(&self, consumer: &mut Consumer, limit: u32, handler: &mut H) -> ReadEnd
         requires consumer { IsConsumerOf self.now consumer.old }
         requires ready { H.ready handler.old }
