@@ -7,7 +7,7 @@ import os
 import statistics
 
 FILE = os.path.join(os.path.dirname(os.path.abspath(__file__)), "results.json")
-TWINS = ("-ar", "-sc", "-pb")
+TWINS = ("-ar", "-sc", "-pb", "-pb-batch")
 SETS = 3  # that a figure needs
 
 
@@ -63,12 +63,20 @@ def ratios(sets, key, other):
     return every
 
 
+def are_compared(contender, other):
+    """Whether the figures of a contender are kept against those of another one: each twin and ours, of a twin only `ar`
+    and ours, and of the rings of felter.jar also Agrona's algorithm in Java."""
+    if other.startswith("agrona-java"):
+        return contender.startswith("felter-java")
+    return other.endswith(("-ar",) if contender.endswith(TWINS) else TWINS) or other.startswith(("ours", "plain"))
+
+
 def against_twins(sets, key):
-    """A figure against each twin, and against ours, at the same point; that of a twin against `ar` alone."""
+    """A figure against each contender that it is compared with, at the same point."""
     workload, contender, size, threads, metric = key
-    found, endings = {}, ("-ar",) if contender.endswith(TWINS) else TWINS
+    found = {}
     for other in {it[1] for values in sets for it in values if it[0] == workload}:
-        if other == contender or not other.endswith(endings) and not other.startswith(("ours", "plain")):
+        if other == contender or not are_compared(contender, other):
             continue
         every = ratios(sets, key, (workload, other, size, threads, metric))
         rounds = [ratio for it in every for ratio in it]
@@ -109,9 +117,11 @@ def read_sets(paths):
 def about_sets(abouts, twins):
     """How sets were taken; `twins` says which twins they were measured with."""
     first = abouts[0]
+    short = any(it.get("quick") for it in abouts)
     same = ("cpu", "cores", "kernel", "reps", "fifo", "gated", "margin", "processors", "shared_cores")
     return {**{name: first[name] for name in same},
-            "sets": len(abouts), "twins": twins, "best": [round(min(it["best"].values()), 3) for it in abouts],
+            "sets": len(abouts), "short": short, "twins": twins,
+            "best": [round(min(it["best"].values()), 3) for it in abouts],
             "repeated": [it["repeated"] for it in abouts],
             "others": [[it["others_median"], it["others_worst"]] for it in abouts],
             "steal": [[it["steal_median"], it["steal_worst"]] for it in abouts]}

@@ -9,6 +9,10 @@ SIZES = (8, 32, 128, 1024)
 COMMAND = points.COMMAND
 
 
+# The same plain rings, into which 16 messages are written by one call of `write_batch`.
+BATCH_RINGS = (("plain one-to-one", "plain-o2o-batch"), ("plain many-to-one", "plain-m2o-batch"))
+
+
 def twin_of(contender):
     """The first part of the name of the twin that a contender of ours is compared with."""
     kind = contender.split("-")[1]
@@ -27,6 +31,11 @@ SECTIONS = (
     ("Several producers, one consumer: ns a message",
      [(f"{name}, {threads} producers, {size} bytes", "producers", ours, size, threads, "ns")
       for name, ours in (RINGS[2], RINGS[4]) for threads in (2, 4) for size in (8, 64)]),
+    ("One thread, batches of 16, each written by one call: ns a message", of_sizes(BATCH_RINGS, "batches", SIZES)),
+    ("One producer thread in batches of 16, one consumer thread: ns a message", of_sizes(BATCH_RINGS, "pair", SIZES)),
+    ("Several producers in batches of 16, one consumer: ns a message",
+     [(f"{BATCH_RINGS[1][0]}, {threads} producers, {size} bytes", "producers", BATCH_RINGS[1][1], size, threads, "ns")
+      for threads in (2, 4) for size in (8, 64)]),
     ("A command to the conductor and its reply back: ns",
      [(f"{name}, {said}", "trips", ours, COMMAND, 1, metric) for name, ours in RINGS[1:]
       for said, metric in (("mean", "mean"), *((f"p{part:g}", metric) for metric, part in points.PERCENTILES))]),
@@ -46,6 +55,15 @@ FORM_ROWS = tuple((f"plain {said}, {threads}: times `{twin}`", workload, ours, f
                   for threads, workload in (("one thread", "batches"), ("two threads", "pair"))
                   for twin in ("ar", "pb")
                   for said, ours in (("one-to-one", "plain-o2o"), ("many-to-one", "plain-m2o")))
+
+# Batches of plain rings that one call writes: label, workload, ours, bytes, threads. Each is compared with `ar`, which
+# writes the same messages one by one, and with `pb` and `ta`, which publish them together too.
+BATCH_ROWS = (
+    *((f"{name.removeprefix('plain ')}, {said}, {size:,} bytes", workload, ours, size, 1)
+      for name, ours in BATCH_RINGS for said, workload in (("one thread", "batches"), ("two threads", "pair"))
+      for size in (8, 128)),
+    *((f"many-to-one, 4 producers, {size} bytes", "producers", "plain-m2o-batch", size, 4) for size in (8, 64)),
+)
 
 # What has its bodies in words, against the same orders in C: by length, and then all others.
 LENGTH_ROWS = (
@@ -82,7 +100,7 @@ USER_ROWS = (
       for size in (8, 128, 1024)),
     *((f"many-to-one, 4 producers, {size} bytes", ("producers", size, 4, "ns"), "plain-m2o", OF_MANY)
       for size in (8, 64)),
-        *((f"one-to-one, command and reply, {said}", ("trips", COMMAND, 1, metric), "plain-o2o", OF_ONE)
+    *((f"one-to-one, command and reply, {said}", ("trips", COMMAND, 1, metric), "plain-o2o", OF_ONE)
       for said, metric in (("p50", "p50"), ("p99", "p99"), ("p99.9", "p999"))),
 )
 # A broadcast to two receivers: label, contender, bytes.
@@ -118,6 +136,11 @@ C_ROWS = (
 C_LENGTH_ROWS = tuple((f"plain many-to-one, {threads}, {said}", workload, f"felter-m2o{ending}", "plain-m2o", SIZES)
                       for threads, workload in (("one thread", "batches"), ("two threads", "pair"))
                       for said, ending in (("one message in each read", ""), ("read in batches", "-batch")))
+
+# The rings of felter.jar against Agrona's algorithm in Java: label, workload, ours, theirs, bytes.
+JAVA_ROWS = tuple((f"{name}, {said}, {size:,} bytes", workload, f"felter-java-{ring}", f"agrona-java-{ring}", size)
+                  for said, workload in (("one thread, batches of 16", "batches"), ("two threads", "pair"))
+                  for name, ring in (("many-to-one", "m2o"), ("one-to-one", "o2o")) for size in (8, 128, 1024))
 
 # Curves: of each picture what it shows, and its panels, (title, what x is, ticks, lines), a line being (name, colour,
 # dash, [(x, key)]).

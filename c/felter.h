@@ -32,9 +32,9 @@
  *      its own.
  *
  * Messages. A write copies a body into the ring, and a read copies the body out of the ring. The stores that a thread
- * made before its felter_write or felter_commit are visible to the consumer after the read that returned the message.
- * So a message may hold the address of an object. The consumer gets messages in the order of their claims. felter_write
- * makes a claim too.
+ * made before its felter_write, felter_write_batch or felter_commit are visible to the consumer after the read that
+ * returned the message. So a message may hold the address of an object. The consumer gets messages in the order of their
+ * claims. felter_write makes a claim too, and felter_write_batch makes one for each message.
  *
  * Numbers. If a call takes two handles, both must be of one ring, board, conductor, set of counters or shared counter.
  * Each of these structures gets a number when it is made. A call that takes two handles compares the numbers of their
@@ -319,12 +319,19 @@ enum felter_found {
 static inline int32_t felter_standing(felter_producer *producer, felter_consumer *consumer, int32_t *found,
                                       uint64_t *head);
 
-/* Writes messages, one after another, by felter_write. The buffer must have the layout that felter_read_batch writes.
- * The call stops at the first refusal, and returns its code. Even then it sets `written` to the number of messages that
- * were written. If the batch has no bytes, the call only tests the handle. The call is a loop in this header, so it is
- * not proved. Codes: those of felter_write, and FELTER_PUT_RANGE if a record is not completely inside the bytes. */
-static inline int32_t felter_write_batch(felter_producer *producer, const void *records, size_t bytes,
-                                         uint32_t *written);
+/* Writes the messages of a batch in their order. The buffer must have the layout that felter_read_batch writes. Only the
+ * padding after the last message may be missing. Messages that are next to one another in the ring are published by one
+ * store, so the consumer sees all of them at once. A batch of short messages costs less than single writes.
+ *
+ * The call tests all records before it writes the first message. If it refuses a record, it writes no message. Then it
+ * writes messages until all are written, or a try to write the next one is refused as felter_write would refuse it.
+ * `written` is set to the number of messages that were written. If the call returns FELTER_OK, all messages were
+ * written. After FELTER_NO_HANDLE and FELTER_WRONG_HANDLE, `written` is unchanged. Codes, in this order:
+ *   - FELTER_PUT_RANGE if a record is not completely inside the bytes, FELTER_BAD_TYPE, or FELTER_TOO_LONG. The first
+ *     record that is refused decides. FELTER_PUT_RANGE also if there are 2^32 bytes or more;
+ *   - FELTER_POSITION_LIMIT, FELTER_INSUFFICIENT_CAPACITY, and FELTER_CONTENDED for a many-to-one ring. The first
+ *     messages of the batch may have been written. */
+int32_t felter_write_batch(felter_producer *producer, const void *records, size_t bytes, uint32_t *written);
 
 /* Closes a ring of either kind, and empties the handle of its last producer. Nothing can be written afterwards. The
  * messages in the ring can still be read. Before this call, all other producers must have been joined by felter_join,

@@ -76,6 +76,7 @@ public:
     result<felter::sizes> sizes() { return detail::sizes_of(raw()->handle); }
     code write(std::int32_t type_id, bytes body) { return felter_write(raw(), type_id, body.data(), body.size()); }
     // Writes messages from a buffer with the layout that felter_read_batch writes, up to the first one that is refused.
+    // If a record has a bad type id or length, no message is written.
     felter::written write_batch(bytes records) {
         std::uint32_t count = 0;
         const std::int32_t why = felter_write_batch(raw(), records.data(), records.size(), &count);

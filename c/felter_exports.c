@@ -11,7 +11,6 @@
 #define felter_one_to_one_new felter_inline_one_to_one_new
 #define felter_one_to_one_new_at felter_inline_one_to_one_new_at
 #define felter_standing felter_inline_standing
-#define felter_write_batch felter_inline_write_batch
 #define felter_board_new felter_inline_board_new
 #define felter_board_new_at felter_inline_board_new_at
 #define felter_counters_new felter_inline_counters_new
@@ -28,7 +27,6 @@
 #undef felter_one_to_one_new
 #undef felter_one_to_one_new_at
 #undef felter_standing
-#undef felter_write_batch
 #undef felter_board_new
 #undef felter_board_new_at
 #undef felter_counters_new
@@ -71,11 +69,6 @@ int32_t felter_one_to_one_new_at(uint32_t capacity, uint64_t start, felter_produ
 int32_t felter_standing(felter_producer *producer, felter_consumer *consumer, int32_t *found, uint64_t *head);
 int32_t felter_standing(felter_producer *producer, felter_consumer *consumer, int32_t *found, uint64_t *head) {
     return felter_inline_standing(producer, consumer, found, head);
-}
-
-int32_t felter_write_batch(felter_producer *producer, const void *records, size_t bytes, uint32_t *written);
-int32_t felter_write_batch(felter_producer *producer, const void *records, size_t bytes, uint32_t *written) {
-    return felter_inline_write_batch(producer, records, bytes, written);
 }
 
 int32_t felter_board_new(uint32_t capacity, felter_transmitter *transmitter);

@@ -291,6 +291,17 @@ FELTER_GUARD int32_t felter_guarded_read_batch(felter_consumer *consumer, uint32
     return code;
 }
 
+FELTER_GUARD int32_t felter_guarded_write_batch(felter_producer *producer, const void *records, size_t bytes,
+                                                uint32_t *written) {
+    if (!producer) return felter_refuse("felter_write_batch", FELTER_NO_HANDLE);
+    if (!records && bytes) return felter_refuse("felter_write_batch", FELTER_NULL_POINTER);
+    if (!written) return felter_refuse("felter_write_batch", FELTER_NULL_POINTER);
+    FELTER_ENTER1("felter_write_batch", &producer->handle);
+    int32_t code = felter_write_batch(producer, records, bytes, written);
+    FELTER_LEAVE1();
+    return code;
+}
+
 FELTER_GUARD int32_t felter_guarded_close(felter_consumer *consumer, felter_producer *producer) {
     if (!consumer) return felter_refuse("felter_close", FELTER_NO_HANDLE);
     if (!producer) return felter_refuse("felter_close", FELTER_NO_HANDLE);
@@ -1211,32 +1222,6 @@ FELTER_GUARD int32_t felter_counters_new_in(void *memory, size_t length, uint32_
     return felter_guarded_counters_new_in_numbered(felter_next_number(), memory, length, count, reuse_ms, counters);
 }
 
-FELTER_GUARD int32_t felter_write_batch(felter_producer *producer, const void *records, size_t bytes,
-                                        uint32_t *written) {
-    const uint8_t *at = (const uint8_t *)records;
-    uint32_t shares = 0;
-    if (!producer) return felter_refuse("felter_write_batch", FELTER_NO_HANDLE);
-    if (!written || (!records && bytes)) return felter_refuse("felter_write_batch", FELTER_NULL_POINTER);
-    *written = 0;
-    /* Nothing is written, so no write tests the handle. */
-    if (bytes == 0) return felter_guarded_shares(producer, &shares);
-    while (bytes > 0) {
-        felter_record record;
-        int32_t code;
-        if (bytes < sizeof record) return FELTER_PUT_RANGE;
-        __builtin_memcpy(&record, at, sizeof record);
-        if (record.len > bytes - sizeof record) return FELTER_PUT_RANGE;
-        if (record.type_id != (int32_t)record.type_id) return FELTER_BAD_TYPE;
-        code = felter_guarded_write(producer, (int32_t)record.type_id, at + sizeof record, (size_t)record.len);
-        if (code != FELTER_OK) return code;
-        *written += 1;
-        if (FELTER_SPAN(record.len) >= bytes) break;
-        bytes -= FELTER_SPAN(record.len);
-        at += FELTER_SPAN(record.len);
-    }
-    return FELTER_OK;
-}
-
 FELTER_GUARD int32_t felter_standing(felter_producer *producer, felter_consumer *consumer, int32_t *found,
                                      uint64_t *head) {
     uint64_t first = 0, claimed = 0, last = 0, tail = 0;
@@ -1282,6 +1267,7 @@ FELTER_GUARD int32_t felter_standing(felter_producer *producer, felter_consumer 
 #define felter_peek felter_guarded_peek
 #define felter_take felter_guarded_take
 #define felter_read_batch felter_guarded_read_batch
+#define felter_write_batch felter_guarded_write_batch
 #define felter_close felter_guarded_close
 #define felter_finish felter_guarded_finish
 #define felter_board_new_numbered felter_guarded_board_new_numbered

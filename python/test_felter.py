@@ -88,6 +88,44 @@ class Rings(Case):
         self.refuses(Number.BAD_TYPE, producer.write_all, [(1, b"a"), (0, b"")])
         self.assertEqual(list(consumer), [Message(1, b"a")])
 
+    def test_batches_are_written_by_one_call(self):
+        for producer, consumer in (felter.one_to_one(512), felter.many_to_one(512)):
+            messages = [Message(1 + number, body_of(1, number)) for number in range(100)]
+            read = []
+            while len(read) < 100:
+                before = len(read)
+                # (a body may be any buffer, and a message any pair)
+                batch = ([it.type_id, bytearray(it.body)] for it in messages[before:])
+                written = producer.write_batch(batch)
+                read += consumer
+                self.assertEqual(len(read), before + written)
+            self.assertEqual(read, messages)
+            self.assertEqual(producer.write_batch(messages=()), 0)
+            # If one message is refused, none is written.
+            self.refuses(Number.BAD_TYPE, producer.write_batch, [(1, b"a"), (0, b"")])
+            self.refuses(Number.TOO_LONG, producer.write_batch, [(1, b"a"), (1, bytes(65))])
+            for batch, kind in (
+                (1, TypeError), ([1], TypeError), ([(1, 2, 3)], ValueError), ([(1,)], ValueError),
+                ([(1 << 31, b"")], OverflowError), ([("a", b"")], TypeError), ([(1, "text")], TypeError),
+            ):
+                self.assertRaises(kind, producer.write_batch, batch)
+            self.assertRaises(ZeroDivisionError, producer.write_batch, ((1, b"" if it else 1 // it) for it in (1, 0)))
+            self.assertIsNone(consumer.read())
+            producer.free()
+            self.refuses(Number.NO_HANDLE, producer.write_batch, [(1, b"a")])
+
+    def test_a_batch_may_write_by_its_producer(self):
+        producer, consumer = felter.one_to_one(1024)
+
+        def messages():
+            for number in range(3):
+                self.assertEqual(producer.write_batch([(9, b"%d" % number)]), 1)
+                yield 1, bytes(100 - number)
+
+        self.assertEqual(producer.write_batch(messages()), 3)
+        inner = [Message(9, b"%d" % number) for number in range(3)]
+        self.assertEqual(list(consumer), inner + [Message(1, bytes(100 - number)) for number in range(3)])
+
     def test_two_threads_write_and_a_third_reads(self):
         count = 1500
         first, consumer = felter.many_to_one(1024)

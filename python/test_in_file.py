@@ -103,7 +103,7 @@ class InFile(unittest.TestCase):
             self.assertEqual(felter.recover(other), recovered)
         # a new ring goes on with them
         producer, consumer = felter.many_to_one_in_file(self.path + ".new", 1024)
-        self.assertEqual(producer.write_all(recovered.messages), 3)
+        self.assertEqual(producer.write_batch(recovered.messages), 3)
         os.rename(self.path + ".new", self.path)
         with open(self.path, "rb") as file:
             self.assertEqual(felter.recover(file.read()), felter.Recovered(recovered.messages, 0))

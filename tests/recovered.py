@@ -24,13 +24,15 @@ def bytes_of(words):
 
 def ring(rng):
     """The words and the slots of a ring that was killed: records of all states from the head on, of which some have no
-    mark yet. Words that are no marks are any numbers up to their positions."""
+    mark yet. Words that are no marks are any numbers up to their positions. Committed records may be in a run, whose
+    mark is at the index `begin`."""
     capacity = rng.choice((128, 256, 512))
     size = capacity // 8
     words, slots = [0] * (size + TRAILER), [rng.getrandbits(64) for _ in range(size)]
     head = at = 8 * rng.randrange(4 * size)
     for position in range(head, head + capacity, 8):
         words[position % capacity // 8] = rng.choice((0, position, rng.randrange(position + 1)))
+    begin, inside = None, []
     while rng.random() < 0.9:
         length = 8 + rng.randrange(size + 1)
         span, room = -(-length // 8) * 8, capacity - at % capacity
@@ -41,9 +43,19 @@ def ring(rng):
         if place > at and state != "moved":
             words[at % capacity // 8] = place + PADDING
         if state not in ("padded", "moved"):
-            words[place % capacity // 8] = place + span + state
-            slots[place % capacity // 8] = header_of(length, rng.choice((1, rng.randrange(1, 2**31))))
+            index = place % capacity // 8
+            if state == 0 and begin is not None and place == at and rng.random() < 0.5:
+                inside.append((index, begin))
+            else:
+                begin = index
+            words[begin] = place + span + state
+            slots[index] = header_of(length, rng.choice((1, rng.randrange(1, 2**31))))
+        if state != 0:
+            begin = None
         at = place + span
+    for index, first in inside:
+        # (a consumer that stopped inside of the run left its mark there)
+        words[index] = rng.choice((words[index], words[first]))
     words[size + 16], words[size + 48] = at, head
     return words, slots
 
@@ -74,10 +86,12 @@ def killed():
 
 def shown_at(at, mark, slot):
     """The length and the type id of the header that a mark at a position shows. That of an open record has the type id
-    1, and its body fills the record. One that makes no sense shows 1 and 0."""
+    1, and its body fills the record. A committed record may end before the mark's end, which is then that of a run. One
+    that makes no sense shows 1 and 0."""
     kind, (length, type_id) = mark % 8, struct.unpack("<ii", struct.pack("<Q", slot))
     span = mark - kind - at
     has_end = length > 0 and -(-length // 8) * 8 == span
+    is_of_run = length > 0 and -(-length // 8) * 8 <= span
     if not 8 <= span < 2**31:
         return 1, 0
     if kind == PADDING:
@@ -86,7 +100,7 @@ def shown_at(at, mark, slot):
         return -span, 1
     if kind == ABORTED and has_end:
         return length, -1
-    return (length, type_id) if kind == 0 and has_end and type_id not in (-1, -2) else (1, 0)
+    return (length, type_id) if kind == 0 and is_of_run and type_id not in (-1, -2) else (1, 0)
 
 
 def recovered(words, slots):
@@ -103,11 +117,19 @@ def recovered(words, slots):
     if tail - head > capacity:
         return f"TailTooFar: head {head}, tail {tail}", [], 0
     data, end, messages, is_open = bytes_of(slots), head, [], 0
+    # (`next_at` is the end of the last committed record, and `run` is the end of its run)
+    next_at, run = head, head
     for at in range(head, tail, 8):
         index = at % capacity
-        if words[index // 8] <= at:
+        word = words[index // 8]
+        mark = run if word <= at and at == next_at else word
+        if mark <= at:
             continue
-        length, type_id = shown_at(at, words[index // 8], slots[index // 8])
+        length, type_id = shown_at(at, mark, slots[index // 8])
+        if at < run and mark != run:
+            length, type_id = 1, 0
+        if mark % 8 == 0:
+            next_at, run = at + -(-abs(length) // 8) * 8, mark
         count = abs(length)
         span = -(-count // 8) * 8
         if at < end or not 8 <= count <= 8 + size or index + span > capacity or at + span > tail:

@@ -28,13 +28,22 @@ def senseless(at, rng):
     the header, or the slot has no header of a message."""
     end, kind = at + 8 * rng.randrange(1, 4), rng.choice((0, 2, 3))
     return rng.choice(((end + rng.randrange(4, 8), header_of(end - at, 5)), (end + kind, header_of(end - at + 8, 5)),
-                       (end + kind, header_of(at - end, 5)), (end + kind, header_of(end - at, rng.choice((0, -1))))))
+                       (end + 8 + rng.choice((2, 3)), header_of(end - at, 5)), (end + kind, header_of(at - end, 5)),
+                       (end + kind, header_of(end - at, rng.choice((0, -1))))))
+
+
+def senseless_in_run(at, tail, rng):
+    """The end of a run that goes on at a position, and the slot there, of which no record of the run begins."""
+    end = at + 8 * rng.randrange(1, min(4, (tail - at) // 8) + 1)
+    length, type_id = rng.choice(((end - at + 8, 5), (at - end, 5), (end - at, 0), (end - at, -1)))
+    return end, header_of(length, type_id)
 
 
 def split(image, rng):
     """The words and the slots of a plain ring, and the image of a ring that is listed as this plain ring is. That image
     is the given one, but the first header that no record has is one with the length 1: no mark shows another one. Words
-    that are no marks, and slots that no record has, have any contents."""
+    that are no marks, and slots that no record has, have any contents. Committed records may be in a run, whose mark is
+    at the index `begin`."""
     words = [int.from_bytes(image[at:at + 8], "little") for at in range(0, len(image), 8)]
     size = len(words) - 96
     slots, marks = [rng.getrandbits(64) for _ in range(size)], words[:]
@@ -45,6 +54,7 @@ def split(image, rng):
         at = head
     else:
         at = tail
+    begin, inside = None, []
     while at < tail:
         index = at // 8 % size
         length, type_id = struct.unpack("<ii", struct.pack("<Q", words[index]))
@@ -55,14 +65,30 @@ def split(image, rng):
         if (not 8 <= abs(length) <= 8 + size or index + span > size or at + 8 * span > tail
                 or not is_passed and type_id < 1):
             words[index] = 1
-            marks[index], slots[index] = senseless(at, rng)
+            if begin is not None and rng.random() < 0.5:
+                marks[begin], slots[index] = senseless_in_run(at, tail, rng)
+            else:
+                marks[index], slots[index] = senseless(at, rng)
             break
-        kind = rng.choice((1, 3)) if is_passed else 2 if length < 0 else 0
-        marks[index] = at + 8 * span + kind
+        # (the length of padding is a multiple of 8)
+        kind = rng.choice((1, 3) if length % 8 == 0 else (3,)) if is_passed else 2 if length < 0 else 0
+        if kind == 0 and begin is not None and rng.random() < 0.5:
+            inside.append((index, begin))
+        else:
+            begin = index
+        marks[begin] = at + 8 * span + kind
+        if kind != 0:
+            begin = None
         if kind != 1:
             slots[index:index + span] = words[index:index + span]
             slots[index] = header_of(abs(length), rng.randrange(1, 2**31) if is_passed else type_id)
         at += 8 * span
+    if begin is not None and rng.random() < 0.05:
+        # (the run ends above the tail)
+        marks[begin], words[begin] = tail + 8 * rng.randrange(1, 4), 1
+    for index, first in inside:
+        # (a consumer stopped inside of the run; and no word there is looked at)
+        marks[index] = rng.choice((marks[index], marks[index], marks[first], rng.getrandbits(64)))
     return tuple(b"".join(it.to_bytes(8, "little") for it in part) for part in (marks, slots, words))
 
 

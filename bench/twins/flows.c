@@ -27,17 +27,22 @@ static void open_batch(struct batch *batch, const struct request *request) {
     }
 }
 
-/* Writes messages whose first words count up: whether there was room for all. */
-static bool write_at_once(struct ring *ring, struct batch *batch, uint32_t size, uint64_t first, uint64_t count) {
+/* Gives messages of a batch first words that count up. */
+static void number_batch(struct batch *batch, uint32_t size, uint64_t first, uint64_t count) {
     for (uint64_t k = 0; k < count; k++) {
         uint64_t word = first + k;
         memcpy(batch->bodies + k * size, &word, 8);
     }
-#if HAS_CLAIMS
-    (void)ring;
-    wrong("this ring has no batches");
+}
+
+/* Writes some of the messages of a batch from one on: how many, or a refusal. */
+static int32_t write_at_once(struct ring *ring, const struct request *request, struct batch *batch, uint64_t from,
+                             uint64_t count) {
+#if HAS_BATCHES
+    return ring_write_batch(ring, request->is_for_one, batch->messages + from, (uint32_t)(count - from));
 #else
-    return ring_write_batch(ring, batch->messages, (uint32_t)count) == 0;
+    (void)ring, (void)request, (void)batch, (void)from, (void)count;
+    wrong("this ring has no batches");
 #endif
 }
 
@@ -54,8 +59,8 @@ static void add(void *with, int32_t type, const uint8_t *body, uint32_t len) {
     sum->count++;
 }
 
-static void write_batch(struct ring *ring, const struct request *request, uint8_t *body, uint64_t from,
-                        uint64_t count) {
+static void write_each(struct ring *ring, const struct request *request, uint8_t *body, uint64_t from,
+                       uint64_t count) {
     for (uint64_t number = from; number < from + count; number++) {
         memcpy(body, &number, 8);
         if (ring_write(ring, request->is_for_one, MESSAGE, body, request->size)) wrong("a write was refused");
@@ -73,8 +78,12 @@ uint64_t run_batches(const struct request *request, uint64_t times) {
     uint64_t began = now_ns();
     for (uint64_t written = 0; written < times;) {
         uint64_t count = times - written < BATCH ? times - written : BATCH;
-        if (!request->in_batches) write_batch(&ring, request, body, written, count);
-        else if (!write_at_once(&ring, &batch, request->size, written, count)) wrong("a batch was refused");
+        if (request->in_batches) {
+            number_batch(&batch, request->size, written, count);
+            if (write_at_once(&ring, request, &batch, 0, count) != (int32_t)count) wrong("a batch was refused");
+        } else {
+            write_each(&ring, request, body, written, count);
+        }
         written += count;
         for (int turns = 0; sum.count < written; turns++) {
             ring_read(&ring, LIMIT, add, &sum);
@@ -103,10 +112,15 @@ static void produce_batches(struct producer *producer) {
     struct batch batch;
     open_batch(&batch, producer->request);
     for (uint64_t number = 0, count; number < producer->messages; number += count) {
-        uint64_t left = producer->messages - number, first = producer->id << 48 | number;
+        uint64_t left = producer->messages - number;
         unsigned turns = 0;
         count = left < BATCH ? left : BATCH;
-        while (!write_at_once(producer->ring, &batch, producer->request->size, first, count)) rest(&turns);
+        number_batch(&batch, producer->request->size, producer->id << 48 | number, count);
+        for (uint64_t written = 0; written < count;) {
+            int32_t some = write_at_once(producer->ring, producer->request, &batch, written, count);
+            if (some > 0) written += (uint64_t)some;
+            else rest(&turns);
+        }
     }
     free(batch.bodies);
 }

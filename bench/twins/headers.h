@@ -5,9 +5,13 @@
 
 #define HAS_MARKS 0
 
-static inline struct header load_record(const uint8_t *word, const uint8_t *slot, uint64_t place) {
-    (void)slot, (void)place;
+static inline struct header load_record(const uint8_t *word, const uint8_t *slot, uint64_t place, uint64_t *run) {
+    (void)slot, (void)place, (void)run;
     return load_header(word);
+}
+
+static inline void leave_run(uint8_t *word, uint64_t place, uint64_t run) {
+    (void)word, (void)place, (void)run;
 }
 
 static inline void store_padding(uint8_t *word, uint64_t place, uint64_t bytes) {

@@ -14,7 +14,7 @@ struct ring {
     uint8_t *scratch; /* the consumer's copy of a body */
     uint64_t capacity;
     _Alignas(APART) uint64_t own_tail; /* of the producer of a one-to-one ring */
-    _Alignas(APART) uint64_t own_head; /* of the consumer */
+    _Alignas(APART) uint64_t own_head, run; /* of the consumer: its head, and the end of the run that it found last */
 };
 
 static inline void ring_open(struct ring *ring, uint64_t capacity, uint64_t start) {
@@ -118,10 +118,15 @@ static inline int ring_write(struct ring *ring, bool is_for_one, int32_t type, c
     return 0;
 }
 
+#if HAS_BATCHES
+#include "runs.h"
+#endif
+
 /* Gives what was passed back to the producers. */
 static inline void give_back(struct ring *ring, uint64_t index, uint64_t bytes) {
     clear_block(ring->words + index, bytes);
     ring->own_head += bytes;
+    leave_run(ring->words + index_of(ring, ring->own_head), ring->own_head, ring->run);
     store(in_trailer(ring, RING_HEAD), ring->own_head);
 }
 
@@ -135,7 +140,7 @@ static inline uint32_t ring_read(struct ring *ring, uint32_t limit, handler on, 
     uint32_t messages = 0;
     while (bytes < block && messages < limit) {
         uint64_t at = index + bytes;
-        struct header header = load_record(ring->words + at, ring->slots + at, start + bytes);
+        struct header header = load_record(ring->words + at, ring->slots + at, start + bytes, &ring->run);
         if (header.length <= 0) break;
         if (header.type != PADDING) {
             uint32_t len = (uint32_t)header.length - HEADER;
@@ -156,7 +161,7 @@ static inline uint32_t ring_controlled_read(struct ring *ring, uint32_t limit, c
     enum action action = ACT_CONTINUE;
     while (bytes < block && messages < limit && action != ACT_BREAK) {
         uint64_t at = index + bytes;
-        struct header header = load_record(ring->words + at, ring->slots + at, start + bytes);
+        struct header header = load_record(ring->words + at, ring->slots + at, start + bytes, &ring->run);
         if (header.length <= 0) break;
         if (header.type != PADDING) {
             uint32_t len = (uint32_t)header.length - HEADER;

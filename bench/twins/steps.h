@@ -3,6 +3,7 @@
  *   load, store                    a control word
  *   load_record                    the header of the record at a place of a ring. Its length is not positive if the
  *                                  record is not settled
+ *   leave_run                      what shows the rest of a run, before the head is stored inside the run
  *   store_padding                  what shows padding
  *   open_record                    what shows a claim
  *   commit_record, abort_record    what shows that a claim is settled
@@ -15,7 +16,8 @@
  *
  * A record of a ring has a word and a slot, which is the memory of its header and body. HAS_MARKS says whether the word
  * is a mark, and the slots are a block of their own. Otherwise the word is the header, and the slot is at the same
- * address. HAS_CLAIMS says whether a ring has claims and takes many producers; that of `ta` has batches instead. */
+ * address. HAS_CLAIMS says whether a ring has claims and takes many producers, and HAS_BATCHES whether it publishes
+ * several messages at once. */
 #ifndef TWINS_STEPS_H
 #define TWINS_STEPS_H
 
@@ -44,5 +46,6 @@
 #else
 #define HAS_CLAIMS 1
 #endif
+#define HAS_BATCHES (HAS_MARKS || !HAS_CLAIMS)
 
 #endif

@@ -53,8 +53,10 @@ static inline void lay_record(struct ring *ring, const struct room *room, const 
     put_body(at + HEADER, message->body, message->len);
 }
 
-/* Writes all messages of a batch and publishes them by one store: 0, or a refusal, and then none is written. */
-static inline int ring_write_batch(struct ring *ring, const struct message *messages, uint32_t count) {
+/* Writes all messages of a batch and publishes them by one store: how many, or a refusal, and then none is written. */
+static inline int32_t ring_write_batch(struct ring *ring, bool is_for_one, const struct message *messages,
+                                       uint32_t count) {
+    (void)is_for_one;
     uint64_t end = ring->own_tail;
     for (uint32_t k = 0; k < count; k++) {
         int refusal = test_message(ring->capacity, messages[k].type, messages[k].len);
@@ -72,13 +74,13 @@ static inline int ring_write_batch(struct ring *ring, const struct message *mess
     }
     ring->own_tail = end;
     store(in_trailer(ring, RING_TAIL), end);
-    return 0;
+    return (int32_t)count;
 }
 
 /* Writes a message: 0, or a refusal. */
 static inline int ring_write(struct ring *ring, bool is_for_one, int32_t type, const uint8_t *body, uint32_t len) {
-    (void)is_for_one;
-    return ring_write_batch(ring, &(struct message){body, len, type}, 1);
+    int32_t written = ring_write_batch(ring, is_for_one, &(struct message){body, len, type}, 1);
+    return written < 0 ? written : 0;
 }
 
 /* Gives what is before a place back to the producer. */

@@ -59,9 +59,15 @@ static const struct entry {
     {"producers", "m2o-" TWIN, false, false, FLOW, FLOW},
     {"trips", "m2o-" TWIN, false, false, TRIPS, TRIPS},
     {"storm", "storm-" TWIN, false, false, STORM, STORM},
-#else
+#endif
+#if HAS_BATCHES
     {"batches", "o2o-" TWIN "-batch", true, true, BATCHES, BATCHES},
     {"pair", "o2o-" TWIN "-batch", true, true, FLOW, FLOW},
+#endif
+#if HAS_BATCHES && HAS_CLAIMS
+    {"batches", "m2o-" TWIN "-batch", false, true, BATCHES, BATCHES},
+    {"pair", "m2o-" TWIN "-batch", false, true, FLOW, FLOW},
+    {"producers", "m2o-" TWIN "-batch", false, true, FLOW, FLOW},
 #endif
 #if !HAS_MARKS && HAS_CLAIMS /* (those of `pb` would be those of `sc`, and those of `ta` those of `ar`) */
     {"broadcast", "board-" TWIN, false, false, BROADCAST, BROADCAST},

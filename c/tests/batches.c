@@ -97,9 +97,10 @@ static void written_batches(void) {
     EXPECT(FELTER_OK, felter_write_batch(&producer, words, used - 7, &written));
     CHECK(written == EACH);
     expect_singly(&consumer, 0, EACH);
+    /* If one record is refused, no message is written. */
     EXPECT(FELTER_PUT_RANGE, felter_write_batch(&producer, words, used - 8, &written));
-    CHECK(written == EACH - 1);
-    expect_singly(&consumer, 0, EACH - 1);
+    CHECK(written == 0);
+    written = 9;
     EXPECT(FELTER_PUT_RANGE, felter_write_batch(&producer, words, 15, &written));
     CHECK(written == 0);
     EXPECT(FELTER_OK, felter_write_batch(&producer, NULL, 0, &written));
@@ -107,6 +108,17 @@ static void written_batches(void) {
     words[1] = (uint64_t)1 << 40;
     EXPECT(FELTER_BAD_TYPE, felter_write_batch(&producer, words, used, &written));
     words[1] = 10;
+    /* The second message begins at the fourth word. The first record that is refused decides. */
+    words[3] = UINT64_MAX;
+    EXPECT(FELTER_PUT_RANGE, felter_write_batch(&producer, words, used, &written));
+    words[3] = 0;
+    words[4] = 0;
+    EXPECT(FELTER_BAD_TYPE, felter_write_batch(&producer, words, used - 8, &written));
+    words[4] = (uint64_t)-11;
+    EXPECT(FELTER_BAD_TYPE, felter_write_batch(&producer, words, used, &written));
+    words[4] = 11;
+    CHECK(written == 0);
+    expect_none(&consumer);
     /* They take 16, 8, 24, 16 and 16 bytes. */
     EXPECT(FELTER_OK, felter_write_batch(&second, words, used, &written));
     EXPECT(FELTER_INSUFFICIENT_CAPACITY, felter_write_batch(&second, words, used, &written));
@@ -115,12 +127,73 @@ static void written_batches(void) {
     felter_free(&consumer.handle);
     felter_free(&second.handle);
     felter_free(&sink.handle);
+    written = 9;
     EXPECT(FELTER_NO_HANDLE, felter_write_batch(&producer, words, used, &written));
+    EXPECT(FELTER_OK, felter_many_to_one_new(1024, &producer, &consumer));
+    EXPECT(FELTER_WRONG_HANDLE, felter_write_batch((felter_producer *)(void *)&consumer, words, used, &written));
+    CHECK(written == 9);
+    felter_free(&producer.handle);
+    felter_free(&consumer.handle);
+}
+
+/* The i-th of many messages has the type id i + 1, and i % 33 bytes. */
+static size_t lay_many(uint8_t *buffer, uint32_t count) {
+    size_t at = 0;
+    for (uint32_t i = 0; i < count; i++) {
+        felter_record record = {i % 33, i + 1};
+        memcpy(buffer + at, &record, sizeof record);
+        memset(buffer + at + sizeof record, (int)i, record.len);
+        at += FELTER_SPAN(record.len);
+    }
+    return at;
+}
+
+/* Many messages by one call, beside an open claim, and up to the end of the room. */
+static void many_at_once(int many) {
+    static uint8_t records[1 << 15];
+    felter_producer producer = FELTER_EMPTY;
+    felter_consumer consumer = FELTER_EMPTY;
+    uint8_t body[32];
+    uint64_t claim, head, tail, longer = 257;
+    uint32_t written = 9;
+    size_t used = lay_many(records, 500);
+    if (many) EXPECT(FELTER_OK, felter_many_to_one_new(2048, &producer, &consumer));
+    else EXPECT(FELTER_OK, felter_one_to_one_new(2048, &producer, &consumer));
+    /* One record in the last place is too long. */
+    memset(records + used, 0, 300);
+    memcpy(records + used, &longer, sizeof longer);
+    records[used + 8] = 1;
+    EXPECT(FELTER_TOO_LONG, felter_write_batch(&producer, records, used + FELTER_SPAN(longer), &written));
+    CHECK(written == 0);
+    expect_none(&consumer);
+    EXPECT(FELTER_OK, felter_claim(&producer, 1000, 1, &claim));
+    for (size_t at = 0, from = 0; at < used; from += written) {
+        int32_t code = felter_write_batch(&producer, records + at, used - at, &written);
+        CHECK(code == FELTER_OK || code == FELTER_INSUFFICIENT_CAPACITY);
+        CHECK(written > 0 && (code == FELTER_OK) == (from + written == 500));
+        if (from == 0) {
+            CHECK(written > 64);
+            expect_none(&consumer);
+            EXPECT(FELTER_OK, felter_commit(&producer, claim));
+            expect_message(&consumer, 1000, (const uint8_t[1]){0}, 1);
+        }
+        EXPECT(FELTER_OK, felter_positions(&producer, &head, &tail));
+        CHECK(tail - head <= 2048);
+        for (size_t i = from; i < from + written; i++) {
+            memset(body, (int)i, sizeof body);
+            expect_message(&consumer, (int32_t)i + 1, body, i % 33);
+            at += FELTER_SPAN(i % 33);
+        }
+        expect_none(&consumer);
+    }
+    felter_free(&producer.handle);
+    felter_free(&consumer.handle);
 }
 
 int main(void) {
     for (int many = 0; many < 2; many++) batches(many);
     written_batches();
+    for (int many = 0; many < 2; many++) many_at_once(many);
     puts("batches: each answer as it should be");
     return 0;
 }

@@ -28,8 +28,9 @@ int main(void) {
     EXPECT(FELTER_NO_HANDLE, felter_write_batch(NULL, buffer, 0, &written));
     EXPECT(FELTER_NO_HANDLE, felter_write_batch(NULL, NULL, 1, NULL));
     CHECK(written == 7);
-    EXPECT(FELTER_OK, felter_write_batch(&producer, NULL, 0, &written));
     EXPECT(FELTER_NO_HANDLE, felter_write_batch(&empty, NULL, 0, &written));
+    CHECK(written == 7);
+    EXPECT(FELTER_OK, felter_write_batch(&producer, NULL, 0, &written));
     CHECK(written == 0);
     written = 7;
     EXPECT(FELTER_OK, felter_write(&producer, 1, NULL, 0));

@@ -94,8 +94,8 @@ void batches() {
     CHECK(ring.consumer.read(room).value().body.text() == "abc" && ring.consumer.read(room).value().type_id == 6);
     records[1].head.type_id = 0;
     written = ring.producer.write_batch({records, sizeof records});
-    CHECK(written.count == 1 && written.why == FELTER_BAD_TYPE);
-    CHECK(ring.consumer.read(room).value().body.text() == "abc");
+    CHECK(written.count == 0 && written.why == FELTER_BAD_TYPE);
+    CHECK(ring.consumer.read(room).code() == FELTER_NO_MESSAGE);
     CHECK(felter::producer().write_batch({}).why == FELTER_NO_HANDLE);
 }
 

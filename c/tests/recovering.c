@@ -259,22 +259,24 @@ static void damage(void) {
             "the tail is more than the capacity after the head: head 16, tail 280");
     damaged(tail, (uint64_t)-8, FELTER_TAIL_TOO_FAR,
             "the tail is more than the capacity after the head: head 16, tail 18446744073709551608");
-    /* (marks that make no sense: an end in its own header, a kind above 3, and another end than that of the slot) */
+    /* (marks that make no sense: an end in its own header, and a kind above 3) */
     damaged(words + 16, 16 + 1, FELTER_BAD_HEADER_LENGTH, LENGTH_TEXT "16 of the buffer, length 1");
     damaged(words + 16, 40 + 4, FELTER_BAD_HEADER_LENGTH, LENGTH_TEXT "16 of the buffer, length 1");
     damaged(words + 16, 40 + 7, FELTER_BAD_HEADER_LENGTH, LENGTH_TEXT "16 of the buffer, length 1");
-    damaged(words + 16, 48, FELTER_BAD_HEADER_LENGTH, LENGTH_TEXT "16 of the buffer, length 1");
+    /* (a run of two records that would end inside the second one) */
+    damaged(words + 16, 48, FELTER_BAD_HEADER_LENGTH, LENGTH_TEXT "40 of the buffer, length 1");
+    /* (an end that the slot's header does not have, and an end above the tail) */
     damaged(words + 16, 32 + ABORTED, FELTER_BAD_HEADER_LENGTH, LENGTH_TEXT "16 of the buffer, length 1");
     damaged(words + 16, (uint64_t)-8, FELTER_BAD_HEADER_LENGTH, LENGTH_TEXT "16 of the buffer, length 1");
-    damaged(slots + 16, header(7, 8), FELTER_BAD_HEADER_LENGTH, LENGTH_TEXT "16 of the buffer, length 1");
+    damaged(slots + 16, header(7, 8), FELTER_BAD_HEADER_LENGTH, LENGTH_TEXT "16 of the buffer, length 7");
     damaged(slots + 16, header(-18, 8), FELTER_BAD_HEADER_LENGTH, LENGTH_TEXT "16 of the buffer, length 1");
     damaged(slots + 40, header(17, 9), FELTER_BAD_HEADER_LENGTH, LENGTH_TEXT "40 of the buffer, length 1");
-    /* (longer than a message, across the tail, inside another record) */
+    /* (longer than a message, across the tail, inside another record: there a mark has the end of the run, or none) */
     damaged(words + 16, 64 + OPEN, FELTER_BAD_HEADER_LENGTH, LENGTH_TEXT "16 of the buffer, length -48");
     damaged(words + 40, 64 + OPEN, FELTER_BAD_HEADER_LENGTH, LENGTH_TEXT "40 of the buffer, length -24");
     damaged(words + 40, 64 + PADDING, FELTER_BAD_HEADER_LENGTH, LENGTH_TEXT "40 of the buffer, length 24");
     damaged(words + 16, 48 + PADDING, FELTER_BAD_HEADER_LENGTH, LENGTH_TEXT "40 of the buffer, length 12");
-    damaged(words + 24, 32 + OPEN, FELTER_BAD_HEADER_LENGTH, LENGTH_TEXT "24 of the buffer, length -8");
+    damaged(words + 24, 32 + OPEN, FELTER_BAD_HEADER_LENGTH, LENGTH_TEXT "24 of the buffer, length 1");
     damaged(slots + 16, header(18, 0), FELTER_BAD_HEADER_TYPE, TYPE_TEXT "16 of the buffer, type id 0");
     damaged(slots + 40, header(12, -3), FELTER_BAD_HEADER_TYPE, TYPE_TEXT "40 of the buffer, type id -3");
     /* (what is outside of the head and the tail is not looked at) */

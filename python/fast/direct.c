@@ -215,6 +215,7 @@ static const struct {
     PyMethodDef method;
 } METHODS[] = {
     {"Producer.write", {"write", NAMED(producer_write), "($self, type_id, body, timeout=0)"}},
+    {"Producer.write_batch", {"write_batch", NAMED(producer_write_batch), "($self, messages)"}},
     {"Producer.claim", {"claim", NAMED(producer_claim), "($self, type_id, length)"}},
     {"Transmitter.transmit", {"transmit", NAMED(transmitter_transmit), "($self, type_id, body)"}},
     {"Consumer.read", {"read", NAMED(consumer_read), "($self, timeout=0)"}},

@@ -81,6 +81,7 @@ typedef struct {
 /* The functions that are called directly, by the addresses of the library. */
 typedef struct {
     int32_t (*write)(void **producer, int32_t type_id, const void *body, size_t len);
+    int32_t (*write_batch)(void **producer, const void *records, size_t bytes, uint32_t *written);
     int32_t (*transmit)(void **transmitter, int32_t type_id, const void *body, size_t len);
     int32_t (*claim)(void **producer, int32_t type_id, size_t len, uint64_t *claim);
     int32_t (*put)(void **producer, uint64_t claim, size_t offset, const void *bytes, size_t len);
@@ -144,6 +145,8 @@ int is_foreign(Handle *handle);
 Handle *owner_of(Handle *handle);
 /* Wakes the readers that sleep, if there are any, and keeps an exception that is raised. */
 void wake(Handle *handle);
+/* The method that writes a batch of messages. */
+PyObject *producer_write_batch(PyObject *self, PyObject *const *given, Py_ssize_t count, PyObject *names);
 /* Makes an open claim of a producer. */
 PyObject *claimed(Handle *producer, int32_t type_id, size_t len);
 /* A method of a class that calls the library directly, by the qualified name of the one that it stands for. */

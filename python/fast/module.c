@@ -23,7 +23,8 @@ static const struct {
     const char *name;
     size_t offset;
 } DIRECT[] = {
-    {"felter_write", offsetof(Library, write)}, {"felter_transmit", offsetof(Library, transmit)},
+    {"felter_write", offsetof(Library, write)}, {"felter_write_batch", offsetof(Library, write_batch)},
+    {"felter_transmit", offsetof(Library, transmit)},
     {"felter_claim", offsetof(Library, claim)}, {"felter_put", offsetof(Library, put)},
     {"felter_commit", offsetof(Library, commit)}, {"felter_abort", offsetof(Library, abort)},
     {"felter_read", offsetof(Library, read)}, {"felter_peek", offsetof(Library, peek)},

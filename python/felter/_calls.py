@@ -25,6 +25,7 @@ felter_read *consumer *i32 *usize *u8 usize
 felter_peek *consumer *i32 *usize *u8 usize
 felter_take *consumer
 felter_read_batch *consumer u32 *u32 *usize *u8 usize
+felter_write_batch *producer bytes usize *u32
 felter_close *consumer *producer
 felter_finish *consumer *u64
 felter_board_new_numbered u64 u32 *transmitter

@@ -136,6 +136,15 @@ def taker(low: int, end: int) -> typing.Callable[[typing.Any], typing.Tuple[typi
 TAKES = {"bytes": take_bytes, "*handle": take_handle, **{word: taker(*its) for word, its in RANGES.items()}}
 
 
+def laid(messages: typing.Iterable[typing.Tuple[int, typing.Any]]) -> bytes:
+    """Returns messages one after another, as in a batch."""
+    parts: typing.List[bytes] = []
+    for type_id, body in messages:
+        (number,), (data, length) = TAKES["i32"](type_id), take_bytes(body)
+        parts += [length.to_bytes(8, "little"), number.to_bytes(8, "little", signed=True), data, bytes(-length % 8)]
+    return b"".join(parts)
+
+
 class Function:
     """A function of the library. The parameters of a function are first the values that it takes, then the values that
     it writes, and then possibly a buffer that it fills."""
@@ -315,6 +324,18 @@ class Handle:
         """Makes a call that reads a message, and returns the message, or None."""
         found = functions[name].ask((self, None), True)
         return found and makes["message"](found)
+
+    def _write_laid(self, messages: typing.Iterable[typing.Tuple[int, typing.Any]]) -> typing.Tuple[int, int]:
+        """Writes messages by one call. Returns how many messages were written, and the code."""
+        function = functions["felter_write_batch"]
+        parameters, outs = function.take((self, laid(messages)))
+        self._check()
+        with self._lock:
+            try:
+                code: int = function.call(*parameters)
+            finally:
+                self._was_emptied = self._raw.at is None
+        return outs[0].value, code
 
     def _quietly(self, name: str, *given: typing.Any) -> bool:
         """Makes a call unless another call uses the handle. Returns whether the call was made."""

@@ -43,7 +43,7 @@ def recover(image: Buffer) -> Recovered:
     the claims. What the consumer was shown, and after which it had not moved the head, comes again, before the other
     messages. The library proves this for the memory of any ring.
 
-    To go on, make a ring in a new file, and write the messages to it by `write_all`. A ring of the same capacity has
+    To go on, make a ring in a new file, and write the messages to it by `write_batch`. A ring of the same capacity has
     room for all of them.
 
     The call raises `Damaged` if the image is not that of a ring, or if it is damaged. `finding` of this exception says

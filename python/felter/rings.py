@@ -9,7 +9,7 @@ from felter._library import call, direct
 from felter._owner import Ends, Sizes, numbers
 from felter.claims import Claim, Settling, settle_dropped
 from felter.controlled import Controlled
-from felter.errors import Contended, Disconnected, Error, Full, Number
+from felter.errors import Contended, Disconnected, Error, Full, Number, refusal
 from felter.files import Path, make
 from felter.message import Buffer, Message
 from felter.recovering import messages_in
@@ -203,8 +203,18 @@ class Producer(Settling):
                 written += 1
         return written
 
-    # (the name in C, C++ and Rust)
-    write_batch = write_all
+    @direct
+    def write_batch(self, messages: typing.Iterable[typing.Tuple[int, Buffer]]) -> int:
+        """Writes a batch of messages by one call of the library, and returns how many messages were written. Each
+        message is a type id and a body. The consumer sees messages that are next to one another in the ring at once.
+        The call writes fewer messages if the ring is full or another producer is faster. Other refusals raise an Error.
+        If a message has a bad type id or is too long, no message is written."""
+        written, code = self._write_laid(messages)
+        if written:
+            self._wake()
+        if code and code not in (Number.INSUFFICIENT_CAPACITY, Number.CONTENDED):
+            raise refusal(code)
+        return written
 
     @direct
     def claim(self, type_id: int, length: int) -> Claim:

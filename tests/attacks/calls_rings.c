@@ -210,31 +210,48 @@ static void look_at_words(struct ring *ring, int at) {
     if (CALL(FELTER_OK, felter_shares(&ring->producers[at], &shares)) == FELTER_OK) CHECK(shares == ring->shares[at]);
 }
 
-/* Writes a batch, of which the last record may reach beyond its bytes. */
+/* Puts a record into a batch, and returns the code of its test. If it is cut, its bytes reach beyond the batch. */
+static int32_t lay(struct ring *ring, uint8_t *records, size_t *bytes, bool is_cut) {
+    felter_record head = {some_len(ring), some_type()};
+    const uint8_t *body = input(head.len);
+    memcpy(records + *bytes, &head, sizeof head);
+    if (head.len) memcpy(records + *bytes + sizeof head, body, head.len);
+    *bytes += is_cut ? sizeof head - 1 : FELTER_SPAN(head.len);
+    if (is_cut) return FELTER_PUT_RANGE;
+    if (head.type_id < 1) return FELTER_BAD_TYPE;
+    return head.len > ring->model.records.capacity / 8 ? FELTER_TOO_LONG : FELTER_OK;
+}
+
+/* Claims and commits in the model what is written of a batch of good records, and returns the code. */
+static int32_t model_batch(struct ring *ring, const uint8_t *records, size_t bytes, uint32_t *count) {
+    for (size_t from = 0; from < bytes; ++*count) {
+        struct record *record = NULL;
+        felter_record head;
+        memcpy(&head, records + from, sizeof head);
+        int32_t code = model_claim(&ring->model, (int32_t)head.type_id, head.len, &record);
+        if (code) return code;
+        if (head.len) memcpy(model_body(&ring->model.records, record), records + from + sizeof head, head.len);
+        record->state = COMMITTED;
+        from += FELTER_SPAN(head.len);
+    }
+    return FELTER_OK;
+}
+
+/* Writes a batch, of which the last record may reach beyond its bytes. If one record is refused, none is written. */
 static void write_batch(struct ring *ring, int at) {
     static uint8_t records[1 << 14];
     size_t bytes = 0;
-    uint32_t wanted_count = 0, written = UNTOUCHED;
+    uint32_t count = 0, written = UNTOUCHED;
     int32_t wanted = FELTER_OK;
     bool is_cut = false;
     for (uint64_t left = pick(5); left && !is_cut; left--) {
-        struct record *record = NULL;
-        felter_record head = {some_len(ring), some_type()};
-        const uint8_t *body = input(head.len);
-        memcpy(records + bytes, &head, sizeof head);
-        if (head.len) memcpy(records + bytes + sizeof head, body, head.len);
         is_cut = once_in(10);
-        bytes += is_cut ? sizeof head - 1 : FELTER_SPAN(head.len);
-        if (is_cut && !wanted) wanted = FELTER_PUT_RANGE;
-        if (wanted) continue;
-        wanted = model_claim(&ring->model, (int32_t)head.type_id, head.len, &record);
-        if (wanted) continue;
-        if (head.len) memcpy(model_body(&ring->model.records, record), body, head.len);
-        record->state = COMMITTED;
-        wanted_count++;
+        int32_t code = lay(ring, records, &bytes, is_cut);
+        if (!wanted) wanted = code;
     }
+    if (!wanted) wanted = model_batch(ring, records, bytes, &count);
     CALL(wanted, felter_write_batch(&ring->producers[at], records, bytes, &written));
-    CHECK(written == wanted_count);
+    CHECK(written == count);
 }
 
 static bool has_open(struct ring *ring, int at) {

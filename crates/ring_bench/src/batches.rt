@@ -3,7 +3,7 @@ ghost use Rattle.std.specs.Prelude.{IfOk};
 ghost use Rattle.ring_rings.specs.Seats.{IsConsumerOf, IsProducerOf, MayClaim};
 
 use crate::fault::Fault;
-use crate::message::{Body, Sum, TYPE_ID};
+use crate::message::{BATCH, Body, Sum, TYPE_ID};
 use crate::request::{Request, Workload};
 use crate::sample::Sample;
 use crate::task::{Task, time};
@@ -15,14 +15,11 @@ use std::rt::Clock;
 /// The messages that a read may take.
 const LIMIT: u32 = 64;
 
-/// The messages of a batch.
-const BATCH: u64 = 16;
-
 /// The tries to read a batch.
 const READS: u32 = 1_000_000;
 
 /// A ring in the hands of one thread, which writes it and reads it.
-trait Lane {
+pub(crate) trait Lane {
     /// The seats are the ring's.
     ghost whole: { Self → Type 0 } = { λ _. Unit {0} };
 
@@ -48,14 +45,14 @@ impl Lane for SoloRing {
 
 /// A shared ring with all its seats.
 #[derive(Drop)]
-struct Seated<K, B: Bodies> {
-    ring: Ring<K, B>,
-    producer: Producer,
-    consumer: Consumer,
+pub(crate) struct Seated<K, B: Bodies> {
+    pub ring: Ring<K, B>,
+    pub producer: Producer,
+    pub consumer: Consumer,
 }
 
 impl<K: Kind, B: Bodies> Seated<K, B> {
-    fn open(alloc: Global, capacity: u32) -> Result<Seated<K, B>, Fault>
+    pub(crate) fn open(alloc: Global, capacity: u32) -> Result<Seated<K, B>, Fault>
         ensures { IfOk result (λ s. IsProducerOf s.ring s.producer × MayClaim K.many s.producer
             × IsConsumerOf s.ring s.consumer) }
     {
@@ -83,7 +80,21 @@ impl<K: Kind, B: Bodies> Lane for Seated<K, B> {
     }
 }
 
-/// Batches that go through a ring.
+/// Reads until this many messages came in all.
+pub(crate) fn take_until<L: Lane>(lane: &mut L, sum: &mut Sum, count: u64) -> Result<(), Fault>
+    requires { L.whole lane.old }
+    ensures { L.whole lane.new }
+{
+    for _ in 0..READS {
+        if sum.count >= count {
+            return Ok(());
+        }
+        lane.take(sum);
+    }
+    Err(Fault::STUCK)
+}
+
+/// Batches that go through a ring, of which each message is written by a call of its own.
 #[derive(Drop)]
 struct Batches<L> {
     lane: L,
@@ -97,26 +108,12 @@ impl<L: Lane> Batches<L> {
         requires { L.whole self.old.lane }
         ensures { L.whole self.new.lane }
     {
-        for k in 0..BATCH {
+        for k in 0..BATCH as u64 {
             if !self.lane.put(self.body.numbered(first.wrapping_add(k))) {
                 return Err(Fault::REFUSED);
             }
         }
         Ok(())
-    }
-
-    /// Reads until this many messages came in all.
-    fn take(&mut self, count: u64) -> Result<(), Fault>
-        requires { L.whole self.old.lane }
-        ensures { L.whole self.new.lane }
-    {
-        for _ in 0..READS {
-            if self.sum.count >= count {
-                return Ok(());
-            }
-            self.lane.take(&mut self.sum);
-        }
-        Err(Fault::STUCK)
     }
 }
 
@@ -124,9 +121,13 @@ impl<L: Lane> Task for Batches<L> {
     ghost is_ready = { λ b. L.whole b.lane };
 
     fn step(&mut self, number: u64) -> Result<(), Fault> {
-        let first = number.wrapping_mul(BATCH);
+        let first = number.wrapping_mul(BATCH as u64);
         self.put(first)?;
-        self.take(first.wrapping_add(BATCH))
+        take_until(
+            &mut self.lane,
+            &mut self.sum,
+            first.wrapping_add(BATCH as u64),
+        )
     }
 }
 
@@ -141,9 +142,9 @@ fn run_lane<L: Lane + Drop, R: Clock>(
 {
     let sum = Sum::new();
     let mut batches = Batches { lane, body, sum };
-    let count = times.div_ceil(BATCH);
+    let count = times.div_ceil(BATCH as u64);
     let nanos = time(rt, &mut batches, count)?;
-    let messages = count.wrapping_mul(BATCH);
+    let messages = count.wrapping_mul(BATCH as u64);
     batches.sum.check(messages)?;
     Ok(Sample::new(nanos, messages))
 }

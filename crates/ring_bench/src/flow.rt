@@ -3,17 +3,14 @@ ghost use Rattle.std.specs.Prelude.{◌≡◌, All, IfOk};
 ghost use Rattle.std.specs.Thread.{IsSync};
 ghost use Rattle.ring_rings.specs.Seats.{IsConsumerOf, IsProducerOf, MayClaim};
 
+use crate::cargo::Cargo;
 use crate::fault::Fault;
-use crate::message::{Body, TYPE_ID, Tally, first_word};
+use crate::message::{Batch, Body, Tally};
 use crate::request::{Contender, Request, Workload};
 use crate::rest::{Rest, TRIES};
 use crate::sample::{Sample, nanos_since};
-use ring_rings::{
-    Bodies, ClaimFault, Consumer, InSlots, InWords, Kind, ManyToOne, OneToOne, Producer, Ring,
-    TryFault,
-};
+use ring_rings::{Bodies, Consumer, InSlots, InWords, Kind, ManyToOne, OneToOne, Producer, Ring};
 use std::alloc::Global;
-use std::hint::spin_loop;
 use std::rt::Clock;
 use std::sync::{Barrier, Wait};
 use std::thread::{Threads, join, map_vec};
@@ -24,42 +21,18 @@ const LIMIT: u32 = 64;
 
 /// A producer, and what it sends.
 #[derive(Drop)]
-struct Load {
+struct Load<C> {
     producer: Producer,
-    body: Body,
+    cargo: C,
     /// The number of the producer.
     id: u32,
 }
 
-/// Writes a message, and waits while there is no room. `REFUSED` if such a message is never taken, `STUCK` if there was
-/// no room for a long time.
-fn send<K: Kind, B: Bodies>(
-    ring: &Ring<K, B>,
-    producer: &mut Producer,
-    body: &[u8],
-) -> Result<(), Fault>
-    requires producer { IsProducerOf ring.now producer.old }
-    requires sole { MayClaim K.many producer.old }
-    ensures producer { IsProducerOf ring.now producer.new }
-    ensures sole { MayClaim K.many producer.new }
-{
-    let mut rest = Rest::new();
-    for _ in 0..TRIES {
-        match ring.try_write(producer, TYPE_ID, body) {
-            Ok(()) => return Ok(()),
-            Err(TryFault::Refused(ClaimFault::InsufficientCapacity { .. })) => rest.wait(),
-            Err(TryFault::Refused(_)) => return Err(Fault::REFUSED),
-            Err(TryFault::Contended { .. }) => spin_loop(),
-        }
-    }
-    Err(Fault::STUCK)
-}
-
 /// Sends all messages of a producer.
-fn produce<K: Kind, B: Bodies, R: Wait>(
+fn produce<K: Kind, B: Bodies, C: Cargo<K, B> + Drop, R: Wait>(
     rt: &R,
     ring: &Ring<K, B>,
-    load: Load,
+    load: Load<C>,
     start: &Barrier,
     messages: u64,
 ) -> Result<(), Fault>
@@ -67,25 +40,23 @@ fn produce<K: Kind, B: Bodies, R: Wait>(
 {
     let Load {
         mut producer,
-        mut body,
+        mut cargo,
         id,
     } = load;
     start.wait(rt);
-    for number in 0..messages {
-        send(
-            ring,
-            &mut producer,
-            body.numbered(first_word(u64::from(id), number)),
-        )?;
-    }
-    Ok(())
+    cargo.send_all(ring, &mut producer, id, messages)
 }
 
 /// Sends all messages of all producers, each on a thread of its own.
-fn produce_all<K: Kind + Sync, B: Bodies + Sync, R: Threads + Sync + Wait>(
+fn produce_all<
+    K: Kind + Sync,
+    B: Bodies + Sync,
+    C: Cargo<K, B> + Send + Drop,
+    R: Threads + Sync + Wait,
+>(
     rt: &R,
     ring: &Ring<K, B>,
-    loads: Vec<Load>,
+    loads: Vec<Load<C>>,
     start: &Barrier,
     messages: u64,
 ) -> Result<(), Fault>
@@ -94,7 +65,7 @@ fn produce_all<K: Kind + Sync, B: Bodies + Sync, R: Threads + Sync + Wait>(
     let sent = map_vec(
         rt,
         loads,
-        &|load: Load| -> Result<(), Fault>
+        &|load: Load<C>| -> Result<(), Fault>
             requires { IsProducerOf ring.now load.producer × MayClaim K.many load.producer }
         { produce(rt, ring, load, start, messages) },
     )?;
@@ -142,10 +113,15 @@ fn consume<K, B: Bodies, R: Clock + Wait>(
 }
 
 /// The producers, each of which sends this many messages, and the consumer.
-fn run_all<K: Kind + Sync, B: Bodies + Sync, R: Clock + Threads + Sync + Wait>(
+fn run_all<
+    K: Kind + Sync,
+    B: Bodies + Sync,
+    C: Cargo<K, B> + Send + Drop,
+    R: Clock + Threads + Sync + Wait,
+>(
     rt: &R,
     ring: &Ring<K, B>,
-    loads: Vec<Load>,
+    loads: Vec<Load<C>>,
     consumer: Consumer,
     messages: u64,
 ) -> Result<Sample, Fault>
@@ -170,54 +146,62 @@ fn run_all<K: Kind + Sync, B: Bodies + Sync, R: Clock + Threads + Sync + Wait>(
     sent.and(sample)
 }
 
-/// A producer with a body of this many bytes. `NO_CONTENDER` if that is no multiple of 8, or 0.
-fn load_of(alloc: Global, producer: Producer, size: usize, id: u32) -> Result<Load, Fault>
+/// A producer with messages of this many bytes. `NO_CONTENDER` if that is no multiple of 8, or 0.
+fn load_of<K: Kind, B: Bodies, C: Cargo<K, B>>(
+    alloc: Global,
+    producer: Producer,
+    size: usize,
+    id: u32,
+) -> Result<Load<C>, Fault>
     ensures { IfOk result (λ load. load.producer ≡ producer) }
 {
-    let body = Body::new(alloc, size)?;
-    Ok(Load { producer, body, id })
+    let cargo = C::new(alloc, size)?;
+    Ok(Load {
+        producer,
+        cargo,
+        id,
+    })
 }
 
 /// Splits off a producer for each load, one less than there are producers.
-fn loads_of<B: Bodies>(
+fn loads_of<B: Bodies, C: Cargo<ManyToOne, B> + Drop>(
     alloc: Global,
     ring: &Ring<ManyToOne, B>,
     mut producer: Producer,
     size: usize,
     producers: u32,
-) -> Result<Vec<Load>, Fault>
+) -> Result<Vec<Load<C>>, Fault>
     requires { IsProducerOf ring.now producer }
     ensures { IfOk result (λ loads. All (λ load. IsProducerOf ring.now load.producer) loads.items) }
 {
     let mut loads = Vec::new(alloc);
     for id in 1..producers {
         let another = ring.split(&mut producer)?;
-        loads.push(load_of(alloc, another, size, id)?)?;
+        loads.push(load_of::<ManyToOne, B, C>(alloc, another, size, id)?)?;
     }
-    loads.push(load_of(alloc, producer, size, 0)?)?;
+    loads.push(load_of::<ManyToOne, B, C>(alloc, producer, size, 0)?)?;
     Ok(loads)
 }
 
 /// One producer and the consumer of a ring of one producer.
-fn run_one_to_one<B: Bodies + Sync, R: Clock + Threads + Sync + Wait>(
-    rt: &R,
-    alloc: Global,
-    request: &Request,
-    messages: u64,
-) -> Result<Sample, Fault> {
-    let body = Body::new(alloc, request.size)?;
+fn run_one_to_one<
+    B: Bodies + Sync,
+    C: Cargo<OneToOne, B> + Send + Drop,
+    R: Clock + Threads + Sync + Wait,
+>(rt: &R, alloc: Global, request: &Request, messages: u64) -> Result<Sample, Fault> {
     let (ring, producer, consumer) = Ring::<OneToOne, B>::new(alloc, request.capacity)?;
-    let load = Load {
-        producer,
-        body,
-        id: 0,
-    };
-    let loads = vec![in alloc; load]?;
+    let load = load_of::<OneToOne, B, C>(alloc, producer, request.size, 0)?;
+    let mut loads = Vec::new(alloc);
+    loads.push(load)?;
     run_all(rt, &ring, loads, consumer, messages)
 }
 
 /// Some producers, each of which sends this many messages, and the consumer of a ring of many producers.
-fn run_producers<B: Bodies + Sync, R: Clock + Threads + Sync + Wait>(
+fn run_producers<
+    B: Bodies + Sync,
+    C: Cargo<ManyToOne, B> + Send + Drop,
+    R: Clock + Threads + Sync + Wait,
+>(
     rt: &R,
     alloc: Global,
     request: &Request,
@@ -225,22 +209,21 @@ fn run_producers<B: Bodies + Sync, R: Clock + Threads + Sync + Wait>(
     producers: u32,
 ) -> Result<Sample, Fault> {
     let (ring, producer, consumer) = Ring::<ManyToOne, B>::new(alloc, request.capacity)?;
-    let loads = loads_of(alloc, &ring, producer, request.size, producers)?;
+    let loads = loads_of::<B, C>(alloc, &ring, producer, request.size, producers)?;
     run_all(rt, &ring, loads, consumer, messages)
 }
 
 /// A ring of many producers with as many as a request asks for, one if it asks for a pair.
-fn run_many_to_one<B: Bodies + Sync, R: Clock + Threads + Sync + Wait>(
-    rt: &R,
-    alloc: Global,
-    request: &Request,
-    times: u64,
-) -> Result<Sample, Fault> {
+fn run_many_to_one<
+    B: Bodies + Sync,
+    C: Cargo<ManyToOne, B> + Send + Drop,
+    R: Clock + Threads + Sync + Wait,
+>(rt: &R, alloc: Global, request: &Request, times: u64) -> Result<Sample, Fault> {
     match (request.workload, request.threads) {
-        (Workload::Pair, _) => run_producers::<B, R>(rt, alloc, request, times, 1),
+        (Workload::Pair, _) => run_producers::<B, C, R>(rt, alloc, request, times, 1),
         (_, producers @ 1..=64) => {
             let each = (times / u64::from(producers)).saturating_add(1);
-            run_producers::<B, R>(rt, alloc, request, each, producers)
+            run_producers::<B, C, R>(rt, alloc, request, each, producers)
         }
         _ => Err(Fault::NO_CONTENDER),
     }
@@ -256,10 +239,14 @@ pub fn run_flow<R: Clock + Threads + Sync + Wait>(
     times: u64,
 ) -> Result<Sample, Fault> {
     match request.contender {
-        Contender::OneToOne => run_one_to_one::<InWords, R>(rt, alloc, request, times),
-        Contender::ManyToOne => run_many_to_one::<InWords, R>(rt, alloc, request, times),
-        Contender::PlainOneToOne => run_one_to_one::<InSlots, R>(rt, alloc, request, times),
-        Contender::PlainManyToOne => run_many_to_one::<InSlots, R>(rt, alloc, request, times),
+        Contender::OneToOne => run_one_to_one::<InWords, Body, R>(rt, alloc, request, times),
+        Contender::ManyToOne => run_many_to_one::<InWords, Body, R>(rt, alloc, request, times),
+        Contender::PlainOneToOne => run_one_to_one::<InSlots, Body, R>(rt, alloc, request, times),
+        Contender::PlainManyToOne => run_many_to_one::<InSlots, Body, R>(rt, alloc, request, times),
+        Contender::OneToOneBatch => run_one_to_one::<InSlots, Batch, R>(rt, alloc, request, times),
+        Contender::ManyToOneBatch => run_many_to_one::<InSlots, Batch, R>(
+            rt, alloc, request, times,
+        ),
         _ => Err(Fault::NO_CONTENDER),
     }
 }

@@ -3,8 +3,10 @@
 //! is `end`.
 #![tactic(auto)]
 
+mod at_once;
 mod batches;
 mod broadcast;
+mod cargo;
 mod counting;
 mod fault;
 mod flow;

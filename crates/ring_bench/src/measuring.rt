@@ -1,4 +1,5 @@
 //! Finds how much fills the time that is asked for, and measures.
+use crate::at_once::run_at_once;
 use crate::batches::{run_batches, run_solo};
 use crate::broadcast::run_broadcast;
 use crate::counting::run_counters;
@@ -68,6 +69,8 @@ fn run_any_ring<R: Clock + Threads + Sync>(
         Contender::PlainManyToOne => run_ring::<R, ManyToOne, InSlots>(
             rt, alloc, request, job, times,
         ),
+        Contender::OneToOneBatch => run_at_once::<OneToOne, R>(rt, alloc, request, times),
+        Contender::ManyToOneBatch => run_at_once::<ManyToOne, R>(rt, alloc, request, times),
         _ => Err(Fault::NO_CONTENDER),
     }
 }

@@ -4,8 +4,9 @@ ghost use Rattle.ring_words.specs.declared.read.action.Action.TheVariants.{Conti
 
 use crate::fault::Fault;
 use ring_layout::put_part;
-use ring_rings::{Action, Handler};
+use ring_rings::{Action, Handler, Outgoing};
 use std::alloc::Global;
+use std::array;
 
 /// The type id of all messages.
 pub const TYPE_ID: i32 = 1;
@@ -52,6 +53,50 @@ impl Body {
     pub fn numbered(&mut self, number: u64) -> &[u8] {
         put_part(self.bytes.as_mut_slice(), 0, number);
         self.bytes.as_slice()
+    }
+}
+
+/// The messages of a batch that is written by one call.
+pub const BATCH: usize = 16;
+
+/// The bodies of a batch, one after another. The first word of each is a number.
+#[derive(Drop)]
+pub struct Batch {
+    bytes: Vec<u8>,
+    /// The bytes of a body.
+    size: usize,
+}
+
+impl Batch {
+    /// Bodies of this many bytes each. `NO_CONTENDER` if that is no multiple of 8, or 0.
+    pub fn new(alloc: Global, size: usize) -> Result<Batch, Fault> {
+        let Body { bytes } = Body::new(alloc, size.saturating_mul(BATCH))?;
+        if size % WORD != 0 {
+            return Err(Fault::NO_CONTENDER);
+        }
+        Ok(Batch { bytes, size })
+    }
+
+    /// The messages, with the numbers from this one on.
+    pub fn numbered(&mut self, first: u64) -> [Outgoing<'_>; BATCH] {
+        let size = self.size.max(WORD);
+        let mut number = first;
+        for body in self.bytes.as_mut_slice().chunks_mut(size) {
+            put_part(body, 0, number);
+            number = number.wrapping_add(1);
+        }
+        let bodies = self.bytes.as_slice();
+        array::from_fn(|k| body_at(bodies, k, size))
+    }
+}
+
+/// The message with this index among bodies of this many bytes each. Its body is empty if there are not that many.
+fn body_at(bodies: &[u8], index: usize, size: usize) -> Outgoing<'_> {
+    let start = index.wrapping_mul(size);
+    let end = start.wrapping_add(size);
+    Outgoing {
+        type_id: TYPE_ID,
+        body: bodies.get(start..end).unwrap_or(&[]),
     }
 }
 

@@ -64,6 +64,10 @@ pub enum Contender {
     PlainOneToOne,
     /// The ring of many producers with bodies in plain memory.
     PlainManyToOne,
+    /// The plain ring of one producer, into which 16 messages are written by one call.
+    OneToOneBatch,
+    /// The plain ring of many producers, into which 16 messages are written by one call.
+    ManyToOneBatch,
     /// The broadcast buffer.
     Board,
     /// Counters and their manager.
@@ -81,6 +85,8 @@ impl Contender {
             Contender::ManyToOne => "ours-m2o",
             Contender::PlainOneToOne => "plain-o2o",
             Contender::PlainManyToOne => "plain-m2o",
+            Contender::OneToOneBatch => "plain-o2o-batch",
+            Contender::ManyToOneBatch => "plain-m2o-batch",
             Contender::Board => "ours-board",
             Contender::Counters => "ours-counters",
             Contender::Storm => "ours-storm",
@@ -89,12 +95,14 @@ impl Contender {
 }
 
 /// Who takes part in which workload.
-pub static ENTRIES: [(Workload, Contender); 23] = [
+pub static ENTRIES: [(Workload, Contender); 28] = [
     (Workload::Batches, Contender::Solo),
     (Workload::Batches, Contender::OneToOne),
     (Workload::Batches, Contender::ManyToOne),
     (Workload::Batches, Contender::PlainOneToOne),
     (Workload::Batches, Contender::PlainManyToOne),
+    (Workload::Batches, Contender::OneToOneBatch),
+    (Workload::Batches, Contender::ManyToOneBatch),
     (Workload::Sparse, Contender::Solo),
     (Workload::Sparse, Contender::OneToOne),
     (Workload::Sparse, Contender::ManyToOne),
@@ -104,8 +112,11 @@ pub static ENTRIES: [(Workload, Contender); 23] = [
     (Workload::Pair, Contender::ManyToOne),
     (Workload::Pair, Contender::PlainOneToOne),
     (Workload::Pair, Contender::PlainManyToOne),
+    (Workload::Pair, Contender::OneToOneBatch),
+    (Workload::Pair, Contender::ManyToOneBatch),
     (Workload::Crowd, Contender::ManyToOne),
     (Workload::Crowd, Contender::PlainManyToOne),
+    (Workload::Crowd, Contender::ManyToOneBatch),
     (Workload::Trips, Contender::OneToOne),
     (Workload::Trips, Contender::ManyToOne),
     (Workload::Trips, Contender::PlainOneToOne),

@@ -66,7 +66,7 @@ pub use exports::places::{
 };
 pub use exports::producing::{
     felter_abort, felter_claim, felter_commit, felter_heartbeat, felter_next_id, felter_positions,
-    felter_put, felter_shares, felter_write,
+    felter_put, felter_shares, felter_write, felter_write_batch,
 };
 pub use exports::raw::{
     felter_load_body, felter_raw_lapped_count, felter_receive_next, felter_subscribe_raw,

@@ -10,3 +10,4 @@ mod SlotLemmas
 mod TakeLemmas
 mod RecoveringLemmas
 pub mod Values
+mod WritingLemmas

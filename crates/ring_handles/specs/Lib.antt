@@ -22,3 +22,4 @@ pub mod Serving
 pub mod Side
 pub mod Slots
 pub mod Taking
+pub mod WritingBatch

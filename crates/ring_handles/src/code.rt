@@ -1,8 +1,8 @@
 //! The codes that exports return: 0, the number of a refusal, or what only handles refuse or say, from 100 on.
 
 pub use ring_layout::refusal_codes::{
-    BAD_CAPACITY, BAD_COUNT, BAD_ID, BAD_OWNER, CLAIMS_OPEN, LAPPED, NO_SHARES, NOT_ALLOCATED,
-    OUT_OF_MEMORY, PRODUCERS_OUT, PUT_RANGE, RECEIVERS_OUT, TOO_LONG,
+    BAD_CAPACITY, BAD_COUNT, BAD_ID, BAD_OWNER, BAD_TYPE, CLAIMS_OPEN, LAPPED, NO_SHARES,
+    NOT_ALLOCATED, OUT_OF_MEMORY, PRODUCERS_OUT, PUT_RANGE, RECEIVERS_OUT, TOO_LONG,
 };
 
 /// The call did what it says.

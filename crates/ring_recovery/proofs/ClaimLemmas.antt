@@ -23,10 +23,10 @@ use Rattle.ring_table.specs.declared.claim.Stage.TheVariants.{Moved, Padded, Sto
 use Rattle.ring_table.specs.declared.claim.StagedClaim.{StagedClaim}
 use Rattle.ring_table.proofs.DecodeLemmas.{masked_zero}
 use Rattle.ring_table.proofs.StagedWords.{staged_word-body, staged_word-header, staged_word-padding, staged_word-padding_behind}
-use Rattle.ring_recovery.specs.Headers.{bytes_in, headers_in, is_type, message_at}
+use Rattle.ring_recovery.specs.Headers.{bytes_in, is_type, message_at}
 use Rattle.ring_recovery.specs.Recovered.{all_placed}
 use Rattle.ring_recovery.proofs.HeaderLemmas.{IsHeader, abs_neg, bytes_are, committed_is, length_fits, neg_below, neg_not_above, not_negative, not_zero, open_is, pos_above, type_above, type_is}
-use Rattle.ring_recovery.proofs.ScanLemmas.{one, zeros}
+use Rattle.ring_recovery.proofs.ScanLemmas.{listed, one, zeros}
 use Rattle.ring_recovery.proofs.GivenLemmas.{Adds, AreShown, Gives, HaveBody, adds, far, gives_below}
 
 module _ (C tail : ℕ) (slots : List ℕ) (shown : ℕ → ℕ) (e : ℕ) (c : StagedClaim) (cs : List StagedClaim)
@@ -95,9 +95,9 @@ module _ (C tail : ℕ) (slots : List ℕ) (shown : ℕ → ℕ) (e : ℕ) (c : 
 
   module _ (hs : List (ℕ × ℕ)) (g : Gives C tail slots (claim_end c) cs hs) where
     no_record : shown c.place ≡ 0 → shown_at c.stage (placed_message c) ≡ [] → one_if_unsettled c.stage ≡ 0
-        → Gives C tail slots c.place (c ∷ cs) (headers_in shown size c.place ++ hs)
+        → Gives C tail slots c.place (c ∷ cs) (listed shown size c.place ++ hs)
     no_record none nothing nobody =
-        let empty : headers_in shown size c.place ≡ [] = zeros shown size c.place (at_each none) in
+        let empty : listed shown size c.place ≡ [] = zeros shown size c.place (at_each none) in
         subst (λ l. Gives C tail slots c.place (c ∷ cs) (l ++ hs)) (sym empty)
         (gives_below C tail slots (claim_end c) c.place (c ∷ cs) hs (omega arith) (record {
           messages = g.messages ∙ ap (λ l. l ++ placed_committed_of cs) (sym nothing);
@@ -114,11 +114,11 @@ module _ (C tail : ℕ) (slots : List ℕ) (shown : ℕ → ℕ) (e : ℕ) (c : 
     one_record : (w : ℕ) (ms : List PlacedMessage) (k : ℕ) → shown c.place ≡ w
         → Adds C tail slots c.place w (claim_end c) ms k → shown_at c.stage (placed_message c) ≡ ms
         → one_if_unsettled c.stage ≡ k
-        → Gives C tail slots c.place (c ∷ cs) (headers_in shown size c.place ++ hs)
+        → Gives C tail slots c.place (c ∷ cs) (listed shown size c.place ++ hs)
     one_record w ms k is d sees waits =
         let more : size ≡ suc (size - 1) = omega (arith, bounds) in
-        let found : headers_in shown size c.place ≡ (c.place, w) ∷ [] =
-        ap (λ m. headers_in shown m c.place) more
+        let found : listed shown size c.place ≡ (c.place, w) ∷ [] =
+        ap (λ m. listed shown m c.place) more
         ∙ one shown (size - 1) c.place w is (not_zero C tail c.place d.len d.type_id w d.«header»)
         (λ j lt. inner j (omega (arith, lt, bounds))) in
         subst (λ l. Gives C tail slots c.place (c ∷ cs) (l ++ hs)) (sym found)
@@ -218,11 +218,11 @@ module _ (C tail : ℕ) (slots : List ℕ) (shown : ℕ → ℕ) (e : ℕ) (c : 
   -- the record, whatever its stage is
   pub record_gives : (hs : List (ℕ × ℕ)) → Gives C tail slots (claim_end c) cs hs
       → (IsSettled c.stage → HaveBody C slots c.place c.message.body)
-      → Gives C tail slots c.place (c ∷ cs) (headers_in shown size c.place ++ hs)
+      → Gives C tail slots c.place (c ∷ cs) (listed shown size c.place ++ hs)
   record_gives hs g have = by_stage c.stage refl
     where
       by_stage : (t : Stage) → c.stage ≡ t
-          → Gives C tail slots c.place (c ∷ cs) (headers_in shown size c.place ++ hs)
+          → Gives C tail slots c.place (c ∷ cs) (listed shown size c.place ++ hs)
       by_stage t is = at_stage t
           (found_here c.place place_aligned begins (omega (arith, bounds))
           ∙ staged_word-header elsewhere c c.place refl
@@ -235,7 +235,7 @@ module _ (C tail : ℕ) (slots : List ℕ) (shown : ℕ → ℕ) (e : ℕ) (c : 
               → shown_at c.stage (placed_message c) ≡ shown_at t (placed_message c)
               → one_if_unsettled c.stage ≡ one_if_unsettled t
               → (IsSettled t → HaveBody C slots c.place c.message.body)
-              → Gives C tail slots c.place (c ∷ cs) (headers_in shown size c.place ++ hs)
+              → Gives C tail slots c.place (c ∷ cs) (listed shown size c.place ++ hs)
           at_stage Moved is sees waits have = no_record hs g is sees waits
           at_stage Padded is sees waits have = no_record hs g is sees waits
           at_stage (Stored Open) is sees waits have = one_record hs g _ [] 1 is adds_open sees waits
@@ -249,7 +249,7 @@ module _ (C tail : ℕ) (slots : List ℕ) (shown : ℕ → ℕ) (e : ℕ) (c : 
   pads = (c.place - e) / 8
 
   module _ (hs : List (ℕ × ℕ)) (g : Gives C tail slots c.place (c ∷ cs) hs) where
-    plain : headers_in shown pads e ≡ [] → Gives C tail slots e (c ∷ cs) (headers_in shown pads e ++ hs)
+    plain : listed shown pads e ≡ [] → Gives C tail slots e (c ∷ cs) (listed shown pads e ++ hs)
     plain none = subst (λ l. Gives C tail slots e (c ∷ cs) (l ++ hs)) (sym none)
         (gives_below C tail slots c.place e (c ∷ cs) hs begins g)
 
@@ -261,7 +261,7 @@ module _ (C tail : ℕ) (slots : List ℕ) (shown : ℕ → ℕ) (e : ℕ) (c : 
       rest_zero j lt = padding (e + 8 + 8 * j) (omega (arith, a.aligned)) (omega arith)
           (omega (arith, lt, a.aligned, place_aligned))
 
-      no_padding : shown e ≡ 0 → Gives C tail slots e (c ∷ cs) (headers_in shown pads e ++ hs)
+      no_padding : shown e ≡ 0 → Gives C tail slots e (c ∷ cs) (listed shown pads e ++ hs)
       no_padding none = plain (zeros shown pads e (each none))
         where
           each : shown e ≡ 0 → (j : ℕ) → j < pads → shown (e + 8 * j) ≡ 0
@@ -307,19 +307,19 @@ module _ (C tail : ℕ) (slots : List ℕ) (shown : ℕ → ℕ) (e : ℕ) (c : 
           }
 
       one_padding : shown e ≡ header (pos pad) padding_mark
-          → Gives C tail slots e (c ∷ cs) (headers_in shown pads e ++ hs)
+          → Gives C tail slots e (c ∷ cs) (listed shown pads e ++ hs)
       one_padding is =
           let w : ℕ = header (pos pad) padding_mark in
           let d = adds_padding in
           let more : pads ≡ suc (pads - 1) = omega (arith, a.aligned, place_aligned, before) in
-          let found : headers_in shown pads e ≡ (e, w) ∷ [] =
-          ap (λ m. headers_in shown m e) more
+          let found : listed shown pads e ≡ (e, w) ∷ [] =
+          ap (λ m. listed shown m e) more
           ∙ one shown (pads - 1) e w is (not_zero C tail e d.len d.type_id w d.«header») rest_zero in
           subst (λ l. Gives C tail slots e (c ∷ cs) (l ++ hs)) (sym found)
           (adds C tail slots e w c.place [] 0 (c ∷ cs) (c ∷ cs) hs d refl (omega arith) g)
 
       at_stage : (t : Stage) → c.stage ≡ t
-          → Gives C tail slots e (c ∷ cs) (headers_in shown pads e ++ hs)
+          → Gives C tail slots e (c ∷ cs) (listed shown pads e ++ hs)
       at_stage t is = by_stage t (
           found_here e a.aligned (omega arith) (omega (arith, before, bounds))
           ∙ staged_word-padding elsewhere c e (sym lies.from) before
@@ -327,16 +327,16 @@ module _ (C tail : ℕ) (slots : List ℕ) (shown : ℕ → ℕ) (e : ℕ) (c : 
           )
         where
           by_stage : (t : Stage) → shown e ≡ masked_padding t (padding_word elsewhere pad)
-              → Gives C tail slots e (c ∷ cs) (headers_in shown pads e ++ hs)
+              → Gives C tail slots e (c ∷ cs) (listed shown pads e ++ hs)
           by_stage Moved is = no_padding is
           by_stage Padded is = one_padding is
           by_stage (Stored s) is = one_padding is
 
-    pub padding_gives : Gives C tail slots e (c ∷ cs) (headers_in shown pads e ++ hs)
+    pub padding_gives : Gives C tail slots e (c ∷ cs) (listed shown pads e ++ hs)
     padding_gives = ⊎_elim (λ (before : e < c.place). at_stage before c.stage refl)
         (λ (same : c.place ≤ e).
         let none : pads ≡ 0 = omega (arith, same) in
-        plain (ap (λ m. headers_in shown m e) none)) (cases_lt e c.place)
+        plain (ap (λ m. listed shown m e) none)) (cases_lt e c.place)
 
   -- the claims after it
   pub rest_shown : AreShown C tail shown (claim_end c) cs

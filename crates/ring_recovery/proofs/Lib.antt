@@ -3,6 +3,7 @@ pub mod ScanLemmas
 pub mod StepLemmas
 pub mod GivenLemmas
 pub mod MarkLemmas
+pub mod WalkLemmas
 pub mod ClaimLemmas
 pub mod WholeLemmas
 pub mod BodyLemmas

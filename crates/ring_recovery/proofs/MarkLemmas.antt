@@ -1,26 +1,26 @@
--- The headers that the marks and the slots of a ring show are those of its claims.
-use Rattle.std.specs.Prelude.{◌&&◌, ⊤}
-use Rattle.std.proofs.Common.{◌≡◌, ℕ, ◌+◌, ◌-◌, ◌*◌, ◌/◌, ◌%◌, ◌^◌, ◌≤◌, ◌<◌, List, [], ◌∷◌, cond, length, slice_index, refl, sym, ap, ◌∙◌, subst, ⊎_elim, lt-ltb, le-ltb, eq-eqb, ltb, arith}
+-- What the marks and the slots of a ring show is what its claims have there.
+use Rattle.std.specs.Prelude.{◌&&◌, ◌==◌, ⊤}
+use Rattle.std.proofs.Common.{◌≡◌, ◌≢◌, ℕ, ◌+◌, ◌-◌, ◌*◌, ◌/◌, ◌%◌, ◌^◌, ◌≤◌, ◌<◌, true, List, [], ◌∷◌, cond, length, slice_index, refl, sym, ap, ◌∙◌, subst, ⊎_elim, lt-ltb, le-ltb, eq-eqb, ne_eqb, ltb, arith}
 use mathlib.Core.Logic.{dite}
 use native.Mathlib.Decide.{ℕ_discrete}
 use Rattle.std.proofs.lemmas.Bool.{cases_lt, cond-true, cond-false, le-leb, lt-leb}
-use Rattle.ring_layout.specs.Marks.{open_kind}
+use Rattle.ring_layout.specs.Marks.{committed_kind, open_kind}
 use Rattle.ring_layout.specs.declared.message.ClaimState.TheVariants.{Open, Committed, Aborted}
 use Rattle.ring_layout.specs.declared.message.Message.{Message}
 use Rattle.ring_layout.specs.Headers.{committed_header, header_of}
 use Rattle.ring_layout.specs.History.{IsMessage, span}
 use Rattle.ring_layout.specs.Places.{IsCapacity, index}
-use Rattle.ring_table.specs.Marks.{bytes_of, decoded, mark_of}
+use Rattle.ring_table.specs.Marks.{bytes_of, decoded, kind_of, mark_of, IsMarkOf}
 use Rattle.ring_table.specs.Passing.{IsSettled}
 use Rattle.ring_table.specs.Staged.{elsewhere, ArePlaced, claim_end, masked_record, stage_state, staged_word, staged_word_at}
 use Rattle.ring_table.specs.declared.claim.Stage.{Stage}
 use Rattle.ring_table.specs.declared.claim.Stage.TheVariants.{Moved, Padded, Stored}
 use Rattle.ring_table.specs.declared.claim.StagedClaim.{StagedClaim}
-use Rattle.ring_table.proofs.DecodeLemmas.{HeadAt, Marks, all_filled_out, decode_all, decoded_none, filled_end, filled_out, filled_placed, filled_record, filled_settled_one, inner_word}
+use Rattle.ring_table.proofs.DecodeLemmas.{HeadAt, all_filled_out, decode_all, decoded_none, filled_end, filled_out, filled_placed, filled_record, filled_settled_one, inner_word, kind_is_committed}
 use Rattle.ring_table.proofs.MarkWords.{committed_small, few_of, long_bytes, near_all, shows_claim, shows_mark, whole_bytes}
 use Rattle.ring_table.proofs.SlotBytes.{first_word_of, slot_later}
 use Rattle.ring_table.proofs.StagedWords.{staged_word-header}
-use Rattle.ring_recovery.specs.Headers.{recovered_header}
+use Rattle.ring_recovery.specs.Headers.{has_end, header_of_mark, is_of_run, shows}
 use Rattle.ring_recovery.specs.Image.{HaveRecord}
 use Rattle.ring_recovery.proofs.GivenLemmas.{HaveAll, HaveBody}
 
@@ -54,8 +54,8 @@ has_header C slots place m most is have =
     ap (λ q. slice_index slots (index C q)) here ∙ have 0 refl (omega arith)
     ∙ first_word_of (committed_header m.type_id (length m.body)) m.body (committed_small C m most is)
 
-heads_of : (C e p : ℕ) (slots : List ℕ) (cs : List StagedClaim) → C ≤ 2 ^ 24 → ArePlaced C e cs → HaveRecords C slots cs
-    → HeadAt p (slice_index slots (index C p)) cs
+pub heads_of : (C e p : ℕ) (slots : List ℕ) (cs : List StagedClaim) → C ≤ 2 ^ 24 → ArePlaced C e cs
+    → HaveRecords C slots cs → HeadAt p (slice_index slots (index C p)) cs
 heads_of C e p slots [] most placed have = tt
 heads_of C e p slots (c ∷ cs) most placed have = (
   λ done at. ap (λ q. slice_index slots (index C q)) (sym at)
@@ -132,38 +132,72 @@ same_marks C e (c ∷ cs) p cap placed =
     (le-ltb p (claim_end c) far))))
     (cases_lt p (claim_end c))
 
--- ---- the header at a position
+-- ---- the header that a mark shows
 
-module _ (C head : ℕ) (words slots : List ℕ) (cs : List StagedClaim) (cap : IsCapacity C) (aligned : head % 8 ≡ 0)
-    (placed : ArePlaced C head cs) (have : HaveRecords C slots cs) (p : ℕ) (p8 : p % 8 ≡ 0)
-    (is : Marks p (slice_index words (index C p)) (staged_word_at elsewhere cs p)) where
+has_end_at : (p w : ℕ) → p + 8 ≤ w - w % 8 → w - w % 8 - p < 2 ^ 31 → has_end p w ≡ true
+has_end_at p w more less = λ i. le-leb (p + 8) (w - w % 8) more i && lt-ltb (w - w % 8 - p) (2 ^ 31) less i
+
+pub shows_committed : (p w h : ℕ) → p + bytes_of h ≤ w → w < p + 2 ^ 31 → w % 8 ≡ committed_kind
+    → (8 ≤ bytes_of h) × (kind_of h ≡ committed_kind) → shows p w h ≡ true
+shows_committed p w h ends less kind is =
+    let long = is.0 in
+    λ i. has_end_at p w (omega arith) (omega arith) i
+    && (cond-true (w % 8 == committed_kind) (is_of_run p w h) (mark_of p h == w) (eq-eqb (w % 8) committed_kind kind)
+    ∙ (λ j. le-leb 8 (bytes_of h) is.0 j && le-leb (p + bytes_of h) w ends j
+    && eq-eqb (kind_of h) committed_kind is.1 j)) i
+
+shows_other : (p w h : ℕ) → p + 8 ≤ w - w % 8 → w - w % 8 < p + 2 ^ 31 → w % 8 ≢ committed_kind → mark_of p h ≡ w
+    → shows p w h ≡ true
+shows_other p w h more less kind is =
+    λ i. has_end_at p w more (omega arith) i
+    && (cond-false (w % 8 == committed_kind) (is_of_run p w h) (mark_of p h == w)
+    (ne_eqb (w % 8) committed_kind kind) ∙ eq-eqb (mark_of p h) w is) i
+
+pub header_low : (p w y : ℕ) → w ≤ p → header_of_mark p w y ≡ 0
+header_low p w y le = cond-true _ _ _ (le-leb w p le)
+
+pub header_shown : (p w y : ℕ) → p < w → shows p w (decoded p w y) ≡ true → header_of_mark p w y ≡ decoded p w y
+header_shown p w y above is = cond-false _ _ _ (lt-leb w p above) ∙ cond-true _ _ _ is
+
+module _ (C head : ℕ) (slots : List ℕ) (cs : List StagedClaim) (cap : IsCapacity C) (aligned : head % 8 ≡ 0)
+    (placed : ArePlaced C head cs) (have : HaveRecords C slots cs) (p : ℕ) (p8 : p % 8 ≡ 0) where
   abbrev h : ℕ
   h = staged_word_at elsewhere cs p
-
-  abbrev w : ℕ
-  w = slice_index words (index C p)
 
   abbrev y : ℕ
   y = slice_index slots (index C p)
 
-  decodes : decoded p w y ≡ staged_word_at elsewhere (all_filled_out cs) p
-  decodes = decode_all C head cs p w y cap aligned placed p8 is
-      (heads_of C head p slots cs cap.most placed have)
+  decodes : (w : ℕ) → IsMarkOf p w h → decoded p w y ≡ staged_word_at elsewhere (all_filled_out cs) p
+  decodes w is = decode_all C head cs p w y cap aligned placed p8 is (heads_of C head p slots cs cap.most placed have)
 
-  pub header_is : recovered_header C words slots p ≡ staged_word_at elsewhere (all_filled_out cs) p
-  header_is = dite (ℕ_discrete h 0)
-      (λ none. let le = is.none none in cond-true _ _ _ (le-leb w p le) ∙ sym (decoded_none p w y le) ∙ decodes)
-      (λ some.
-      let mark : w ≡ mark_of p h = is.mark some in
+  -- nothing was stored there
+  pub none_there : h ≡ 0 → staged_word_at elsewhere (all_filled_out cs) p ≡ 0
+  none_there none =
+      sym (decodes p (record { none = λ _. omega arith; mark = λ some. absurd (some none) }))
+      ∙ decoded_none p p y (omega arith)
+
+  -- what is there is not committed, and has its mark
+  pub other_there : h ≢ 0 → kind_of h ≢ committed_kind
+      → header_of_mark p (mark_of p h) y ≡ staged_word_at elsewhere (all_filled_out cs) p
+  other_there some kind =
+      let w : ℕ = mark_of p h in
+      let is : IsMarkOf p w h = record { none = λ none. absurd (some none); mark = λ _. refl } in
       let near = near_all C head cs p cap.least cap.most placed in
       let below = near.below in
       let most = cap.most in
       let eight = whole_bytes h in
       let few = few_of h in
       let full : 8 ≤ bytes_of h = long_bytes h some near.length_is in
-      let same : mark_of p (decoded p w y) ≡ w =
-      ap (mark_of p) decodes ∙ same_marks C head cs p cap placed ∙ sym mark in
-      cond-false _ _ _ (lt-leb w p (omega arith))
-      ∙ cond-true _ _ _ (λ i. (le-leb (p + 8) (w - w % 8) (omega arith) i
-      && lt-ltb (w - w % 8 - p) (2 ^ 31) (omega arith) i) && eq-eqb (mark_of p (decoded p w y)) w same i)
-      ∙ decodes)
+      header_shown p w y (omega arith) (shows_other p w (decoded p w y) (omega arith) (omega arith)
+      (λ e. kind (omega arith))
+      (ap (mark_of p) (decodes w is) ∙ same_marks C head cs p cap placed)) ∙ decodes w is
+
+  -- a committed record is there
+  pub committed_there : h ≢ 0 → kind_of h ≡ committed_kind → y ≡ staged_word_at elsewhere (all_filled_out cs) p
+  committed_there some kind =
+      let w : ℕ = mark_of p h in
+      let is : IsMarkOf p w h = record { none = λ none. absurd (some none); mark = λ _. refl } in
+      let near = near_all C head cs p cap.least cap.most placed in
+      let eight = whole_bytes h in
+      let full : 8 ≤ bytes_of h = long_bytes h some near.length_is in
+      sym (kind_is_committed p w y (omega arith) (omega arith)) ∙ decodes w is

@@ -1,15 +1,14 @@
 -- What the headers and the slots that a ring left come to.
-use Rattle.std.proofs.Common.{◌≡◌, ℕ, ◌+◌, ◌-◌, ◌/◌, ◌%◌, ◌≤◌, ◌<◌, true, false, List, ◌++◌, slice_index, sym, ap, ◌∙◌, subst, append_assoc, eq-eqb, le-ltb, arith, None, Result, Ok, Err}
+use Rattle.std.proofs.Common.{◌≡◌, ℕ, ◌+◌, ◌-◌, ◌/◌, ◌%◌, ◌≤◌, ◌<◌, true, false, List, ◌++◌, refl, sym, ap, ◌∙◌, subst, append_assoc, eq-eqb, le-ltb, arith, None, Result, Ok, Err}
 use Rattle.std.specs.Prelude.{IfOk, MatchResult, not, ◌||◌}
 use Rattle.std.proofs.lemmas.Bool.{cond-false}
 use Rattle.ring_layout.specs.Layout.{head_index, tail_index}
 use Rattle.ring_layout.specs.Lists.{Begins}
-use Rattle.ring_layout.specs.Places.{index}
 use Rattle.ring_layout.specs.Refusals.{IsRefusedBy}
 use Rattle.ring_snapshot.specs.RingRecords.{positions_finding}
 use Rattle.ring_snapshot.specs.declared.ring_finding.RingFinding.{RingFinding}
 use Rattle.ring_table.specs.Closed.{restarted}
-use Rattle.ring_table.specs.Marks.{mark_of}
+use Rattle.ring_table.specs.Marks.{at_position, ShowsRuns}
 use Rattle.ring_table.specs.OpenClaims.{AreBelow}
 use Rattle.ring_table.specs.Owners.{all_of}
 use Rattle.ring_table.specs.Passing.{placed_committed_of}
@@ -18,17 +17,20 @@ use Rattle.ring_table.specs.Rule.{Kept}
 use Rattle.ring_table.specs.Staged.{ArePlaced, elsewhere, staged_end, staged_word_at}
 use Rattle.ring_table.specs.declared.claim.PlacedMessage.{PlacedMessage}
 use Rattle.ring_table.specs.declared.claim.StagedClaim.{StagedClaim}
-use Rattle.ring_table.proofs.DecodeLemmas.{Marks, all_filled_out, filled_count, filled_ends, filled_messages, filled_placed}
+use Rattle.ring_table.proofs.DecodeLemmas.{all_filled_out, filled_count, filled_ends, filled_messages, filled_placed}
+use Rattle.ring_table.proofs.LastMarks.{shows_runs}
 use Rattle.ring_table.proofs.ReachLemmas.{reach_aligned, reach_bounds}
 use Rattle.ring_table.proofs.RestLemmas.{Splits, splits}
 use Rattle.ring_table.proofs.StagedPlaces.{capacity_aligned, end_aligned, start_aligned}
-use Rattle.ring_recovery.specs.Headers.{finding_of, head_of, headers_between, messages_of, open_of, recovered_header, tail_of}
+use Rattle.ring_recovery.specs.Headers.{finding_of, head_of, headers_between, messages_of, new_walk, open_of, tail_of}
 use Rattle.ring_recovery.specs.Image.{Remains}
 use Rattle.ring_recovery.specs.Recovered.{AreFrom, IsRecoveredOf, Reads, all_placed, messages_left}
 use Rattle.ring_recovery.specs.declared.recovered.Recovered.{Recovered}
 use Rattle.ring_recovery.proofs.BodyLemmas.{HaveFrom, have_all, have_records, have_rest, have_restarted}
 use Rattle.ring_recovery.proofs.GivenLemmas.{AreShown, Gives}
-use Rattle.ring_recovery.proofs.MarkLemmas.{HaveRecords, have_bodies, header_is}
+use Rattle.ring_recovery.proofs.MarkLemmas.{HaveRecords, have_bodies, heads_of}
+use Rattle.ring_recovery.proofs.ScanLemmas.{listed}
+use Rattle.ring_recovery.proofs.WalkLemmas.{all_found}
 use Rattle.ring_recovery.proofs.WholeLemmas.{gives}
 use Rattle.ring_recovery.proofs.SplitLemmas.{all_below, all_from, committed_append, count_restarted, first_below, from_restarted, messages_restarted, placed_front, same_rest}
 use Rattle.ring_recovery.proofs.StepLemmas.{finding_is}
@@ -57,7 +59,7 @@ module _ (C start : ℕ) (words slots : List ℕ) (m : Remains C start words slo
   tail = staged_end start claims
 
   abbrev headers : List (ℕ × ℕ)
-  headers = headers_between C words slots head tail
+  headers = headers_between C words slots new_walk head tail
 
   big : 128 ≤ C
   big = rule.lawful.capacity.least
@@ -94,32 +96,45 @@ module _ (C start : ℕ) (words slots : List ℕ) (m : Remains C start words slo
       (have_rest C head slots at_head.taken at_head.rest (subst (HaveFrom C head slots) at_head.whole
       (have_all C start m.rule.headers m.homes m.views rule m.rule.shelf slots m.image))))
 
-  -- the words have the marks of all claims
-  marked : (p : ℕ) → p % 8 ≡ 0 → head ≤ p → p < head + C
-      → Marks p (slice_index words (index C p)) (staged_word_at elsewhere claims p)
-  marked p p8 from below =
-      let high : rule.consumer.cleared ≤ p = omega (arith, m.rule.none_cleared, from) in
-      let shows : slice_index m.rule.headers (index C p) ≡ staged_word_at elsewhere claims p =
-      rule.memory.shows p p8 from below ∙ cond-false _ _ _ (le-ltb p rule.consumer.cleared high) in
-      record {
-        none = λ none. m.rule.encodes.none p p8 from below (shows ∙ none);
-        mark = λ some. m.rule.encodes.marks p p8 from below (λ none. some (sym shows ∙ none)) ∙ ap (mark_of p) shows;
-      }
+  -- the headers of the rule are those of these claims
+  are : (p : ℕ) → p % 8 ≡ 0 → head ≤ p → p < head + C
+      → at_position C m.rule.headers p ≡ staged_word_at elsewhere left p
+  are p p8 from below =
+      let none = m.rule.none_cleared in
+      let high : rule.consumer.cleared ≤ p = omega arith in
+      rule.memory.shows p p8 from below ∙ cond-false _ _ _ (le-ltb p rule.consumer.cleared high) ∙ at_head.words p from
 
-  are_shown : AreShown C tail (recovered_header C words slots) head (all_filled_out left)
+  head_is : head ≡ head_of C words
+  head_is = sym (m.rule.encodes.trailer (head_index C) (omega arith) ∙ rule.memory.head_is)
+
+  tail_is : tail ≡ tail_of C words
+  tail_is = sym (m.rule.encodes.trailer (tail_index C) (omega arith) ∙ rule.memory.tail_is)
+
+  runs : ShowsRuns C head slots words m.rule.headers
+  runs = subst (λ z. ShowsRuns C z slots words m.rule.headers) (sym head_is)
+      (shows_runs C start words m.homes m.views m.rule slots head left head8 at_head.placed are
+      (λ p _. heads_of C head p slots left rule.lawful.capacity.most at_head.placed have))
+
+  abbrev shown : ℕ → ℕ
+  shown p = staged_word_at elsewhere (all_filled_out left) p
+
+  found : headers ≡ listed shown ((tail - head) / 8) head
+  found = all_found C head words slots m.rule.headers runs left rule.lawful.capacity head8 at_head.placed have
+      (m.rule.encodes.wide ∙ rule.memory.wide) are ((tail - head) / 8) (omega (arith, rule.memory.room))
+
+  are_shown : AreShown C tail shown head (all_filled_out left)
   are_shown = record {
     capacity = rule.lawful.capacity;
     aligned = head8;
     placed = filled_placed C head left rule.lawful.capacity at_head.placed;
     ends = filled_ends head left ∙ at_head.ends;
-    shows = λ p p8 from below. header_is C head words slots left rule.lawful.capacity head8 at_head.placed have p p8
-        (subst (Marks p (slice_index words (index C p))) (at_head.words p from)
-        (marked p p8 from (omega (arith, below, rule.memory.room))));
+    shows = λ p _ _ _. refl;
   }
 
   given : Gives C tail slots head (all_filled_out left) headers
-  given = gives C tail slots (recovered_header C words slots) head ((tail - head) / 8) (all_filled_out left) are_shown
-      (have_bodies C slots left have) (omega (arith, order, head8, tail8))
+  given = subst (Gives C tail slots head (all_filled_out left)) (sym found)
+      (gives C tail slots shown head ((tail - head) / 8) (all_filled_out left) are_shown
+      (have_bodies C slots left have) (omega (arith, order, head8, tail8)))
 
   messages_are : all_placed (messages_of C slots tail headers) ≡ placed_committed_of at_head.rest
   messages_are = given.messages ∙ filled_messages left ∙ messages_restarted head at_head.rest
@@ -156,12 +171,6 @@ module _ (C start : ℕ) (words slots : List ℕ) (m : Remains C start words slo
 
   -- ---- what is recovered
 
-  head_is : head ≡ head_of C words
-  head_is = sym (m.rule.encodes.trailer (head_index C) (omega arith) ∙ rule.memory.head_is)
-
-  tail_is : tail ≡ tail_of C words
-  tail_is = sym (m.rule.encodes.trailer (tail_index C) (omega arith) ∙ rule.memory.tail_is)
-
   pub no_finding : finding_of C words slots ≡ None
   no_finding = finding_is C head tail words slots None m.image.wide head_is tail_is
       (positions_none C head tail head8 tail8 order rule.memory.room) (given.none head (omega arith))
@@ -171,7 +180,7 @@ module _ (C start : ℕ) (words slots : List ℕ) (m : Remains C start words slo
       let read : all_placed (messages_left r) ≡ placed_committed_of at_head.rest =
       ap all_placed reads.messages
       ∙ (λ i. all_placed (messages_of C slots (sym tail_is i)
-      (headers_between C words slots (sym head_is i) (sym tail_is i))))
+      (headers_between C words slots new_walk (sym head_is i) (sym tail_is i))))
       ∙ messages_are in
       record {
         passed = at_head.taken;
@@ -190,7 +199,7 @@ module _ (C start : ℕ) (words slots : List ℕ) (m : Remains C start words slo
               ∙ committed_append later.0 at_scan.rest,
         );
         open_claims = reads.open_claims
-            ∙ (λ i. open_of (headers_between C words slots (sym head_is i) (sym tail_is i))) ∙ claims_are;
+            ∙ (λ i. open_of (headers_between C words slots new_walk (sym head_is i) (sym tail_is i))) ∙ claims_are;
       }
 
   pub is_recovered : (r : Result Recovered RingFinding) → IsRefusedBy (finding_of C words slots) r

@@ -10,25 +10,32 @@ use Rattle.ring_layout.specs.Refusals.{IsRefusedBy}
 use Rattle.ring_snapshot.specs.RingRecords.{positions_finding}
 use Rattle.ring_snapshot.specs.declared.ring_finding.RingFinding.{RingFinding}
 use Rattle.ring_snapshot.specs.declared.ring_finding.RingFinding.TheVariants.{BadBodies}
-use Rattle.ring_recovery.specs.Headers.{all_headers, bytes_in, finding_of, head_of, header_finding, headers_between, headers_finding, headers_in, is_committed, message_at, messages_of, recovered_header, tail_of}
+use Rattle.ring_recovery.specs.Headers.{all_headers, bytes_in, finding_of, found_at, head_of, header_finding, headers_between, headers_finding, headers_in, is_committed, message_at, messages_of, new_walk, tail_of}
+use Rattle.ring_recovery.specs.declared.mark.Found.{Found}
+use Rattle.ring_recovery.specs.declared.mark.Walk.{Walk}
 use Rattle.ring_recovery.specs.declared.message.RecoveredMessage.{RecoveredMessage}
 
 -- ---- the next position
 
-module _ (shown : ℕ → ℕ) where
-  pub passes_zero : (n m p q : ℕ) → n ≡ m + 1 → q ≡ p + 8 → shown p ≡ 0
-      → headers_in shown n p ≡ headers_in shown m q
-  passes_zero n m p q en eq none =
-      ap (λ k. headers_in shown k p) (let more : n ≡ suc m = omega (arith, en) in more)
-      ∙ cond-true _ _ _ (eq-eqb (shown p) 0 none)
-      ∙ ap (headers_in shown m) (sym eq)
+module _ (found : Walk → ℕ → Found) (v : Walk) (n m p q : ℕ) (f : Found) (en : n ≡ m + 1) (eq : q ≡ p + 8)
+    (is : found v p ≡ f) where
+  header_is : (found v p).header ≡ f.header
+  header_is = ap (λ (x : Found). x.header) is
 
-  pub finds_header : (n m p q w : ℕ) → n ≡ m + 1 → q ≡ p + 8 → shown p ≡ w → (w ≡ 0 → ⊥)
-      → headers_in shown n p ≡ (p, w) ∷ headers_in shown m q
-  finds_header n m p q w en eq is some =
-      ap (λ k. headers_in shown k p) (let more : n ≡ suc m = omega (arith, en) in more)
-      ∙ cond-false _ _ _ (ne_eqb (shown p) 0 (λ z. some (sym is ∙ z)))
-      ∙ (λ i. (p, is i) ∷ headers_in shown m (sym eq i))
+  more : n ≡ suc m
+  more = omega (arith, en)
+
+  pub passes_zero : f.header ≡ 0 → headers_in found n v p ≡ headers_in found m f.walk q
+  passes_zero none =
+      ap (λ k. headers_in found k v p) more
+      ∙ cond-true _ _ _ (eq-eqb (found v p).header 0 (header_is ∙ none))
+      ∙ (λ i. headers_in found m (is i).walk (sym eq i))
+
+  pub finds_header : (f.header ≡ 0 → ⊥) → headers_in found n v p ≡ (p, f.header) ∷ headers_in found m f.walk q
+  finds_header some =
+      ap (λ k. headers_in found k v p) more
+      ∙ cond-false _ _ _ (ne_eqb (found v p).header 0 (λ z. some (sym header_is ∙ z)))
+      ∙ (λ i. (p, (is i).header) ∷ headers_in found m (is i).walk (sym eq i))
 
 -- ---- a finding
 
@@ -72,49 +79,51 @@ no_more : {A : Type 0} (b : Bool) (x : A) (xs : List A) → None ≡ (if b then 
 no_more true x xs e = absurd cc
 no_more false x xs e = refl
 
-module _ (C tail at : ℕ) (words slots : List ℕ) (aligned : (at % 8 ≡ 0) × (tail % 8 ≡ 0)) (before : at < tail)
-    (o : Option RecoveredMessage) (w : ℕ) (there_is : w ≡ recovered_header C words slots at)
-    (is : o ≡ (if is_committed C tail at w then Some (message_at C slots at w) else None)) where
+module _ (C tail at : ℕ) (words slots : List ℕ) (v : Walk) (aligned : (at % 8 ≡ 0) × (tail % 8 ≡ 0))
+    (before : at < tail) (o : Option RecoveredMessage) (f : Found) (there_is : f ≡ found_at C words slots v at)
+    (is : o ≡ (if is_committed C tail at f.header then Some (message_at C slots at f.header) else None)) where
   less : (tail - at) / 8 ≡ (tail - (at + 8)) / 8 + 1
   less = omega (arith, aligned.0, aligned.1, before)
 
-  at_zero : w ≡ 0 → o ≡ None
+  at_zero : f.header ≡ 0 → o ≡ None
   at_zero none = is ∙ ap (λ w. if is_committed C tail at w then Some (message_at C slots at w) else None) none
 
   abbrev rest : List (ℕ × ℕ)
-  rest = headers_between C words slots (at + 8) tail
+  rest = headers_between C words slots f.walk (at + 8) tail
 
-  found : (w ≡ 0 → ⊥) → headers_between C words slots at tail ≡ (at, w) ∷ rest
-  found some = finds_header (recovered_header C words slots) ((tail - at) / 8) ((tail - (at + 8)) / 8) at (at + 8) w
-      less refl (sym there_is) some
+  passed : f.header ≡ 0 → headers_between C words slots v at tail ≡ rest
+  passed = passes_zero (found_at C words slots) v ((tail - at) / 8) ((tail - (at + 8)) / 8) at (at + 8) f less refl
+      (sym there_is)
+
+  found : (f.header ≡ 0 → ⊥) → headers_between C words slots v at tail ≡ (at, f.header) ∷ rest
+  found = finds_header (found_at C words slots) v ((tail - at) / 8) ((tail - (at + 8)) / 8) at (at + 8) f less refl
+      (sym there_is)
 
   pub finds_message : (m : RecoveredMessage) → o ≡ Some m
-      → messages_of C slots tail (headers_between C words slots at tail) ≡ m ∷ messages_of C slots tail rest
-  finds_message m some = dite (ℕ_discrete w 0)
+      → messages_of C slots tail (headers_between C words slots v at tail) ≡ m ∷ messages_of C slots tail rest
+  finds_message m some = dite (ℕ_discrete f.header 0)
       (λ none. let clash : None ≡ Some m = sym (at_zero none) ∙ some in absurd cc)
       (λ there. ap (messages_of C slots tail) (found there)
-      ∙ one_more (is_committed C tail at w) (message_at C slots at w) m (messages_of C slots tail rest)
+      ∙ one_more (is_committed C tail at f.header) (message_at C slots at f.header) m (messages_of C slots tail rest)
       (sym some ∙ is))
 
   pub finds_none : o ≡ None
-      → messages_of C slots tail (headers_between C words slots at tail) ≡ messages_of C slots tail rest
-  finds_none none = dite (ℕ_discrete w 0)
-      (λ zero. ap (messages_of C slots tail)
-      (passes_zero (recovered_header C words slots) ((tail - at) / 8) ((tail - (at + 8)) / 8) at (at + 8) less refl
-      (sym there_is ∙ zero)))
+      → messages_of C slots tail (headers_between C words slots v at tail) ≡ messages_of C slots tail rest
+  finds_none none = dite (ℕ_discrete f.header 0) (λ zero. ap (messages_of C slots tail) (passed zero))
       (λ there. ap (messages_of C slots tail) (found there)
-      ∙ no_more (is_committed C tail at w) (message_at C slots at w) (messages_of C slots tail rest) (sym none ∙ is))
+      ∙ no_more (is_committed C tail at f.header) (message_at C slots at f.header) (messages_of C slots tail rest)
+      (sym none ∙ is))
 
 -- ---- the finding about the whole
 
 pub finding_is : (C h t : ℕ) (words slots : List ℕ) (x : Option RingFinding) → length slots ≡ C / 8
     → h ≡ head_of C words → t ≡ tail_of C words → positions_finding C h t ≡ None
-    → headers_finding C t h (headers_between C words slots h t) ≡ x → finding_of C words slots ≡ x
+    → headers_finding C t h (headers_between C words slots new_walk h t) ≡ x → finding_of C words slots ≡ x
 finding_is C h t words slots x wide head tail positions headers =
     ap (λ y. or_else y (or_else (positions_finding C (head_of C words) (tail_of C words))
     (headers_finding C (tail_of C words) (head_of C words) (all_headers C words slots))))
     (cond-true _ None (Some (BadBodies (length slots))) (eq-eqb (length slots) (C / 8) wide))
     ∙ (λ i. or_else (positions_finding C (sym head i) (sym tail i))
-    (headers_finding C (sym tail i) (sym head i) (headers_between C words slots (sym head i) (sym tail i))))
-    ∙ ap (λ y. or_else y (headers_finding C t h (headers_between C words slots h t))) positions
+    (headers_finding C (sym tail i) (sym head i) (headers_between C words slots new_walk (sym head i) (sym tail i))))
+    ∙ ap (λ y. or_else y (headers_finding C t h (headers_between C words slots new_walk h t))) positions
     ∙ headers

@@ -15,7 +15,7 @@ use Rattle.ring_table.specs.declared.view.ConsumerView.{ConsumerView}
 -- the messages that are still to come
 abbrev pub messages_left : Recovered → List RecoveredMessage
 messages_left r =
-    messages_of r.capacity r.slots.now r.tail (headers_between r.capacity r.words.now r.slots.now r.at r.tail)
+    messages_of r.capacity r.slots.now r.tail (headers_between r.capacity r.words.now r.slots.now r.walk r.at r.tail)
 
 abbrev pub placed : RecoveredMessage → PlacedMessage
 placed m = record { place = m.place; message = record { type_id = m.type_id; body = m.body } }

@@ -1,7 +1,7 @@
 //! Recovers the messages of a ring from the memory that is left after all its threads died, each at any step.
 //!
-//! - `memory`: tests the memory, and returns what is recovered from it. `mark`: reads the header of one mark. `header`:
-//!   tests one header.
+//! - `memory`: tests the memory, and returns what is recovered from it. `mark`: finds the headers of marks, and those of
+//!   the runs that marks cover. `header`: tests one header.
 //! - `recovered`, `message`, `body`: what is recovered.
 #![tactic(auto)]
 

@@ -4,12 +4,12 @@ ghost use Rattle.ring_layout.specs.Layout.{ring_words};
 ghost use Rattle.ring_layout.specs.Places.{IsCapacity};
 ghost use Rattle.ring_layout.specs.Refusals.{IsRefusedBy};
 ghost use Rattle.ring_snapshot.specs.declared.ring_finding.RingFinding.TheVariants.{BadSize};
-ghost use Rattle.ring_recovery.specs.Headers.{finding_of, headers_between, headers_finding, open_of};
+ghost use Rattle.ring_recovery.specs.Headers.{finding_of, headers_between, headers_finding, new_walk, open_of};
 ghost use Rattle.ring_recovery.specs.Image.{Remains};
 ghost use Rattle.ring_recovery.specs.Recovered.{IsRecoveredOf, Reads};
 
 use crate::header::{check_header, is_open};
-use crate::mark::recovered_header;
+use crate::mark::{Walk, found_at};
 use crate::recovered::Recovered;
 use ring_snapshot::{RingFinding, RingSnapshot};
 
@@ -26,17 +26,19 @@ fn check_headers(
     requires slots { length slots.now ≡ capacity / 8 }
     requires order { head ≤ tail }
     ensures refused { IsRefusedBy
-        (headers_finding capacity tail head (headers_between capacity words.now slots.now head tail)) result }
-    ensures claims { IfOk result (λ n. n ≡ open_of (headers_between capacity words.now slots.now head tail)) }
+        (headers_finding capacity tail head (headers_between capacity words.now slots.now new_walk head tail)) result }
+    ensures claims { IfOk result (λ n. n ≡ open_of (headers_between capacity words.now slots.now new_walk head tail)) }
 {
     let mut claims = 0;
     let mut end = head;
+    let mut walk = Walk { next: 0, end: 0 };
     for k in 0..(tail - head) / 8 {
         let at = head + 8 * k;
-        let header = recovered_header(words, slots, capacity, at);
-        if header != 0 {
-            end = check_header(capacity, tail, end, at, header)?;
-            if is_open(header) {
+        let found = found_at(words, slots, capacity, walk, at);
+        walk = found.walk;
+        if found.header != 0 {
+            end = check_header(capacity, tail, end, at, found.header)?;
+            if is_open(found.header) {
                 claims += 1;
             }
         }
@@ -67,6 +69,7 @@ fn read_memory<'a>(words: &'a [u64], slots: &'a [u64]) -> Result<Recovered<'a>, 
         slots,
         capacity,
         at: head,
+        walk: Walk { next: 0, end: 0 },
         tail,
         open_claims,
     })
@@ -82,8 +85,9 @@ fn read_memory<'a>(words: &'a [u64], slots: &'a [u64]) -> Result<Recovered<'a>, 
 /// For any other memory the call returns a finding about it, or the messages of the headers that it has. The findings
 /// are, in this order: `BadSize` if no ring has this many words, `BadBodies` if there are not as many slots as words of
 /// the buffer, `UnalignedPosition`, `TailBeforeHead` and `TailTooFar` for positions that make no sense, and `BadLength`
-/// or `BadType` for the first header that no record has there, or that lies inside another record. A mark that is not
-/// the mark of the header beside it gives `BadLength` with the length 1.
+/// or `BadType` for the first header that no record has there, or that lies inside another record. A mark that does not
+/// show the header beside it gives `BadLength` with the length 1. So does a header in a run of committed records that is
+/// not that of a committed record, or whose record would end above the end of the run.
 ///
 /// The call changes nothing, and allocates no memory. Any thread may call it.
 pub fn recover<'a>(words: &'a [u64], slots: &'a [u64]) -> Result<Recovered<'a>, RingFinding>

@@ -5,7 +5,7 @@ ghost use Rattle.ring_layout.specs.Layout.{ring_words};
 
 use crate::body::Body;
 use crate::header::is_length;
-use crate::mark::recovered_header;
+use crate::mark::{Walk, found_at};
 use crate::message::RecoveredMessage;
 use ring_layout::record_descriptor::HEADER_LENGTH;
 use ring_layout::{byte_index, unpack_header};
@@ -17,6 +17,7 @@ pub struct Recovered<'a> {
     pub(crate) slots: &'a [u64],
     pub(crate) capacity: u32,
     pub(crate) at: u64,
+    pub(crate) walk: Walk,
     pub(crate) tail: u64,
     pub(crate) open_claims: u64,
     ghost lawful: { IsCapacity capacity },
@@ -64,6 +65,7 @@ impl<'a> Recovered<'a> {
             slots: self.slots,
             capacity: self.capacity,
             at: self.at,
+            walk: self.walk,
             tail: self.tail,
             open_claims: self.open_claims,
         }
@@ -102,9 +104,10 @@ impl<'a> Iterator for Recovered<'a> {
     fn next(&mut self) -> Option<RecoveredMessage<'a>> {
         while self.at < self.tail {
             let at = self.at;
-            let header = recovered_header(self.words, self.slots, self.capacity, at);
+            let found = found_at(self.words, self.slots, self.capacity, self.walk, at);
             self.at += 8;
-            if let Some(message) = self.message_at(at, header) {
+            self.walk = found.walk;
+            if let Some(message) = self.message_at(at, found.header) {
                 return Some(message);
             }
         }

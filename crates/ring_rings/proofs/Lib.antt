@@ -1,11 +1,13 @@
 pub mod NewestLemmas
 pub mod LookLemmas
 pub mod RefusalLemmas
+pub mod BatchLemmas
 pub mod CountLemmas
 pub mod RisingLemmas
 pub mod MadeLemmas
 pub mod MoveLemmas
 pub mod SentLemmas
+pub mod RunMade
 pub mod ReceivedLemmas
 pub mod CloseLemmas
 pub mod RescueLemmas
@@ -16,6 +18,7 @@ pub mod MergeLemmas
 pub mod ReadingCopies
 pub mod ReadingSeats
 pub mod ReadingFinds
+pub mod ReadingShown
 pub mod ReadingRuns
 pub mod ReadingEnds
 pub mod ReadingHeeds

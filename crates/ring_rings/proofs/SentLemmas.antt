@@ -1,12 +1,13 @@
 -- What calls send and receive, by what they do to views.
-use Rattle.std.proofs.Common.{◌≡◌, ◌∙◌, ◌<◌, ℕ, ℤ, zero, suc, List, [], ◌∷◌, ◌++◌, refl, sym, ap, subst, append_assoc, arith, inl, inr, lt-ltb, le-ltb, cond}
+use Rattle.std.proofs.Common.{◌≡◌, ◌∙◌, ◌+◌, ◌<◌, ℕ, ℤ, zero, suc, length, List, [], ◌∷◌, ◌++◌, refl, sym, ap, subst, append_assoc, arith, inl, inr, lt-ltb, le-ltb, cond}
 use mathlib.Core.Option.{some, some-injective, some-ne-none}
 use lib.ListN.{get_elem?}
 use Rattle.std.proofs.lemmas.Bool.{cases_lt}
 use Rattle.std.proofs.lemmas.List.{append-nil}
 use Rattle.ring_layout.specs.declared.message.ClaimState.TheVariants.{Open, Committed, Aborted}
 use Rattle.ring_layout.specs.declared.message.Message.{Message}
-use Rattle.ring_layout.specs.History.{committed_of, shown}
+use Rattle.ring_layout.specs.History.{committed_of, shown, span}
+use Rattle.ring_table.specs.Runs.{run_claims}
 use Rattle.ring_words.specs.Ring.{Ring, IsRing}
 use Rattle.ring_words.proofs.UniqueLemmas.{alike}
 use Rattle.ring_table.specs.declared.claim.PlacedMessage.{PlacedMessage}
@@ -62,6 +63,15 @@ pub write_sends : (cs ds : List StagedClaim) (C tail : ℕ) (type_id : ℤ) (bod
     → ds ≡ cs ++ record_behind C tail type_id body ∷ [] → sent_of ds ≡ sent_of cs ++ message type_id body ∷ []
 write_sends cs ds C tail type_id body more =
     ap sent_of more ∙ sent_of-append cs (record_behind C tail type_id body ∷ [])
+
+-- the claims of a run more
+pub run_sends : (p : ℕ) (ms : List Message) (cs ds : List StagedClaim) → ds ≡ cs ++ run_claims p ms
+    → sent_of ds ≡ sent_of cs ++ ms
+run_sends p ms cs ds more = ap sent_of more ∙ sent_of-append cs (run_claims p ms) ∙ ap (λ l. sent_of cs ++ l) (all_sent p ms)
+  where
+    all_sent : (p : ℕ) (ms : List Message) → sent_of (run_claims p ms) ≡ ms
+    all_sent p [] = refl
+    all_sent p (m ∷ ms) = ap (λ l. m ∷ l) (all_sent (p + span (length m.body)) ms)
 
 pub tries_send_none : (C : ℕ) (type_id : ℤ) (len : ℕ) (tries : List (ℕ × ℕ)) (v w : View)
     → AreContended C type_id len tries v w → sent_in w ≡ sent_in v

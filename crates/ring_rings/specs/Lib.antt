@@ -7,6 +7,7 @@ pub mod Opening
 pub mod Joining
 pub mod Closing
 pub mod Rescuing
+pub mod Batches
 pub mod Bodies
 pub mod Reading
 pub mod ReadingSteps

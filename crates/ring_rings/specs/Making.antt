@@ -1,12 +1,12 @@
 -- The parts of the making of a claim.
-use Rattle.std.specs.Prelude.{◌≡◌, ◌≢◌, ℕ, ◌+◌, ◌%◌, ◌≤◌, ◌<◌, ◌==◌, ℤ, List, [], ◌∷◌, ◌++◌, Bool, None}
+use Rattle.std.specs.Prelude.{◌≡◌, ◌≢◌, ℕ, ◌+◌, ◌%◌, ◌≤◌, ◌<◌, ◌==◌, ℤ, List, [], ◌∷◌, ◌++◌, Bool, true, false, None}
 use Rattle.ring_layout.specs.History.{IsMessage, span}
 use Rattle.ring_layout.specs.Places.{next_place, end_after, max_position}
 use Rattle.ring_table.specs.declared.claim.StagedClaim.{StagedClaim}
 use Rattle.ring_table.specs.declared.view.View.{View}
 use Rattle.ring_table.specs.Staged.{staged_span}
 use Rattle.ring_table.specs.Changes.{blank, fresh_stage, moved_claim}
-use Rattle.ring_table.specs.ProducerSteps.{EndBelow}
+use Rattle.ring_table.specs.ProducerSteps.{EndBelow, LoadsTail}
 use Rattle.ring_table.specs.Views.{with_claim}
 use Rattle.ring_layout.specs.declared.admission.Admission.{Admission}
 use Rattle.ring_layout.specs.Refusals.{all_shares}
@@ -15,6 +15,11 @@ use Rattle.ring_words.specs.declared.fault.ClaimFault.TheVariants.{InsufficientC
 use Rattle.ring_rings.specs.declared.fault.TryFault.{TryFault}
 use Rattle.ring_rings.specs.declared.fault.TryFault.TheVariants.{Refused, Contended}
 use Rattle.ring_rings.specs.Claiming.{GoesBy, LooksTwice, SeesRoom, SeesTail, looked, tail_loads, tail_refusal_of}
+
+-- The view is w once the producer knows the tail. One of many producers loads it.
+abbrev pub KnowsTail : Bool → ℕ → View → ℕ → View → Type 0
+KnowsTail true C v tail w = LoadsTail C v tail w
+KnowsTail false C v tail w = (w ≡ v) × (tail ≡ v.producer.seen_tail)
 
 -- the admission is the place of a valid message after the tail
 pub record GoesBehind (C tail : ℕ) (type_id : ℤ) (len : ℕ) (a : Admission) : Type 0 where

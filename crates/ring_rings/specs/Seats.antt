@@ -11,6 +11,7 @@ use Rattle.ring_table.specs.declared.claim.PlacedMessage.{PlacedMessage}
 use Rattle.ring_table.specs.OpenClaims.{open_count}
 use Rattle.ring_table.specs.Staged.{AreRising}
 use Rattle.ring_table.specs.declared.view.View.{View}
+use Rattle.ring_table.specs.Views.{with_run}
 use Rattle.ring_table.specs.Seats.{IsSameSeat}
 use Rattle.ring_rings.specs.Reading.{at_rest}
 use Rattle.ring_rings.specs.declared.ring.Ring.{Ring}
@@ -59,6 +60,14 @@ MayClaim many p = many ≡ false → shares_of p ≡ all_shares
 -- the view of the consumer's seat
 abbrev pub seat_view : Consumer → View
 seat_view c = c.seat.me.0
+
+-- where the run begins that the running read of a consumer is in
+abbrev pub run_of : Consumer → ℕ
+run_of c = c.seat.me.0.consumer.run.from
+
+-- the view with the run of this consumer
+abbrev pub in_run : Consumer → View → View
+in_run c v = with_run c.seat.me.0.consumer.run v
 
 -- The view of the consumer between two calls. It is the view of the seat, without what a running read has found.
 abbrev pub consumer_view : Consumer → View

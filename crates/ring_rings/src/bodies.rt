@@ -24,7 +24,7 @@ ghost use Rattle.ring_rings.specs.Bodies.{HasPaddedLast, IsPaddedLast, PutsBytes
 ghost use Rattle.ring_rings.specs.ReadingSteps.{CopiesBody, HasBodyAt, HasGotLast, HasLastAt, IsInBlock, IsReaderSeatOf, LoadsWholeBody, OnlyLoads};
 
 use atomic_table::Closed;
-use ring_table::{Headers, Key, RingSeat, RingTable, SharedRing, Unsettled, Wanted};
+use ring_table::{Headers, Key, RingSeat, RingTable, Run, SharedRing, Unsettled, Wanted};
 use std::alloc::{AllocError, Global};
 
 /// The memory of the bodies of messages, which is words (`InWords`) or slots (`InSlots`).
@@ -132,12 +132,20 @@ pub trait Bodies: Headers {
 
     /// Stores the head after all that the read has passed, from the head up to the position `to`. If bodies are in
     /// words, these words are cleared first.
-    fn store_head(words: &SharedRing<Self>, seat: &mut RingSeat, capacity: u32, head: u64, to: u64)
+    fn store_head(
+        words: &SharedRing<Self>,
+        seat: &mut RingSeat,
+        capacity: u32,
+        head: u64,
+        to: u64,
+        run: Run,
+    )
         requires seat { IsReaderSeatOf words.now.table_id words.now.key capacity seat.old }
         requires stands { (seat.old.me.0.consumer.head ≡ head) × (seat.old.me.0.consumer.cleared ≡ head) }
         requires passed { (head ≤ to) × (seat.old.me.0.consumer.scan ≡ to) }
         requires whole { (head % 8 ≡ 0) × (to % 8 ≡ 0) }
         requires inside { IsInBlock capacity head to }
+        requires run { seat.old.me.0.consumer.run ≡ run }
         ensures seat { IsSameSeat seat.old seat.new }
         ensures told { StoresHead seat.old.me.0 seat.new.me.0 };
 
@@ -148,9 +156,11 @@ pub trait Bodies: Headers {
         capacity: u32,
         head: u64,
         to: u64,
+        run: Run,
     )
         requires seat { IsReaderSeatOf words.now.table_id words.now.key capacity seat.old }
         requires stands { (seat.old.me.0.consumer.head ≡ head) × (seat.old.me.0.consumer.cleared ≡ head) }
+        requires run { (seat.old.me.0.consumer.run ≡ run) × (run.from ≤ to) }
         requires last { StandsBefore to seat.old.me.0 }
         requires passed { (head ≤ to) × (to ≤ seat.old.me.0.consumer.scan) }
         requires whole { (head % 8 ≡ 0) × (to % 8 ≡ 0) }

@@ -84,6 +84,7 @@ impl<K, B: Bodies> Ring<K, B> {
         let Consumer {
             seat: reader,
             head: _,
+            run: _,
             scratch,
         } = consumer;
         let Ring {

@@ -1,10 +1,11 @@
 //! The kinds of rings. The kind says how a producer moves the tail.
-ghost use Rattle.std.specs.Prelude.{◌≡◌, ◌%◌, ◌<◌, ◌≤◌, Bool, false, true, MatchResult, OnErr};
+ghost use Rattle.std.specs.Prelude.{◌≡◌, ◌%◌, ◌<◌, ◌≤◌, Bool, false, true, IfOk, MatchResult, None, OnErr};
 ghost use Rattle.ring_layout.specs.Places.{max_position};
 ghost use Rattle.ring_layout.specs.Refusals.{all_shares};
 ghost use Rattle.ring_table.specs.Seats.{IsSameSeat, IsSeatOf};
-ghost use Rattle.ring_rings.specs.Claiming.{RefusesTry};
-ghost use Rattle.ring_rings.specs.Making.{MovesBehind};
+ghost use Rattle.ring_rings.specs.Claiming.{request_refusal_of, RefusesTry};
+ghost use Rattle.ring_rings.specs.Making.{KnowsTail, MovesBehind};
+ghost use Rattle.ring_table.specs.declared.view.View.{View};
 
 use crate::fault::TryFault;
 use crate::producer::room::{admit, find_room, test_request};
@@ -40,6 +41,44 @@ pub trait Kind: Sized {
         ensures own { OnErr result
             (seat.old.me.0.producer.shares ≡ all_shares
             → seat.new.me.0.producer.seen_tail ≡ seat.old.me.0.producer.seen_tail) };
+
+    /// Returns the tail that a claim goes by. The only producer knows it, and one of several producers loads it.
+    fn learn_tail<M: Mode>(
+        words: &SharedRing<M>,
+        seat: &mut RingSeat,
+        capacity: u32,
+        own_tail: u64,
+    ) -> u64
+        requires seat { IsSeatOf words.now.table_id words.now.key capacity seat.old }
+        requires sole { many ≡ false → seat.old.me.0.producer.shares ≡ all_shares }
+        requires own { seat.old.me.0.producer.shares ≡ all_shares → seat.old.me.0.producer.seen_tail ≡ own_tail }
+        requires position { (own_tail % 8 ≡ 0) × (own_tail ≤ max_position) }
+        ensures seat { IsSameSeat seat.old seat.new }
+        ensures knows { KnowsTail many capacity seat.old.me.0 result seat.new.me.0 }
+        ensures position { (result % 8 ≡ 0) × (result ≤ max_position) };
+
+    /// Makes one try to move this tail past a message, of which the type id and the length were tested.
+    fn move_from<M: Mode>(
+        words: &SharedRing<M>,
+        seat: &mut RingSeat,
+        capacity: u32,
+        tail: u64,
+        wanted: Wanted,
+    ) -> Result<Admission, TryFault>
+        requires seat { IsSeatOf words.now.table_id words.now.key capacity seat.old }
+        requires share { 0 < seat.old.me.0.producer.shares }
+        requires sole { many ≡ false → seat.old.me.0.producer.shares ≡ all_shares }
+        requires request { request_refusal_of capacity wanted.type_id wanted.len ≡ None }
+        requires known { (v : View) × KnowsTail many capacity v tail seat.old.me.0 }
+        requires position { (tail % 8 ≡ 0) × (tail ≤ max_position) }
+        ensures seat { IsSameSeat seat.old seat.new }
+        ensures told { (v : View) → KnowsTail many capacity v tail seat.old.me.0 → MatchResult result
+            (λ a. MovesBehind many capacity wanted.type_id wanted.len v a seat.new.me.0)
+            (λ fault. RefusesTry many capacity wanted.type_id wanted.len v fault seat.new.me.0) }
+        ensures from { IfOk result (λ a. a.tail ≡ tail) }
+        ensures own { OnErr result
+            (seat.old.me.0.producer.shares ≡ all_shares
+            → seat.new.me.0.producer.seen_tail ≡ seat.old.me.0.producer.seen_tail) };
 }
 
 impl Kind for OneToOne {
@@ -54,7 +93,28 @@ impl Kind for OneToOne {
         wanted: Wanted,
     ) -> Result<Admission, TryFault> {
         test_request(capacity, wanted)?;
-        let admission = admit(capacity, own_tail, wanted)?;
+        Self::move_from(words, seat, capacity, own_tail, wanted)
+    }
+
+    #[inline(always)]
+    fn learn_tail<M: Mode>(
+        _words: &SharedRing<M>,
+        _seat: &mut RingSeat,
+        _capacity: u32,
+        own_tail: u64,
+    ) -> u64 {
+        own_tail
+    }
+
+    #[inline(always)]
+    fn move_from<M: Mode>(
+        words: &SharedRing<M>,
+        seat: &mut RingSeat,
+        capacity: u32,
+        tail: u64,
+        wanted: Wanted,
+    ) -> Result<Admission, TryFault> {
+        let admission = admit(capacity, tail, wanted)?;
         find_room(words, seat, capacity, admission)?;
         store_tail(words, seat, capacity, admission.end, wanted);
         Ok(admission)
@@ -74,6 +134,27 @@ impl Kind for ManyToOne {
     ) -> Result<Admission, TryFault> {
         test_request(capacity, wanted)?;
         let tail = load_tail(words, seat, capacity);
+        Self::move_from(words, seat, capacity, tail, wanted)
+    }
+
+    #[inline(always)]
+    fn learn_tail<M: Mode>(
+        words: &SharedRing<M>,
+        seat: &mut RingSeat,
+        capacity: u32,
+        _own_tail: u64,
+    ) -> u64 {
+        load_tail(words, seat, capacity)
+    }
+
+    #[inline(always)]
+    fn move_from<M: Mode>(
+        words: &SharedRing<M>,
+        seat: &mut RingSeat,
+        capacity: u32,
+        tail: u64,
+        wanted: Wanted,
+    ) -> Result<Admission, TryFault> {
         let admission = admit(capacity, tail, wanted)?;
         find_room(words, seat, capacity, admission)?;
         let seen = move_tail(words, seat, capacity, tail, admission.end, wanted);

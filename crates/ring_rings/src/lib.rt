@@ -3,8 +3,8 @@
 //! - `ring`: a ring, its producers and its consumer. `open` makes a ring, and `close` takes it apart.
 //! - `kind`: how a producer of each kind moves the tail.
 //! - `producer`: the calls of producers. `try_once` has one try for both kinds of rings. `one_to_one` and `many_to_one`
-//!   have the calls of one kind. `wait` has the calls that try again. `settle` settles claims. `service` has the calls
-//!   for ids, heartbeats and positions.
+//!   have the calls of one kind. `wait` has the calls that try again. `batch` writes several messages to a plain ring.
+//!   `settle` settles claims. `service` has the calls for ids, heartbeats and positions.
 //! - `consumer`: the calls of the consumer. `read` has the calls, `turn` has one turn of a read, and `pass` has the end
 //!   of a read. `heartbeat` stores the heartbeat.
 //! - `source`: the traits that a conductor needs of a ring.
@@ -36,6 +36,6 @@ pub use ring::{
     PlainOneToOneRing, PlainRing, Producer, Ring,
 };
 pub use ring_layout::{MakeFault, NoShares};
-pub use ring_table::{InSlots, InWords, Unsettled};
+pub use ring_table::{InSlots, InWords, Outgoing, Unsettled};
 pub use ring_words::{Action, ClaimFault, Handler, Positions, PutRange, ReadEnd, Standing, Stop};
 pub use source::{CommandSource, Heartbeat, Rescue};

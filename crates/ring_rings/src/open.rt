@@ -10,7 +10,7 @@ use crate::bodies::Bodies;
 use crate::ring::{Consumer, Producer, Ring};
 use ring_layout::ring_buffer_descriptor::TRAILER_WORDS;
 use ring_layout::{ALL_SHARES, MakeFault, check_ring, max_message};
-use ring_table::{Key, split_consumer};
+use ring_table::{Key, Run, split_consumer};
 use std::alloc::{AllocError, Global};
 use std::marker::PhantomData;
 
@@ -70,6 +70,10 @@ impl<K, B: Bodies> Ring<K, B> {
         let consumer = Consumer {
             seat: split_consumer(&table.shared, &mut seat),
             head: start,
+            run: Run {
+                from: start,
+                to: start,
+            },
             scratch,
         };
         let producer = Producer {

@@ -1,4 +1,5 @@
 //! Calls that return the counts of a producer.
+pub(crate) mod batch;
 pub(crate) mod many_to_one;
 pub(crate) mod one_to_one;
 pub(crate) mod record;

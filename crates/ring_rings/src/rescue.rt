@@ -63,6 +63,7 @@ impl<K, B: Bodies> Ring<K, B> {
         let Consumer {
             seat,
             head: _,
+            run: _,
             scratch,
         } = consumer;
         let Ring {
@@ -97,6 +98,7 @@ impl<K, B: Bodies> Ring<K, B> {
         let Consumer {
             seat: reader,
             head: _,
+            run: _,
             scratch,
         } = consumer;
         let Ring {

@@ -6,7 +6,7 @@ ghost use Rattle.ring_rings.specs.Matching.{Matches, matches_prop};
 
 use crate::bodies::Bodies;
 use crate::fault::CloseFault;
-use ring_table::{InSlots, InWords, RingSeat, RingTable};
+use ring_table::{InSlots, InWords, RingSeat, RingTable, Run};
 use std::marker::PhantomData;
 
 /// The kind of a ring that one producer writes.
@@ -77,10 +77,13 @@ pub struct Producer {
 pub struct Consumer {
     pub(crate) seat: RingSeat,
     pub(crate) head: u64,
+    // The run of records that the running read is in.
+    pub(crate) run: Run,
     pub(crate) scratch: Vec<u8>,
     ghost consumes: { (seat.me.0.consumes ≡ true) × (seat.me.1 ≡ []) × (seat.me.0.producer.shares ≡ 0) },
     ghost home: { seat.me.0.out ≡ [] },
     ghost stands: { (seat.me.0.consumer.head ≡ head) × (seat.me.0.consumer.cleared ≡ head) },
+    ghost ran: { seat.me.0.consumer.run ≡ run },
     ghost whole: { (head % 8 ≡ 0) × (head ≤ max_position) },
     ghost room: { vec_len scratch ≡ seat.me.0.capacity / 8 },
 }

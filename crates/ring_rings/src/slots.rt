@@ -10,9 +10,9 @@ ghost use Rattle.ring_rings.specs.ReadingSteps.{IsReaderSeatOf, LoadsWholeBody};
 use crate::bodies::Bodies;
 use atomic_table::Closed;
 use ring_table::{
-    InSlots, Key, RingSeat, RingTable, SharedRing, Unsettled, Wanted, lend_body, open_slots,
+    InSlots, Key, RingSeat, RingTable, Run, SharedRing, Unsettled, Wanted, lend_body, open_slots,
     put_slots, read_slots, rescue_slots, return_body, show_slots, store_claimed_slots,
-    store_head_before_mark, store_head_past_marks, write_slots,
+    store_head_before_run, store_head_past_run, write_slots,
 };
 use std::alloc::{AllocError, Global};
 
@@ -105,8 +105,9 @@ impl Bodies for InSlots {
         capacity: u32,
         _head: u64,
         to: u64,
+        run: Run,
     ) {
-        store_head_past_marks(slots, seat, capacity, to);
+        store_head_past_run(slots, seat, capacity, to, run);
     }
 
     #[inline(always)]
@@ -116,8 +117,9 @@ impl Bodies for InSlots {
         capacity: u32,
         _head: u64,
         to: u64,
+        run: Run,
     ) {
-        store_head_before_mark(slots, seat, capacity, to);
+        store_head_before_run(slots, seat, capacity, to, run);
     }
 
     fn show(closed: Closed<u64, Global>, room: Vec<u64>) -> Vec<u64> {

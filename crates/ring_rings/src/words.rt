@@ -13,7 +13,7 @@ use atomic_table::Closed;
 use ring_layout::record_descriptor::HEADER_LENGTH;
 use ring_layout::{first_word, put_bytes_word, put_word, word_index};
 use ring_table::{
-    Headers, InWords, Key, RingSeat, RingTable, SharedRing, Unsettled, Wanted, clear_word,
+    Headers, InWords, Key, RingSeat, RingTable, Run, SharedRing, Unsettled, Wanted, clear_word,
     copy_words, load_body_word, load_own_word, load_passed_word, open, rescue_words,
     store_body_word, store_claimed_header, store_head, store_head_before,
 };
@@ -278,6 +278,7 @@ impl Bodies for InWords {
         capacity: u32,
         head: u64,
         to: u64,
+        _run: Run,
     ) {
         clear_up(words, seat, capacity, head, to);
         store_head(words, seat, capacity, to);
@@ -290,6 +291,7 @@ impl Bodies for InWords {
         capacity: u32,
         head: u64,
         to: u64,
+        _run: Run,
     ) {
         clear_up(words, seat, capacity, head, to);
         store_head_before(words, seat, capacity, to);

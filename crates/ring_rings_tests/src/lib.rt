@@ -4,6 +4,8 @@
 #[cfg(test)]
 mod across;
 #[cfg(test)]
+mod batches;
+#[cfg(test)]
 mod bench;
 #[cfg(test)]
 mod claims;

@@ -6,49 +6,56 @@ use Rattle.std.proofs.lemmas.Bool.{ne_eqb, le-leb, lt-leb, cond-true, cond-false
 use Rattle.ring_layout.specs.Places.{index, IsCapacity}
 use Rattle.ring_layout.specs.Layout.{ring_words}
 use Rattle.ring_layout.proofs.CapacityLemmas.{capacity_blocks}
-use Rattle.ring_snapshot.specs.Marks.{header_at}
+use Rattle.ring_snapshot.specs.Marks.{header_with, mark_at, run_of}
 use Rattle.ring_snapshot.specs.PlainWords.{joined_from, span_at, with_record}
 
--- what the record at a position makes of the words
-abbrev Joins : ℕ → List ℕ → ℕ → ℕ → ℕ → List ℕ → List ℕ → Type 0
-Joins C slots tail at n old new = new
-    ≡ (if n == 0 then set old (index C at) (header_at C old slots at) else with_record C slots at n old)
+-- the record at a position with this mark has n bytes, and makes these words
+abbrev Joins : ℕ → List ℕ → ℕ → ℕ → ℕ → ℕ → List ℕ → List ℕ → Type 0
+Joins C slots tail mark at n old new = (n ≡ span_at C tail at (header_with C slots tail mark at)) × (new
+    ≡ (if n == 0 then set old (index C at) (header_with C slots tail mark at)
+    else with_record C slots tail mark at n old))
 
 -- the tail was reached
-pub joined_over : (C : ℕ) (slots : List ℕ) (tail m at : ℕ) (words : List ℕ) → tail ≤ at
-    → joined_from C slots tail m at words ≡ words
-joined_over C slots tail zero at words le = refl
-joined_over C slots tail (suc m) at words le = cond-true _ _ _ (le-leb tail at le)
+pub joined_over : (C : ℕ) (slots : List ℕ) (tail m run at : ℕ) (words : List ℕ) → tail ≤ at
+    → joined_from C slots tail m run at words ≡ words
+joined_over C slots tail zero run at words le = refl
+joined_over C slots tail (suc m) run at words le = cond-true _ _ _ (le-leb tail at le)
 
--- a record is passed
-pub joined_goes : (C : ℕ) (slots : List ℕ) (tail m k at n : ℕ) (old new : List ℕ) → m ≡ k + 1
+-- a record with this mark is passed
+pub joined_goes : (C : ℕ) (slots : List ℕ) (tail m k run at mark n : ℕ) (old new : List ℕ) → m ≡ k + 1
     → at < tail
-    → n ≡ span_at C tail at (header_at C old slots at)
+    → mark ≡ mark_at C old run at
     → n ≢ 0
-    → Joins C slots tail at n old new
-    → joined_from C slots tail m at old ≡ joined_from C slots tail k (at + n) new
-joined_goes C slots tail zero k at n old new em below span some is = absurd (omega (arith, em))
-joined_goes C slots tail (suc m) k at n old new em below span some is =
+    → Joins C slots tail mark at n old new
+    → joined_from C slots tail m run at old ≡ joined_from C slots tail k (run_of mark) (at + n) new
+joined_goes C slots tail zero k run at mark n old new em below word some joins = absurd (omega (arith, em))
+joined_goes C slots tail (suc m) k run at mark n old new em below word some joins =
     cond-false _ _ _ (lt-leb tail at below)
-    ∙ ap (λ s. if s == 0 then set old (index C at) (header_at C old slots at)
-    else joined_from C slots tail m (at + s) (with_record C slots at s old)) (sym span)
+    ∙ ap (λ w. let s = span_at C tail at (header_with C slots tail w at) in
+    if s == 0 then set old (index C at) (header_with C slots tail w at)
+    else joined_from C slots tail m (run_of w) (at + s) (with_record C slots tail w at s old)) (sym word)
+    ∙ ap (λ s. if s == 0 then set old (index C at) (header_with C slots tail mark at)
+    else joined_from C slots tail m (run_of mark) (at + s) (with_record C slots tail mark at s old)) (sym joins.0)
     ∙ cond-false _ _ _ (ne_eqb n 0 some)
-    ∙ ap (λ j. joined_from C slots tail j (at + n) (with_record C slots at n old))
+    ∙ ap (λ j. joined_from C slots tail j (run_of mark) (at + n) (with_record C slots tail mark at n old))
     (let h : m ≡ k = omega (arith, em) in h)
-    ∙ ap (joined_from C slots tail k (at + n)) (sym (is ∙ cond-false _ _ _ (ne_eqb n 0 some)))
+    ∙ ap (joined_from C slots tail k (run_of mark) (at + n)) (sym (joins.1 ∙ cond-false _ _ _ (ne_eqb n 0 some)))
 
 -- no record is there
-pub joined_stops : (C : ℕ) (slots : List ℕ) (tail m at n : ℕ) (old new : List ℕ)
+pub joined_stops : (C : ℕ) (slots : List ℕ) (tail m run at mark n : ℕ) (old new : List ℕ)
     → m ≢ 0
     → at < tail
-    → n ≡ span_at C tail at (header_at C old slots at)
+    → mark ≡ mark_at C old run at
     → n ≡ 0
-    → Joins C slots tail at n old new
-    → joined_from C slots tail m at old ≡ new
-joined_stops C slots tail zero at n old new some below span none is = absurd (some refl)
-joined_stops C slots tail (suc m) at n old new some below span none is =
+    → Joins C slots tail mark at n old new
+    → joined_from C slots tail m run at old ≡ new
+joined_stops C slots tail zero run at mark n old new some below word none joins = absurd (some refl)
+joined_stops C slots tail (suc m) run at mark n old new some below word none joins =
     cond-false _ _ _ (lt-leb tail at below)
-    ∙ cond-true _ _ _ (eq-eqb _ 0 (sym span ∙ none)) ∙ sym (is ∙ cond-true _ _ _ (eq-eqb n 0 none))
+    ∙ ap (λ w. let s = span_at C tail at (header_with C slots tail w at) in
+    if s == 0 then set old (index C at) (header_with C slots tail w at)
+    else joined_from C slots tail m (run_of w) (at + s) (with_record C slots tail w at s old)) (sym word)
+    ∙ cond-true _ _ _ (eq-eqb _ 0 (sym joins.0 ∙ none)) ∙ sym (joins.1 ∙ cond-true _ _ _ (eq-eqb n 0 none))
 
 -- as many words are those of rings of one capacity
 pub same_capacity : (C D n : ℕ) → IsCapacity C → IsCapacity D → n ≡ ring_words C → n ≡ ring_words D → C ≡ D

@@ -1,5 +1,5 @@
 -- What a mark and a slot show of a claim or of padding.
-use Rattle.std.specs.Prelude.{◌&&◌, ◌==◌, int_lt}
+use Rattle.std.specs.Prelude.{◌&&◌, ◌||◌, ◌==◌, ◌-◌, nat_le, nat_lt, int_lt}
 use Rattle.std.proofs.Common.{◌≡◌, ◌≢◌, ℕ, ◌+◌, ◌*◌, ◌/◌, ◌%◌, ◌^◌, ◌<◌, ◌≤◌, List, length, slice_index, refl, ap, sym, ◌∙◌, arith, inl, inr, pos, neg_ℤ, nat_abs, ◌≤ℤ◌, true, ℤ, eq-eqb}
 use Rattle.std.proofs.lemmas.Bool.{ne_eqb, lt-leb, le-leb, lt-ltb, cond-true, cond-false}
 use Rattle.std.proofs.lemmas.Int.{ints}
@@ -11,38 +11,31 @@ use Rattle.ring_layout.specs.Places.{index, IsCapacity}
 use Rattle.ring_layout.proofs.PlaceLemmas.{span_bounds}
 use Rattle.ring_layout.proofs.HeaderLemmas.{len_of-header, type_of-header, fits_pos}
 use Rattle.ring_words.proofs.HeadLemmas.{state_cases, header_open, header_committed, header_aborted}
-use Rattle.ring_snapshot.specs.Marks.{HasMark, bytes_to, header_as, header_at, is_message_of, kind_in, kind_of, marked_header}
+use Rattle.ring_snapshot.specs.Marks.{HasMark, bytes_to, header_as, header_with, is_end, is_message_of, kind_in, kind_of, marked_header}
 use Rattle.ring_snapshot.specs.RingRecords.{length_in, type_in}
 
 -- a mark is above its position, and gives its bytes and its kind
-shows : (C : ℕ) (words slots : List ℕ) (at n kind : ℕ) → at % 8 ≡ 0 → n % 8 ≡ 0 → 0 < n → kind < 8
-    → slice_index words (index C at) ≡ at + n + kind
-    → header_at C words slots at ≡ marked_header n kind (slice_index slots (index C at))
-shows C words slots at n kind at8 n8 some low is =
-    let word : ℕ = slice_index words (index C at) in
-    let slot : ℕ = slice_index slots (index C at) in
-    let kinds : kind_in word ≡ kind = omega (arith, at8, n8, low, is) in
-    let bytes : bytes_to word at ≡ n = omega (arith, at8, n8, low, is) in
-    cond-false _ _ _ (lt-leb word at (omega (arith, some, is)))
-    ∙ (λ i. marked_header (bytes i) (kinds i) slot)
+shows : (C : ℕ) (slots : List ℕ) (tail mark at n kind : ℕ) → at % 8 ≡ 0 → n % 8 ≡ 0 → 0 < n → kind < 8
+    → mark ≡ at + n + kind
+    → header_with C slots tail mark at ≡ marked_header (tail - at) n kind (slice_index slots (index C at))
+shows C slots tail mark at n kind at8 n8 some low is =
+    let kinds : kind_in mark ≡ kind = omega (arith, at8, n8, low, is) in
+    let bytes : bytes_to mark at ≡ n = omega (arith, at8, n8, low, is) in
+    cond-false _ _ _ (lt-leb mark at (omega (arith, some, is)))
+    ∙ (λ i. marked_header (tail - at) (bytes i) (kinds i) (slice_index slots (index C at)))
 
--- no mark
-pub shows_none : (C : ℕ) (words slots : List ℕ) (at : ℕ) → slice_index words (index C at) ≤ at
-    → header_at C words slots at ≡ 0
-shows_none C words slots at le = cond-true _ _ _ (le-leb _ at le)
-
-pub shows_padding : (C : ℕ) (words slots : List ℕ) (at n : ℕ) → C ≤ 2 ^ 24 → at % 8 ≡ 0 → n % 8 ≡ 0 → 0 < n → n ≤ C
-    → slice_index words (index C at) ≡ at + n + padding_kind
-    → header_at C words slots at ≡ padding_header n
-shows_padding C words slots at n most at8 n8 some le is =
-    shows C words slots at n padding_kind at8 n8 some (omega arith) is
+pub shows_padding : (C : ℕ) (slots : List ℕ) (tail mark at n : ℕ) → C ≤ 2 ^ 24
+    → (at % 8 ≡ 0) × (n % 8 ≡ 0) → 0 < n → n ≤ C → mark ≡ at + n + padding_kind
+    → header_with C slots tail mark at ≡ padding_header n
+shows_padding C slots tail mark at n most whole some le is =
+    shows C slots tail mark at n padding_kind whole.0 whole.1 some (omega arith) is
     ∙ cond-true _ _ _ (lt-ltb n (2 ^ 31) (omega (arith, most, le)))
 
 pub above_zero : (z : ℤ) → pos 1 ≤ℤ z → int_lt (pos 0) z ≡ true
 above_zero z h = grind (arith, ints)
 
-module _ (C : ℕ) (words slots : List ℕ) (place : ℕ) (c : Claim) (ok : IsCapacity C)
-    (has : HasMark C words slots place c) where
+module _ (C tail : ℕ) (slots : List ℕ) (place mark : ℕ) (c : Claim) (ok : IsCapacity C)
+    (has : HasMark C tail slots place mark c) where
   abbrev n : ℕ
   n = length c.message.body
 
@@ -59,29 +52,50 @@ module _ (C : ℕ) (words slots : List ℕ) (place : ℕ) (c : Claim) (ok : IsCa
   type_is = ap type_in has.header
       ∙ type_of-header (pos (8 + n)) c.message.type_id (fits_pos (8 + n) small) has.lawful.type_fits
 
-  is_message : is_message_of (span n) slot ≡ true
-  is_message =
+  is_message : (bytes kind : ℕ) → is_end (tail - place) bytes kind (span n) ≡ true
+      → is_message_of (tail - place) bytes kind slot ≡ true
+  is_message bytes kind ends =
       (λ i. int_lt (pos 0) (len_is i) && int_lt (pos 0) (type_is i)
-      && (nat_abs (len_is i) + 7) / 8 * 8 == span n)
-      ∙ (λ i. int_lt (pos 0) (pos (8 + n)) && above_zero c.message.type_id has.lawful.type_id i
-      && eq-eqb (span n) (span n) refl i)
+      && is_end (tail - place) bytes kind ((nat_abs (len_is i) + 7) / 8 * 8))
+      ∙ (λ i. int_lt (pos 0) (pos (8 + n)) && above_zero c.message.type_id has.lawful.type_id i && ends i)
       ∙ (let above : int_lt (pos 0) (pos (8 + n)) ≡ true = grind (arith) in ap (λ b. b && true && true) above)
 
-  -- the header in the form of this kind
+  -- the header in the form of this kind, if the mark ends this many bytes after the place
+  shows_in : (bytes kind : ℕ) → bytes % 8 ≡ 0 → 0 < bytes → kind ≤ aborted_kind → kind ≢ padding_kind
+      → mark ≡ place + bytes + kind → is_end (tail - place) bytes kind (span n) ≡ true
+      → header_with C slots tail mark place ≡ header_as kind slot
+  shows_in bytes kind whole some le other is ends =
+      shows C slots tail mark place bytes kind has.aligned whole some (omega (arith, le)) is
+      ∙ cond-false _ _ _ (ne_eqb kind padding_kind other)
+      ∙ cond-true _ _ _ ((λ i. le-leb kind aborted_kind le i && is_message bytes kind ends i))
+
+  -- the claim has a mark of its own, or it is in a run
   shows_as : (kind : ℕ) → kind ≤ aborted_kind → kind ≢ padding_kind → kind_of c ≡ kind
-      → header_at C words slots place ≡ header_as kind slot
+      → header_with C slots tail mark place ≡ header_as kind slot
   shows_as kind le other is =
       let wide = span_bounds n in
-      shows C words slots place (span n) kind has.aligned wide.0 (omega (arith, wide)) (omega (arith, le))
-      (has.mark ∙ ap (λ k. place + span n + k) is)
-      ∙ cond-false _ _ _ (ne_eqb kind padding_kind other)
-      ∙ cond-true _ _ _ (ap (λ b. b && is_message_of (span n) slot) (le-leb kind aborted_kind le) ∙ is_message)
+      elim has.ends as (λ _. header_with C slots tail mark place ≡ header_as kind slot) [
+        | inl own ↦ shows_in (span n) kind wide.0 (omega (arith, wide)) le other
+            (own ∙ ap (λ k. place + span n + k) is)
+            (ap (λ b. b || kind == committed_kind && nat_lt (span n) (span n) && nat_le (span n) (tail - place))
+            (eq-eqb (span n) (span n) refl))
+        | inr on ↦
+            let committed : kind ≡ committed_kind = sym is ∙ on.committed in
+            let bytes : ℕ = mark - place in
+            let whole : bytes % 8 ≡ 0 = omega (arith, on.whole, has.aligned, on.before) in
+            let longer : span n < bytes = omega (arith, on.before) in
+            shows_in bytes kind whole (omega (arith, longer)) le other (omega (arith, committed, on.before))
+            (ap (λ b. b || kind == committed_kind && nat_lt (span n) bytes && nat_le bytes (tail - place))
+            (ne_eqb (span n) bytes (λ z. omega (arith, z, longer)))
+            ∙ (λ i. eq-eqb kind committed_kind committed i && lt-ltb (span n) bytes longer i
+            && le-leb bytes (tail - place) (omega (arith, on.near)) i))
+      ]
 
-  pub shows_claim : header_at C words slots place ≡ header_of c
-  shows_claim = elim (state_cases c.state) as (λ _. header_at C words slots place ≡ header_of c) [
+  pub shows_claim : header_with C slots tail mark place ≡ header_of c
+  shows_claim = elim (state_cases c.state) as (λ _. header_with C slots tail mark place ≡ header_of c) [
     | inl e ↦ shows_as open_kind (omega arith) (λ z. omega (arith, z)) (rw e refl)
         ∙ (λ i. header (neg_ℤ (len_is i)) (type_is i)) ∙ sym (header_open c e)
-    | inr other ↦ elim other as (λ _. header_at C words slots place ≡ header_of c) [
+    | inr other ↦ elim other as (λ _. header_with C slots tail mark place ≡ header_of c) [
       | inl e ↦ shows_as committed_kind (omega arith) (λ z. omega (arith, z)) (rw e refl)
           ∙ has.header ∙ sym (header_committed c e)
       | inr e ↦ shows_as aborted_kind (omega arith) (λ z. omega (arith, z)) (rw e refl)

@@ -1,9 +1,9 @@
 -- The words and the slots of a plain ring with a history, joined, are the words of the history.
-use Rattle.std.specs.Prelude.{All, is_none, min}
-use Rattle.std.proofs.Common.{◌≡◌, ℕ, zero, suc, ◌+◌, ◌-◌, ◌*◌, ◌/◌, ◌%◌, ◌<◌, ◌≤◌, List, [], ◌∷◌, length, slice_index, ap, sym, ◌∙◌, arith, inl, inr, true}
-use Rattle.std.proofs.lemmas.Bool.{cases_eq, cases_lt, cond-true}
+use Rattle.std.specs.Prelude.{All, if◌then◌else◌, is_none, min, nat_lt}
+use Rattle.std.proofs.Common.{◌≡◌, ◌≢◌, ℕ, zero, suc, ◌+◌, ◌-◌, ◌*◌, ◌/◌, ◌%◌, ◌<◌, ◌≤◌, List, [], ◌∷◌, length, slice_index, ap, sym, ◌∙◌, arith, inl, inr, true}
+use Rattle.std.proofs.lemmas.Bool.{cases_eq, cases_lt, cond-false, cond-true, le-ltb, ne_eqb}
 use Rattle.std.proofs.lemmas.List.{places}
-use Rattle.ring_layout.specs.Marks.{padding_kind}
+use Rattle.ring_layout.specs.Marks.{committed_kind, padding_kind}
 use Rattle.ring_layout.specs.declared.message.Claim.{Claim}
 use Rattle.std.proofs.Common.{subst}
 use Rattle.std.proofs.lemmas.Nat.{mod_below}
@@ -16,7 +16,7 @@ use Rattle.ring_layout.specs.Layout.{ring_words}
 use Rattle.ring_layout.specs.Places.{end_of, index, next_place, room, IsCapacity}
 use Rattle.ring_layout.proofs.CapacityLemmas.{capacity_blocks}
 use Rattle.ring_layout.proofs.Laps.{mod_aligned, mod_room, IsLap, IsInLap, index_outside}
-use Rattle.ring_snapshot.specs.Marks.{HasMark}
+use Rattle.ring_snapshot.specs.Marks.{mark_at, run_of, HasMark}
 use Rattle.ring_snapshot.specs.PlainRecords.{ArePlain, HasClaim, HaveClaims}
 use Rattle.ring_snapshot.specs.PlainWords.{joined_between, joined_from, with_record, with_zeros}
 use Rattle.ring_layout.specs.Headers.{header, header_of, padding_header}
@@ -27,49 +27,53 @@ use Rattle.ring_snapshot.proofs.PlainSteps.{Steps, lap, steps_claim, steps_paddi
 -- ---- claims
 
 -- the claims are there in all words that agree with these from e on
-stable : (C : ℕ) (slots old new : List ℕ) (h : List Claim) (e : ℕ) → IsLap C → e % 8 ≡ 0
+stable : (C : ℕ) (slots old new : List ℕ) (tail : ℕ) (h : List Claim) (run e : ℕ) → IsLap C → e % 8 ≡ 0
     → ((x : ℕ) → x % 8 ≡ 0 → e ≤ x → x < end_of C e h → slice_index new (index C x) ≡ slice_index old (index C x))
-    → HaveClaims C old slots e h → HaveClaims C new slots e h
-stable C slots old new [] e lap e8 agree have = tt
-stable C slots old new (c ∷ h) e lap e8 agree have =
+    → HaveClaims C old slots tail run e h → HaveClaims C new slots tail run e h
+stable C slots old new tail [] run e lap e8 agree have = tt
+stable C slots old new tail (c ∷ h) run e lap e8 agree have =
     let place : ℕ = next_place C e (span_of c) in
     let b = span_bounds (length c.message.body) in
     let le = next_le C e (span_of c) in
     let place8 = next_aligned C e (span_of c) lap.some lap.whole e8 in
     let far = end_of_le C (place + span_of c) h in
-    let claim = have.0 in (
+    let claim = have.0 in
+    let same : mark_at C old run place ≡ mark_at C new run place =
+    ap (λ w. if nat_lt place run then run else w) (sym (agree place place8 le (omega (arith, b, far)))) in (
       record {
-        padding = λ before. agree e e8 (omega arith) (omega (arith, le, b, far)) ∙ claim.padding before;
-        mark = record {
-          lawful = claim.mark.lawful;
-          aligned = claim.mark.aligned;
-          mark = agree place place8 le (omega (arith, b, far)) ∙ claim.mark.mark;
-          header = claim.mark.header;
-        };
+        padding = λ before. (
+          (claim.padding before).0,
+          agree e e8 (omega arith) (omega (arith, le, b, far)) ∙ (claim.padding before).1,
+        );
+        mark = subst (λ mark. HasMark C tail slots place mark c) same claim.mark;
         body = claim.body;
       },
-      stable C slots old new h (place + span_of c) lap (omega (arith, place8, b))
-          (λ x x8 from below. agree x x8 (omega (arith, le, b, from)) below) have.1,
+      stable C slots old new tail h (run_of (mark_at C new run place)) (place + span_of c) lap
+          (omega (arith, place8, b))
+          (λ x x8 from below. agree x x8 (omega (arith, le, b, from)) below)
+          (subst (λ mark. HaveClaims C old slots tail (run_of mark) (place + span_of c) h) same have.1),
     )
 
 -- what the walk makes of words: from e on the words of the claims, and the others as they were
-record Shows (C : ℕ) (slots : List ℕ) (tail m e : ℕ) (words : List ℕ) (word : ℕ → ℕ) : Type 0 where
+record Shows (C : ℕ) (slots : List ℕ) (tail m run e : ℕ) (words : List ℕ) (word : ℕ → ℕ) : Type 0 where
   picture : (p : ℕ) → p % 8 ≡ 0 → e ≤ p → p < tail
-      → slice_index (joined_from C slots tail m e words) (index C p) ≡ word p
+      → slice_index (joined_from C slots tail m run e words) (index C p) ≡ word p
   same : (x : ℕ) → x % 8 ≡ 0 → x < e → tail ≤ x + C
-      → slice_index (joined_from C slots tail m e words) (index C x) ≡ slice_index words (index C x)
+      → slice_index (joined_from C slots tail m run e words) (index C x) ≡ slice_index words (index C x)
 
 module _ (C : ℕ) (slots : List ℕ) (tail : ℕ) (ok : IsCapacity C) (many : length slots ≡ C / 8) where
   -- one step, and what comes after it
-  after_step : (m at n header : ℕ) (word shown : ℕ → ℕ) (old new : List ℕ) → at % 8 ≡ 0 → n % 8 ≡ 0 → 0 < n
+  after_step : (m run at n header : ℕ) (word shown : ℕ → ℕ) (old new : List ℕ) → at % 8 ≡ 0 → n % 8 ≡ 0 → 0 < n
       → at + n ≤ tail → tail ≤ at + C
-      → Steps C slots tail at n header word old new → Shows C slots tail m (at + n) new shown
+      → Steps C slots tail run at n header word old new
+      → Shows C slots tail m (run_of (mark_at C old run at)) (at + n) new shown
       → shown at ≡ header → ((k : ℕ) → k % 8 ≡ 0 → 0 < k → k < n → shown (at + k) ≡ word k)
-      → Shows C slots tail (suc m) at old shown
-  after_step m at n header word shown old new at8 n8 some inside near s rest first body = record {
+      → Shows C slots tail (suc m) run at old shown
+  after_step m run at n header word shown old new at8 n8 some inside near s rest first body = record {
     picture = λ p p8 from below.
         ap (λ w. slice_index w (index C p)) (s.goes m) ∙ elim (cases_lt p (at + n)) as
-        (λ _. slice_index (joined_from C slots tail m (at + n) new) (index C p) ≡ shown p) [
+        (λ _. slice_index (joined_from C slots tail m (run_of (mark_at C old run at)) (at + n) new) (index C p)
+        ≡ shown p) [
           | inl lt ↦ rest.same p p8 lt (omega (arith, near, from)) ∙ elim (cases_eq p at) as
               (λ _. slice_index new (index C p) ≡ shown p) [
                 | inl e ↦ rw e (s.first ∙ sym first)
@@ -93,10 +97,10 @@ module _ (C : ℕ) (slots : List ℕ) (tail : ℕ) (ok : IsCapacity C) (many : l
   -- the walk from the place of a claim that comes after e, if it is known what comes after the claim
   module _ (c : Claim) (h : List Claim) (e : ℕ) (e8 : e % 8 ≡ 0) (ends : end_of C e (c ∷ h) ≡ tail)
       (near : tail ≤ e + C)
-      (rest : (m : ℕ) (words : List ℕ) → length words ≡ ring_words C
+      (rest : (m run : ℕ) (words : List ℕ) → length words ≡ ring_words C
       → tail ≤ next_place C e (span_of c) + span_of c + 8 * m
-      → HaveClaims C words slots (next_place C e (span_of c) + span_of c) h
-      → Shows C slots tail m (next_place C e (span_of c) + span_of c) words
+      → HaveClaims C words slots tail run (next_place C e (span_of c) + span_of c) h
+      → Shows C slots tail m run (next_place C e (span_of c) + span_of c) words
       (word_at C (next_place C e (span_of c) + span_of c) h)) where
     abbrev place : ℕ
     place = next_place C e (span_of c)
@@ -119,25 +123,27 @@ module _ (C : ℕ) (slots : List ℕ) (tail : ℕ) (ok : IsCapacity C) (many : l
     inside : end ≤ tail
     inside = let far = end_of_le C end h in let z : end_of C end h ≡ tail = ends in omega (arith, far, z)
 
-    from_claim : (m : ℕ) (words : List ℕ) → length words ≡ ring_words C → tail ≤ place + 8 * m
-        → HasMark C words slots place c
+    from_claim : (m run : ℕ) (words : List ℕ) → length words ≡ ring_words C → tail ≤ place + 8 * m
+        → HasMark C tail slots place (mark_at C words run place) c
         → ((k : ℕ) → k % 8 ≡ 0 → 0 < k → k < span_of c → slice_index slots (index C (place + k)) ≡ claim_word c k)
-        → HaveClaims C words slots end h → Shows C slots tail m place words (word_at C e (c ∷ h))
-    from_claim zero words wide enough mark body claims = absurd (omega (arith, enough, inside, bounds))
-    from_claim (suc m) words wide enough mark body claims =
+        → HaveClaims C words slots tail (run_of (mark_at C words run place)) end h
+        → Shows C slots tail m run place words (word_at C e (c ∷ h))
+    from_claim zero run words wide enough mark body claims = absurd (omega (arith, enough, inside, bounds))
+    from_claim (suc m) run words wide enough mark body claims =
         let short : span_of c ≤ C = let s = mark.lawful.short in omega (arith, s, bounds, ok.least) in
         let within = next_within C e (span_of c) (omega (arith, ok.least)) short in
-        let new : List ℕ = with_record C slots place (span_of c) words in
-        let s = steps_claim C slots tail ok many place c words wide mark within inside in
+        let next_run : ℕ = run_of (mark_at C words run place) in
+        let new : List ℕ = with_record C slots tail (mark_at C words run place) place (span_of c) words in
+        let s = steps_claim C slots tail ok many run place c words wide mark within inside in
         let end8 : end % 8 ≡ 0 = omega (arith, place8, bounds) in
-        let next = rest m new (s.wide ∙ wide) (omega (arith, enough, bounds))
-        (stable C slots words new h end (lap C slots tail ok many) end8
+        let next = rest m next_run new (s.wide ∙ wide) (omega (arith, enough, bounds))
+        (stable C slots words new tail h next_run end (lap C slots tail ok many) end8
         (λ x x8 from below. s.same x x8 (inr (
           from,
           let z : end_of C end h ≡ tail = ends in
               omega (arith, below, z, near, begins),
         ))) claims) in
-        after_step m place (span_of c) (header_of c) (λ k. slice_index slots (index C (place + k)))
+        after_step m run place (span_of c) (header_of c) (λ k. slice_index slots (index C (place + k)))
         (word_at C e (c ∷ h)) words new place8 bounds.0 (omega (arith, bounds)) inside (omega (arith, near, begins)) s
         (record {
           picture = λ p p8 from below. next.picture p p8 from below ∙ sym (word_at_rest C e p c h from);
@@ -148,11 +154,13 @@ module _ (C : ℕ) (slots : List ℕ) (tail : ℕ) (ok : IsCapacity C) (many : l
         (λ k k8 above below. word_at_record C e (place + k) c h (omega arith) (omega (arith, below))
         ∙ ap (claim_word c) (let z : place + k - place ≡ k = omega arith in z) ∙ sym (body k k8 above below))
 
-    from_padding : e < place → (m : ℕ) (words : List ℕ) → length words ≡ ring_words C → tail ≤ e + 8 * m
-        → HasClaim C words slots e place c → HaveClaims C words slots end h
-        → Shows C slots tail m e words (word_at C e (c ∷ h))
-    from_padding before zero words wide enough claim claims = absurd (omega (arith, enough, inside, bounds, before))
-    from_padding before (suc m) words wide enough claim claims =
+    from_padding : e < place → (m run : ℕ) (words : List ℕ) → length words ≡ ring_words C → tail ≤ e + 8 * m
+        → HasClaim C words slots tail run e place c
+        → HaveClaims C words slots tail (run_of (mark_at C words run place)) end h
+        → Shows C slots tail m run e words (word_at C e (c ∷ h))
+    from_padding before zero run words wide enough claim claims =
+        absurd (omega (arith, enough, inside, bounds, before))
+    from_padding before (suc m) run words wide enough claim claims =
         let pad : ℕ = place - e in
         let is : e + pad ≡ place = omega (arith, begins) in
         let room : (pad ≡ room C e) × (room C e < span_of c) =
@@ -163,53 +171,59 @@ module _ (C : ℕ) (slots : List ℕ) (tail : ℕ) (ok : IsCapacity C) (many : l
         let pad8 : pad % 8 ≡ 0 = omega (arith, e8, place8, begins) in
         let short = claim.mark.lawful.short in
         let below = mod_below e C (omega (arith, ok.least)) in
-        let new : List ℕ = with_record C slots e pad words in
-        let s = steps_padding C slots tail ok many e pad words wide e8 pad8 (omega (arith, pad8, before))
-        (omega (arith, pad8, room, short, bounds, capacity_blocks C ok)) (omega (arith, room.0, below))
-        (omega (arith, is, inside)) (claim.padding before ∙ ap (λ q. q + padding_kind) (sym is)) in
+        let over : run ≤ e = (claim.padding before).0 in
+        let pad_mark : mark_at C words run e ≡ e + pad + padding_kind =
+        cond-false _ _ _ (le-ltb e run over) ∙ (claim.padding before).1 ∙ ap (λ q. q + padding_kind) (sym is) in
+        let next_run : ℕ = run_of (mark_at C words run e) in
+        let kind : mark_at C words run e % 8 ≢ committed_kind = λ z. omega (arith, z, pad_mark, e8, pad8) in
+        let none : next_run ≡ 0 = cond-false _ _ _ (ne_eqb (mark_at C words run e % 8) committed_kind kind) in
+        let new : List ℕ = with_record C slots tail (mark_at C words run e) e pad words in
+        let s = steps_padding C slots tail ok many run e pad words wide (e8, pad8)
+        (omega (arith, pad8, before), omega (arith, pad8, room, short, bounds, capacity_blocks C ok))
+        (omega (arith, room.0, below), omega (arith, is, inside)) pad_mark in
         let kept : (x : ℕ) → x % 8 ≡ 0 → place ≤ x → x < tail
         → slice_index new (index C x) ≡ slice_index words (index C x) =
         λ x x8 from under. s.same x x8 (inr (omega (arith, is, from), omega (arith, under, near))) in
-        let first = from_claim m new (s.wide ∙ wide) (omega (arith, enough, before, e8, place8))
-        (record {
-          lawful = claim.mark.lawful;
-          aligned = claim.mark.aligned;
-          mark = kept place place8 (omega arith) (omega (arith, inside, bounds)) ∙ claim.mark.mark;
-          header = claim.mark.header;
-        }) claim.body
-        (stable C slots words new h end (lap C slots tail ok many) (omega (arith, place8, bounds))
-        (λ x x8 from under. kept x x8 (omega (arith, from)) (let z : end_of C end h ≡ tail = ends in
-        omega (arith, under, z))) claims) in
-        after_step m e pad (padding_header pad) (λ _. 0) (word_at C e (c ∷ h)) words new e8 pad8 (omega (arith, before))
-        (omega (arith, is, inside)) near s (rw is first) (word_at_padding_header C e c h before)
+        let same : mark_at C words run place ≡ mark_at C new next_run place =
+        cond-false _ _ _ (le-ltb place run (omega (arith, over, begins)))
+        ∙ sym (kept place place8 (omega arith) (omega (arith, inside, bounds)))
+        ∙ sym (cond-false _ _ _ (le-ltb place next_run (omega (arith, none)))) in
+        let first = from_claim m next_run new (s.wide ∙ wide) (omega (arith, enough, before, e8, place8))
+        (subst (λ mark. HasMark C tail slots place mark c) same claim.mark) claim.body
+        (subst (λ mark. HaveClaims C new slots tail (run_of mark) end h) same
+        (stable C slots words new tail h (run_of (mark_at C words run place)) end (lap C slots tail ok many)
+        (omega (arith, place8, bounds)) (λ x x8 from under. kept x x8 (omega (arith, from))
+        (let z : end_of C end h ≡ tail = ends in omega (arith, under, z))) claims)) in
+        after_step m run e pad (padding_header pad) (λ _. 0) (word_at C e (c ∷ h)) words new e8 pad8
+        (omega (arith, before)) (omega (arith, is, inside)) near s (rw is first) (word_at_padding_header C e c h before)
         (λ k k8 above under. word_at_padding C e (e + k) c h (omega (arith, is, under)) (λ z. omega (arith, z, above)))
 
   -- the walk makes the words of the claims
-  shows_claims : (h : List Claim) (m e : ℕ) (words : List ℕ) → length words ≡ ring_words C → e % 8 ≡ 0
-      → end_of C e h ≡ tail → tail ≤ e + C → tail ≤ e + 8 * m → HaveClaims C words slots e h
-      → Shows C slots tail m e words (word_at C e h)
-  shows_claims [] m e words wide e8 ends near enough have =
-      let over : joined_from C slots tail m e words ≡ words =
-      joined_over C slots tail m e words (let z : e ≡ tail = ends in omega (arith, z)) in
+  shows_claims : (h : List Claim) (m run e : ℕ) (words : List ℕ) → length words ≡ ring_words C → e % 8 ≡ 0
+      → end_of C e h ≡ tail → tail ≤ e + C → tail ≤ e + 8 * m
+      → HaveClaims C words slots tail run e h → Shows C slots tail m run e words (word_at C e h)
+  shows_claims [] m run e words wide e8 ends near enough have =
+      let over : joined_from C slots tail m run e words ≡ words =
+      joined_over C slots tail m run e words (let z : e ≡ tail = ends in omega (arith, z)) in
       record {
         picture = λ p p8 from below. let z : e ≡ tail = ends in absurd (omega (arith, z, from, below));
         same = λ x x8 lt far. ap (λ w. slice_index w (index C x)) over;
       }
-  shows_claims (c ∷ h) m e words wide e8 ends near enough have =
+  shows_claims (c ∷ h) m run e words wide e8 ends near enough have =
       let end : ℕ = next_place C e (span_of c) + span_of c in
       let b = span_bounds (length c.message.body) in
       let begins = next_le C e (span_of c) in
       let place8 = next_aligned C e (span_of c) (omega (arith, ok.least)) (omega (arith, capacity_blocks C ok)) e8 in
-      let rest : (k : ℕ) (w : List ℕ) → length w ≡ ring_words C → tail ≤ end + 8 * k → HaveClaims C w slots end h
-      → Shows C slots tail k end w (word_at C end h) =
-      λ k w wide' much claims. shows_claims h k end w wide' (omega (arith, place8, b)) ends
+      let rest : (k r : ℕ) (w : List ℕ) → length w ≡ ring_words C → tail ≤ end + 8 * k
+      → HaveClaims C w slots tail r end h → Shows C slots tail k r end w (word_at C end h) =
+      λ k r w wide' much claims. shows_claims h k r end w wide' (omega (arith, place8, b)) ends
       (omega (arith, near, begins)) much claims in
-      elim (cases_lt e (next_place C e (span_of c))) as (λ _. Shows C slots tail m e words (word_at C e (c ∷ h))) [
-        | inl before ↦ from_padding c h e e8 ends near rest before m words wide enough have.0 have.1
+      elim (cases_lt e (next_place C e (span_of c))) as (λ _. Shows C slots tail m run e words (word_at C e (c ∷ h))) [
+        | inl before ↦ from_padding c h e e8 ends near rest before m run words wide enough have.0 have.1
         | inr here ↦
             let is : next_place C e (span_of c) ≡ e = omega (arith, here, begins) in
-            subst (λ q. Shows C slots tail m q words (word_at C e (c ∷ h))) is
-            (from_claim c h e e8 ends near rest m words wide (omega (arith, enough, begins)) have.0.mark have.0.body
+            subst (λ q. Shows C slots tail m run q words (word_at C e (c ∷ h))) is
+            (from_claim c h e e8 ends near rest m run words wide (omega (arith, enough, begins)) have.0.mark have.0.body
             have.1)
       ]
 
@@ -270,12 +284,14 @@ zeros_long C words tail n ok wide few =
     grind (arith, places, low, least, wide, few)
 
 -- the messages of the claims are messages
-lawful_claims : (C : ℕ) (words slots : List ℕ) (h : List Claim) (e : ℕ) → HaveClaims C words slots e h
+lawful_claims : (C : ℕ) (words slots : List ℕ) (tail : ℕ) (h : List Claim) (run e : ℕ)
+    → HaveClaims C words slots tail run e h
     → All (λ c. IsMessage C c.message) h
-lawful_claims C words slots [] e have = All-nil (λ (c : Claim). IsMessage C c.message)
-lawful_claims C words slots (c ∷ h) e have =
+lawful_claims C words slots tail [] run e have = All-nil (λ (c : Claim). IsMessage C c.message)
+lawful_claims C words slots tail (c ∷ h) run e have =
     All-cons (λ (x : Claim). IsMessage C x.message) c h have.0.mark.lawful
-    (lawful_claims C words slots h (next_place C e (span_of c) + span_of c) have.1)
+    (lawful_claims C words slots tail h (run_of (mark_at C words run (next_place C e (span_of c))))
+    (next_place C e (span_of c) + span_of c) have.1)
 
 pub joined_lies : (C : ℕ) (words slots : List ℕ) (tail head : ℕ) (h : List Claim) → IsCapacity C
     → length words ≡ ring_words C → length slots ≡ C / 8 → ArePlain C words slots tail head h
@@ -293,14 +309,15 @@ joined_lies C words slots tail head h ok wide many plain =
     let whole : tail + 8 * rest ≡ head + C = omega (arith, lap.whole, head8, tail8, le, near) in
     let long : length cleared ≡ ring_words C = zeros_long C words tail rest ok wide few ∙ wide in
     let ordered : is_none (positions_finding C head tail) ≡ true = grind (arith, head8, tail8, le, near) in
-    let shows = shows_claims C slots tail ok many h ((tail - head) / 8) head cleared long head8 ends near
+    let shows = shows_claims C slots tail ok many h ((tail - head) / 8) 0 head cleared long head8 ends near
     (omega (arith, le, head8, tail8))
-    (stable C slots words cleared h head lap head8 (λ x x8 from below. zeros_past C words tail rest x ok wide tail8
-    few x8 (omega (arith, below, ends)) (omega (arith, whole, from))) plain.claims) in
+    (stable C slots words cleared tail h 0 head lap head8
+    (λ x x8 from below. zeros_past C words tail rest x ok wide tail8 few x8 (omega (arith, below, ends))
+    (omega (arith, whole, from))) plain.claims) in
     record {
-      lawful = lawful_claims C words slots h head plain.claims;
+      lawful = lawful_claims C words slots tail h 0 head plain.claims;
       ends = ends;
       picture = λ p p8 from below.
-          ap (λ w. slice_index w (index C p)) (cond-true _ (joined_from C slots tail ((tail - head) / 8) head cleared)
+          ap (λ w. slice_index w (index C p)) (cond-true _ (joined_from C slots tail ((tail - head) / 8) 0 head cleared)
           words ordered) ∙ shows.picture p p8 from below;
     }

@@ -13,7 +13,7 @@ use Rattle.ring_layout.specs.Layout.{ring_words}
 use Rattle.ring_layout.specs.Places.{index, IsCapacity, rounded}
 use Rattle.ring_layout.proofs.CapacityLemmas.{capacity_blocks}
 use Rattle.ring_layout.proofs.Laps.{IsLap, index_outside, index_step}
-use Rattle.ring_snapshot.specs.Marks.{HasMark, header_at, kind_in, kind_of}
+use Rattle.ring_snapshot.specs.Marks.{HasMark, header_with, kind_in, kind_of, mark_at, run_of}
 use Rattle.ring_snapshot.specs.PlainWords.{body_at, joined_from, span_at, with_record}
 use Rattle.std.specs.Int.{w32}
 use Rattle.ring_layout.specs.Headers.{header, header_of, padding_header, padding_type}
@@ -65,8 +65,9 @@ span_decoded C tail at w len type_id is f g fits kind =
 -- ---- one step of the walk
 
 -- a record of n bytes with this header was written at a position, and the walk goes on after it
-pub record Steps (C : ℕ) (slots : List ℕ) (tail at n header : ℕ) (word : ℕ → ℕ) (old new : List ℕ) : Type 0 where
-  pub goes : (m : ℕ) → joined_from C slots tail (suc m) at old ≡ joined_from C slots tail m (at + n) new
+pub record Steps (C : ℕ) (slots : List ℕ) (tail run at n header : ℕ) (word : ℕ → ℕ) (old new : List ℕ) : Type 0 where
+  pub goes : (m : ℕ) → joined_from C slots tail (suc m) run at old
+      ≡ joined_from C slots tail m (run_of (mark_at C old run at)) (at + n) new
   pub wide : length new ≡ length old
   pub first : slice_index new (index C at) ≡ header
   pub body : (k : ℕ) → k % 8 ≡ 0 → 0 < k → k < n → slice_index new (index C (at + k)) ≡ word k
@@ -77,26 +78,31 @@ module _ (C : ℕ) (slots : List ℕ) (tail : ℕ) (ok : IsCapacity C) (many : l
   pub lap : IsLap C
   lap = record { some = omega (arith, ok.least); whole = omega (arith, capacity_blocks C ok) }
 
-  module _ (at n : ℕ) (old : List ℕ) (wide : length old ≡ ring_words C) (at8 : at % 8 ≡ 0) (n8 : n % 8 ≡ 0)
+  module _ (run at n : ℕ) (old : List ℕ) (wide : length old ≡ ring_words C) (at8 : at % 8 ≡ 0) (n8 : n % 8 ≡ 0)
       (some : 8 ≤ n) (within : at % C + n ≤ C) (inside : at + n ≤ tail)
-      (spans : span_at C tail at (header_at C old slots at) ≡ n) where
+      (spans : span_at C tail at (header_with C slots tail (mark_at C old run at) at) ≡ n) where
     abbrev i : ℕ
     i = index C at
 
-    steps : (after : List ℕ) → body_at old slots i (n / 8 - 1) ≡ after → length after ≡ n / 8 - 1
-        → Steps C slots tail at n (header_at C old slots at) (λ k. slice_index after (k / 8 - 1)) old
-        (with_record C slots at n old)
+    abbrev mark : ℕ
+    mark = mark_at C old run at
+
+    abbrev first_word : ℕ
+    first_word = header_with C slots tail mark at
+
+    steps : (after : List ℕ) → body_at slots mark i (n / 8 - 1) ≡ after → length after ≡ n / 8 - 1
+        → Steps C slots tail run at n first_word (λ k. slice_index after (k / 8 - 1)) old
+        (with_record C slots tail mark at n old)
     steps after is long =
-        let new : List ℕ = with_record C slots at n old in
+        let new : List ℕ = with_record C slots tail mark at n old in
         let low : i + n / 8 ≤ C / 8 = omega (arith, within, n8, capacity_blocks C ok) in
-        let put = laid old i (n / 8) (header_at C old slots at) (omega (arith, some)) (omega (arith, low, wide))
-        after long in
-        let told : new ≡ set (overwritten (i + 1) after old) i (header_at C old slots at) =
-        ap (λ b. set (overwritten (i + 1) b old) i (header_at C old slots at)) is in
+        let put = laid old i (n / 8) first_word (omega (arith, some)) (omega (arith, low, wide)) after long in
+        let told : new ≡ set (overwritten (i + 1) after old) i first_word =
+        ap (λ b. set (overwritten (i + 1) b old) i first_word) is in
         record {
-          goes = λ m. joined_goes C slots tail (suc m) m at n old new (omega arith) (omega (arith, inside, some))
-              (sym spans) (λ z. omega (arith, z, some))
-              (sym (cond-false _ _ _ (ne_eqb n 0 (λ z. omega (arith, z, some)))));
+          goes = λ m. joined_goes C slots tail (suc m) m run at mark n old new (omega arith)
+              (omega (arith, inside, some)) refl (λ z. omega (arith, z, some))
+              (sym spans, sym (cond-false _ _ _ (ne_eqb n 0 (λ z. omega (arith, z, some)))));
           wide = ap length told ∙ put.wide;
           first = ap (λ w. slice_index w i) told ∙ put.first;
           body = λ k k8 above below.
@@ -105,7 +111,7 @@ module _ (C : ℕ) (slots : List ℕ) (tail : ℕ) (ok : IsCapacity C) (many : l
               ap (index C) (let e : at + k ≡ at + 8 * (k / 8) = omega (arith, k8) in e) ∙ step in
               let less : i + k / 8 - (i + 1) ≡ k / 8 - 1 = omega arith in
               ap (λ w. slice_index w (index C (at + k))) told
-              ∙ ap (slice_index (set (overwritten (i + 1) after old) i (header_at C old slots at))) there
+              ∙ ap (slice_index (set (overwritten (i + 1) after old) i first_word)) there
               ∙ put.body (k / 8) (omega (arith, k8, above)) (omega (arith, k8, n8, below))
               ∙ ap (slice_index after) less;
           same = λ x x8 out.
@@ -121,24 +127,29 @@ module _ (C : ℕ) (slots : List ℕ) (tail : ℕ) (ok : IsCapacity C) (many : l
         }
 
   -- the words of padding, and those of a claim
-  pub steps_padding : (e pad : ℕ) (old : List ℕ) → length old ≡ ring_words C → e % 8 ≡ 0 → pad % 8 ≡ 0 → 8 ≤ pad
-      → pad ≤ 8 + C / 8 → e % C + pad ≤ C → e + pad ≤ tail
-      → slice_index old (index C e) ≡ e + pad + padding_kind
-      → Steps C slots tail e pad (padding_header pad) (λ _. 0) old (with_record C slots e pad old)
-  steps_padding e pad old wide e8 pad8 some few within inside is =
+  pub steps_padding : (run e pad : ℕ) (old : List ℕ) → length old ≡ ring_words C → (e % 8 ≡ 0) × (pad % 8 ≡ 0)
+      → (8 ≤ pad) × (pad ≤ 8 + C / 8) → (e % C + pad ≤ C) × (e + pad ≤ tail)
+      → mark_at C old run e ≡ e + pad + padding_kind
+      → Steps C slots tail run e pad (padding_header pad) (λ _. 0) old
+      (with_record C slots tail (mark_at C old run e) e pad old)
+  steps_padding run e pad old wide whole8 sizes inner is =
+      let (e8, pad8) = whole8 in
+      let (some, few) = sizes in
+      let (within, inside) = inner in
+      let mark : ℕ = mark_at C old run e in
       let small : pad ≤ C = omega (arith, within) in
-      let head : header_at C old slots e ≡ padding_header pad =
-      shows_padding C old slots e pad ok.most e8 pad8 (omega (arith, some)) small is in
-      let kind : kind_in (slice_index old (index C e)) ≡ padding_kind = omega (arith, is, e8, pad8) in
+      let head : header_with C slots tail mark e ≡ padding_header pad =
+      shows_padding C slots tail mark e pad ok.most whole8 (omega (arith, some)) small is in
+      let kind : kind_in mark ≡ padding_kind = omega (arith, is, e8, pad8) in
       let whole : rounded pad ≡ pad = omega (arith, pad8) in
       let fits = length_fits C tail e pad some few (omega (arith, whole, within)) (omega (arith, whole, inside)) in
-      let spans : span_at C tail e (header_at C old slots e) ≡ pad =
+      let spans : span_at C tail e (header_with C slots tail mark e) ≡ pad =
       ap (span_at C tail e) head
       ∙ span_decoded C tail e (padding_header pad) (pos pad) padding_type refl
       (fits_pos pad (omega (arith, small, ok.most))) record { sfits = omega arith } fits
       (let above : int_lt (pos 0) (pos pad) ≡ true = grind (arith, some) in
       ap (λ b. b && is_padding_type padding_type) above) ∙ whole in
-      let s = steps e pad old wide e8 pad8 some within inside spans (replicate (pad / 8 - 1) 0)
+      let s = steps run e pad old wide e8 pad8 some within inside spans (replicate (pad / 8 - 1) 0)
       (cond-true _ _ _ (eq-eqb _ padding_kind kind)) (grind (arith, places)) in
       record {
         goes = s.goes;
@@ -148,8 +159,9 @@ module _ (C : ℕ) (slots : List ℕ) (tail : ℕ) (ok : IsCapacity C) (many : l
         same = s.same;
       }
 
-  module _ (place : ℕ) (c : Claim) (old : List ℕ) (wide : length old ≡ ring_words C)
-      (has : HasMark C old slots place c) (within : place % C + span_of c ≤ C) (inside : place + span_of c ≤ tail) where
+  module _ (run place : ℕ) (c : Claim) (old : List ℕ) (wide : length old ≡ ring_words C)
+      (has : HasMark C tail slots place (mark_at C old run place) c) (within : place % C + span_of c ≤ C)
+      (inside : place + span_of c ≤ tail) where
     abbrev n : ℕ
     n = length c.message.body
 
@@ -191,17 +203,26 @@ module _ (C : ℕ) (slots : List ℕ) (tail : ℕ) (ok : IsCapacity C) (many : l
       ]
     ]
 
-    pub steps_claim : Steps C slots tail place (span_of c) (header_of c) (λ k. slice_index slots (index C (place + k))) old
-        (with_record C slots place (span_of c) old)
+    -- the mark has the kind of the claim
+    kind_is : kind_in (mark_at C old run place) ≡ kind_of c
+    kind_is =
+        let b = span_bounds n in
+        elim has.ends as (λ _. kind_in (mark_at C old run place) ≡ kind_of c) [
+          | inl own ↦ omega (arith, own, has.aligned, b, kinds.1)
+          | inr on ↦ on.whole ∙ sym on.committed
+        ]
+
+    pub steps_claim : Steps C slots tail run place (span_of c) (header_of c)
+        (λ k. slice_index slots (index C (place + k))) old
+        (with_record C slots tail (mark_at C old run place) place (span_of c) old)
     steps_claim =
         let b = span_bounds n in
         let i : ℕ = index C place in
-        let head = shows_claim C old slots place c ok has in
-        let kind : kind_in (slice_index old i) ≡ kind_of c = omega (arith, has.mark, has.aligned, b, kinds.1) in
+        let head = shows_claim C tail slots place (mark_at C old run place) c ok has in
         let low : i + span_of c / 8 ≤ C / 8 = omega (arith, within, b, capacity_blocks C ok) in
-        let s = steps place (span_of c) old wide has.aligned b.0 (omega (arith, b)) within inside
+        let s = steps run place (span_of c) old wide has.aligned b.0 (omega (arith, b)) within inside
         (ap (span_at C tail place) head ∙ spans_claim) (take (span_of c / 8 - 1) (drop (i + 1) slots))
-        (cond-false _ _ _ (ne_eqb _ padding_kind (λ z. kinds.0 (sym kind ∙ z))))
+        (cond-false _ _ _ (ne_eqb _ padding_kind (λ z. kinds.0 (sym kind_is ∙ z))))
         (grind (arith, places, low, many)) in
         record {
           goes = s.goes;

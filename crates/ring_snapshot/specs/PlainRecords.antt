@@ -7,29 +7,30 @@ use Rattle.ring_layout.specs.History.{span_of}
 use Rattle.ring_layout.specs.Layout.{head_index, tail_index}
 use Rattle.ring_layout.specs.Picture.{claim_word}
 use Rattle.ring_layout.specs.Places.{index, next_place, end_of}
-use Rattle.ring_snapshot.specs.Marks.{HasMark}
+use Rattle.ring_snapshot.specs.Marks.{mark_at, run_of, HasMark}
 use Rattle.ring_snapshot.specs.RingRecords.{Lie}
 
--- a plain ring has a claim that comes after e, at this place: the marks of the claim and of the padding before it, and
--- the words of its body
-pub record HasClaim (C : ℕ) (words slots : List ℕ) (e place : ℕ) (c : Claim) : Type 0 where
-  pub padding : e < place → slice_index words (index C e) ≡ place + padding_kind
-  pub mark : HasMark C words slots place c
+-- A plain ring has a claim that comes after e, at this place: the marks of the claim and of the padding before it, and
+-- the words of its body. A run that began before goes on up to `run`, and has no padding.
+pub record HasClaim (C : ℕ) (words slots : List ℕ) (tail run e place : ℕ) (c : Claim) : Type 0 where
+  pub padding : e < place → (run ≤ e) × (slice_index words (index C e) ≡ place + padding_kind)
+  pub mark : HasMark C tail slots place (mark_at C words run place) c
   pub body : (k : ℕ) → k % 8 ≡ 0 → 0 < k → k < span_of c → slice_index slots (index C (place + k)) ≡ claim_word c k
 
--- the claims come after e, one after another
-abbrev pub HaveClaims : ℕ → List ℕ → List ℕ → ℕ → List Claim → Type 0
-HaveClaims C words slots e [] = ⊤
-HaveClaims C words slots e (c ∷ h) =
+-- the claims come after e, one after another, and those before e have a run up to `run`
+abbrev pub HaveClaims : ℕ → List ℕ → List ℕ → ℕ → ℕ → ℕ → List Claim → Type 0
+HaveClaims C words slots tail run e [] = ⊤
+HaveClaims C words slots tail run e (c ∷ h) =
     let place = next_place C e (span_of c) in
-    HasClaim C words slots e place c × HaveClaims C words slots (place + span_of c) h
+    HasClaim C words slots tail run e place c
+    × HaveClaims C words slots tail (run_of (mark_at C words run place)) (place + span_of c) h
 
 -- the claims go from the head up to the tail
 pub record ArePlain (C : ℕ) (words slots : List ℕ) (tail head : ℕ) (h : List Claim) : Type 0 where
   pub aligned : head % 8 ≡ 0
   pub ends : end_of C head h ≡ tail
   pub near : tail ≤ head + C
-  pub claims : HaveClaims C words slots head h
+  pub claims : HaveClaims C words slots tail 0 head h
 
 -- the words and the slots are those of a plain ring with these claims
 abbrev pub IsPlain : ℕ → List ℕ → List ℕ → List Claim → Type 0

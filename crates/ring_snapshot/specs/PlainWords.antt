@@ -5,7 +5,7 @@ use Rattle.ring_layout.specs.Marks.{padding_kind}
 use Rattle.ring_layout.specs.History.{overwritten}
 use Rattle.ring_layout.specs.Places.{index, rounded}
 use Rattle.ring_layout.specs.Layout.{head_index, tail_index}
-use Rattle.ring_snapshot.specs.Marks.{header_at, kind_in}
+use Rattle.ring_snapshot.specs.Marks.{header_with, kind_in, mark_at, run_of}
 use Rattle.ring_snapshot.specs.RingRecords.{is_length, is_padding_type, length_in, positions_finding, type_in}
 
 -- The number of bytes from the begin of a record with this header to the begin of the next one. It is 0 if no record at
@@ -16,29 +16,29 @@ span_at C tail at w =
     && (int_lt (pos 0) (type_in w) || int_lt (pos 0) (length_in w) && is_padding_type (type_in w))
     then rounded (nat_abs (length_in w)) else 0
 
--- the n words after the header at an index: zeros in padding, and otherwise what the slots have
-abbrev pub body_at : List ℕ → List ℕ → ℕ → ℕ → List ℕ
-body_at words slots i n =
-    if kind_in (slice_index words i) == padding_kind then replicate n 0 else take n (drop (i + 1) slots)
+-- the n words after the header at an index, with this mark: zeros in padding, and otherwise what the slots have
+abbrev pub body_at : List ℕ → ℕ → ℕ → ℕ → List ℕ
+body_at slots mark i n = if kind_in mark == padding_kind then replicate n 0 else take n (drop (i + 1) slots)
 
 -- the words with n words after the header at an index in the format
-abbrev pub with_body : List ℕ → ℕ → ℕ → List ℕ → List ℕ
-with_body slots i n words = overwritten (i + 1) (body_at words slots i n) words
+abbrev pub with_body : List ℕ → ℕ → ℕ → ℕ → List ℕ → List ℕ
+with_body slots mark i n words = overwritten (i + 1) (body_at slots mark i n) words
 
 -- the words with the record of n bytes at a position in the format
-abbrev pub with_record : ℕ → List ℕ → ℕ → ℕ → List ℕ → List ℕ
-with_record C slots at n words =
-    set (with_body slots (index C at) (n / 8 - 1) words) (index C at) (header_at C words slots at)
+abbrev pub with_record : ℕ → List ℕ → ℕ → ℕ → ℕ → ℕ → List ℕ → List ℕ
+with_record C slots tail mark at n words =
+    set (with_body slots mark (index C at) (n / 8 - 1) words) (index C at) (header_with C slots tail mark at)
 
--- The words with the records from a position on in the format, one after another and at most m. They end at the tail,
--- and after a header that no record has. The words after it stay as they are.
-abbrev pub joined_from : ℕ → List ℕ → ℕ → ℕ → ℕ → List ℕ → List ℕ
-joined_from C slots tail zero at words = words
-joined_from C slots tail (suc m) at words =
-    if nat_le tail at then words else (let header = header_at C words slots at in
+-- The words with the records from a position on in the format, one after another and at most m, if a run goes on up to
+-- `run`. They end at the tail, and after a header that no record has. The words after it stay as they are.
+abbrev pub joined_from : ℕ → List ℕ → ℕ → ℕ → ℕ → ℕ → List ℕ → List ℕ
+joined_from C slots tail zero run at words = words
+joined_from C slots tail (suc m) run at words =
+    if nat_le tail at then words else (let mark = mark_at C words run at in
+    let header = header_with C slots tail mark at in
     let n = span_at C tail at header in
     if n == 0 then set words (index C at) header
-    else joined_from C slots tail m (at + n) (with_record C slots at n words))
+    else joined_from C slots tail m (run_of mark) (at + n) (with_record C slots tail mark at n words))
 
 -- The words with n zeros from a position on. After the end of the buffer they go on at its start.
 abbrev pub with_zeros : ℕ → ℕ → ℕ → List ℕ → List ℕ
@@ -51,7 +51,7 @@ with_zeros C at n words =
 abbrev pub joined_between : ℕ → List ℕ → ℕ → ℕ → List ℕ → List ℕ
 joined_between C slots head tail words =
     if is_none (positions_finding C head tail)
-    then joined_from C slots tail ((tail - head) / 8) head (with_zeros C tail ((C - (tail - head)) / 8) words)
+    then joined_from C slots tail ((tail - head) / 8) 0 head (with_zeros C tail ((C - (tail - head)) / 8) words)
     else words
 
 -- the words with the records between their head and their tail in the format

@@ -12,7 +12,6 @@ use Rattle.ring_layout.specs.Places.{index}
 use Rattle.ring_table.specs.Staged.{PlacedMessage, Bodies, in_words, elsewhere, StagedClaim, Stage, Stored, IsStored, AreRising}
 use Rattle.ring_table.specs.Changes.{changed, staged, moved_claim}
 use Rattle.ring_table.specs.Views.{Key, View, ConsumerView, with_claims, with_claim, with_consumer, stands_at}
-use Rattle.ring_table.specs.ConsumerSteps.{StaysAt}
 use Rattle.ring_layout.specs.Places.{next_place}
 use Rattle.ring_layout.specs.History.{span}
 use Rattle.ring_table.specs.ProducerSteps.{Mine, HasClaimAt, Changes, IsStagedOpen, StoresSettled, with_changed}
@@ -20,7 +19,7 @@ use Rattle.ring_table.specs.Seats.{IsSeatOf, IsSameSeat}
 use Rattle.ring_table.proofs.LoadLemmas.{Ok}
 use Rattle.ring_table.proofs.StoreLemmas.{settles}
 use Rattle.ring_table.proofs.ShelfLemmas.{CarriesOn, CarriesIn}
-use Rattle.ring_table.proofs.MarkSteps.{Obeys, Rests, RestsIn, lift_any, rests_same}
+use Rattle.ring_table.proofs.MarkSteps.{Obeys, Rests, RestsIn, SameReader, lift_any, rests_same}
 use Rattle.ring_table.proofs.CarryLemmas.{lift, carries_same, carries_on, carries_claim, carries_changed, one_claim}
 use Rattle.std.proofs.lemmas.Nat.{mod_below}
 
@@ -70,15 +69,15 @@ leaves_as B {v} {w} {x} is out c r = record {
   rests = rests_any B v w (subst (Rests v) (sym is) r);
 }
 
--- claims, kind, head and what is cleared are as they were
+-- claims, kind and the reader's part are as they were
 pub leaves_same : (B : Bodies) {v w x : View} → w ≡ x → x.out ≡ v.out → x.producer.claims ≡ v.producer.claims
-    → x.consumes ≡ v.consumes → x.consumer.head ≡ v.consumer.head → x.consumer.cleared ≡ v.consumer.cleared → Leaves B v w
-leaves_same B is out claims kind head cleared = leaves_as B is out (carries_same claims kind head)
-    (record { stays = λ consumes. kind ∙ consumes; cleared = λ _. cleared; head = λ _. head })
+    → x.consumes ≡ v.consumes → SameReader v.consumer x.consumer → Leaves B v w
+leaves_same B is out claims kind same = leaves_as B is out (carries_same claims kind same.head)
+    (record { stays = λ consumes. kind ∙ consumes; same = λ _. same })
 
 -- a read goes on, and its head stays
-pub leaves_at : {v w : View} → StaysAt v w → Leaves in_words v w
-leaves_at s = record { out = s.out; carries = tt; rests = tt }
+pub leaves_at : {v w : View} → w.out ≡ v.out → Leaves in_words v w
+leaves_at out = record { out = out; carries = tt; rests = tt }
 
 -- a claim is made
 pub leaves_claim : (B : Bodies) {v w : View} (C e new n : ℕ) (type_id : ℤ)

@@ -1,5 +1,5 @@
 -- The consumer stores the head in one step, which clears the headers that it has passed: their marks stay.
-use Rattle.std.proofs.Common.{◌≡◌, ℕ, zero, suc, ◌+◌, ◌-◌, ◌*◌, ◌/◌, ◌%◌, ◌≤◌, ◌<◌, List, [], ◌∷◌, ◌++◌, cond, true, set, slice_index, lt-ltb, sym, refl, ap, ◌∙◌, subst, length, length-set, get_or-set_other, arith}
+use Rattle.std.proofs.Common.{◌≡◌, ℕ, zero, suc, ◌+◌, ◌-◌, ◌*◌, ◌/◌, ◌%◌, ◌≤◌, ◌<◌, List, [], ◌∷◌, ◌++◌, cond, true, set, slice_index, ⊎_elim, lt-ltb, sym, refl, ap, ◌∙◌, subst, length, length-set, get_or-set_other, arith}
 use mathlib.Core.Option.{some}
 use lib.ListN.{get_elem?}
 use Rattle.atomic_table.specs.Table.{State, keeps, Allows}
@@ -10,11 +10,11 @@ use Rattle.ring_layout.proofs.ListLemmas.{at_below}
 use Rattle.ring_table.specs.Staged.{PlacedMessage, elsewhere, staged_word_at}
 use Rattle.ring_table.specs.Owners.{OwnedHistory, all_of}
 use Rattle.ring_table.specs.Passing.{Reaches}
-use Rattle.ring_table.specs.Views.{ConsumerView, View, cleared_to, stands_at, with_consumer}
+use Rattle.ring_table.specs.Views.{ConsumerView, View, cleared_to, no_run, stands_at, with_consumer}
 use Rattle.ring_table.specs.Rule.{Kept}
 use Rattle.ring_table.specs.ProducerSteps.{Mine}
 use Rattle.ring_table.specs.ConsumerSteps.{StoresHead, StoresHeadBefore}
-use Rattle.ring_table.specs.Marks.{Encodes, KeepsMarks}
+use Rattle.ring_table.specs.Marks.{mark_of, KeepsMarks, MayStop}
 use Rattle.ring_table.proofs.StagedPlaces.{capacity_aligned, start_aligned}
 use Rattle.ring_table.proofs.ReachLemmas.{reach_bounds, reach_aligned, back_before_last}
 use Rattle.ring_table.proofs.MemoryLemmas.{not_inside, one_position}
@@ -22,8 +22,9 @@ use Rattle.ring_table.proofs.ClearLemmas.{clears_at, one_end, stores_head_at}
 use Rattle.ring_table.proofs.ShelfLemmas.{stepped_shelf}
 use Rattle.ring_table.proofs.CarryLemmas.{carries_on}
 use Rattle.ring_table.proofs.OutLemmas.{set_twice}
-use Rattle.ring_table.proofs.EncodeLemmas.{encodes_risen, encodes_trailer}
-use Rattle.ring_table.proofs.MarkSteps.{Marked, header_near}
+use Rattle.ring_table.proofs.EncodeLemmas.{encodes_risen, encodes_trailer, reads_risen, reads_trailer}
+use Rattle.ring_table.proofs.MarkSteps.{Marked, header_near, remarked_by}
+use Rattle.ring_table.proofs.RunLemmas.{begins_at, bound_at}
 
 module _ (C start : ℕ) (s : State ℕ View) (m : KeepsMarks C start s.words s.homes s.views) (id : ℕ) (v : View)
     (at : get_elem? s.views id ≡ some v) (consumes : v.consumes ≡ true) where
@@ -92,9 +93,9 @@ module _ (C start : ℕ) (s : State ℕ View) (m : KeepsMarks C start s.words s.
   -- the head goes to q, which was reached with the messages got, as the headers before q are cleared
   pub raises_to : (q : ℕ) (got : List PlacedMessage) → v.out ≡ [] → v.consumer.head ≤ q → q ≤ v.consumer.scan
       → ((h : OwnedHistory) → Reaches v.consumer.scan start (all_of h) v.consumer.got → Reaches q start (all_of h) got)
-      → KeepsMarks C start (set s.words (head_index C) q) s.homes
+      → begins_at C start s m q → KeepsMarks C start (set s.words (head_index C) q) s.homes
       (set s.views id (with_consumer (stands_at q got v.consumer) v))
-  raises_to q got bare on le reaches =
+  raises_to q got bare on le reaches begins =
       let r = m.kept in
       let law = r.lawful in
       let mem = r.memory in
@@ -129,35 +130,37 @@ module _ (C start : ℕ) (s : State ℕ View) (m : KeepsMarks C start s.words s.
       (reaches kept.hist
       (subst (λ (z : ConsumerView). Reaches z.scan start (all_of kept.hist) z.got) (sym its) km.passed))
       (sym cleared')) in
-      let last = ((stored.seated.each id w (set_here s.views id w (at_below s.views id v at))).consumes consumes).1 in
       let wide = t.wide in
       let long = mem.wide in
-      record {
-        headers = set t.headers (head_index C) q;
-        kept = stored;
-        shelf = stepped_shelf C s.homes s.views m.shelf id v at bare w bare (carries_on refl refl (omega arith));
-        none_cleared = subst (λ (z : ConsumerView). z.cleared ≡ z.head) last refl;
-        encodes = subst
-            (λ (z : ConsumerView). Encodes C z.head (set t.headers (head_index C) q) (set s.words (head_index C) q)) last
-            (encodes_trailer C start law q t.headers s.words
-            (encodes_risen C start law r.consumer.head m.headers s.words m.encodes q t.headers (omega arith)
-            (omega arith) t.wide t.trailer
-            (λ p p8 lo hi. t.later p p8 (omega arith) hi)
-            (λ p p8 lo hi. km.shows p p8 (omega arith) (omega arith)
-            ∙ ap (λ b. cond b 0 (staged_word_at elsewhere (all_of kept.hist) p))
-            (lt-ltb p kept.consumer.cleared (omega arith)))
-            (λ p p8 lo hi.
-            let near = (header_near C start m.headers s.views r p p8 lo (omega arith)).below in
-            omega arith) c8)
-            (head_index C) q (omega arith) (omega arith));
-      }
+      let from : r.consumer.head ≤ q = omega arith in
+      let limit : q ≤ r.consumer.head + C = omega arith in
+      let zeros = λ (p : ℕ) (p8 : p % 8 ≡ 0) (lo : r.consumer.head ≤ p) (hi : p < q).
+      let z : slice_index t.headers (index C p) ≡ 0 = km.shows p p8 (omega arith) (omega arith)
+      ∙ ap (λ b. cond b 0 (staged_word_at elsewhere (all_of kept.hist) p))
+      (lt-ltb p kept.consumer.cleared (omega arith)) in z in
+      let near = λ (p : ℕ) (p8 : p % 8 ≡ 0) (lo : r.consumer.head ≤ p) (hi : p < q).
+      let below = (header_near C start m.headers s.views r p p8 lo (omega arith)).below in
+      let le : mark_of p (slice_index m.headers (index C p)) ≤ p + C = omega arith in le in
+      let later = λ (p : ℕ) (p8 : p % 8 ≡ 0) (lo : q ≤ p) (hi : p < r.consumer.head + C).
+      t.later p p8 (omega arith) hi in
+      let bound = bound_at C start s m q got comes from in
+      let encodes = encodes_risen C start law r.consumer.head m.headers m.ends s.words m.encodes q t.headers from
+      limit q8 t.wide t.trailer later zeros near c8 begins bound in
+      let reads = reads_risen C start law r.consumer.head m.headers m.ends s.words m.encodes q t.headers from
+      limit q8 t.wide t.trailer later zeros near c8 begins bound (omega arith) in
+      remarked_by C start (set s.words (head_index C) q) (set t.headers (head_index C) q) m.ends s.homes
+      (set s.views id w) id w q stored
+      (stepped_shelf C s.homes s.views m.shelf id v at bare w bare (carries_on refl refl (omega arith)))
+      (set_here s.views id w (at_below s.views id v at)) consumes (refl, refl)
+      (encodes_trailer C start law q t.headers m.ends s.words encodes (head_index C) q (omega arith) (omega arith))
+      (reads_trailer C start law q t.headers m.ends s.words encodes (head_index C) q q (omega arith) q (no_run q) reads)
 
 module _ (C start : ℕ) where
   -- the head is stored after all that was passed
   pub raises_head : (slots id : ℕ) (me : Mine) (head : ℕ) → me.0.consumes ≡ true → me.0.out ≡ []
-      → me.0.consumer.scan ≡ head
+      → me.0.consumer.scan ≡ head → MayStop me.0
       → Allows (Marked C start) slots id me (head_index C) (λ _. head) (λ _ me'. (me'.1 ≡ me.1) × StoresHead me.0 me'.0)
-  raises_head slots id me head consumes bare scan s m wide at small =
+  raises_head slots id me head consumes bare scan stop s m wide at small =
       let v : View = me.0 in
       let mem = m.kept.memory in
       let mine' = ((m.kept.seated.each id v at).consumes consumes).1 in
@@ -165,23 +168,30 @@ module _ (C start : ℕ) where
       let head' : v.consumer.head ≡ m.kept.consumer.head = ap (λ (z : ConsumerView). z.head) mine' in
       let from = mem.clears_from in
       let to = mem.clears_to in
+      let upto = m.reads.to in
+      let ends : v.consumer.run.to ≡ m.kept.consumer.run.to = ap (λ (z : ConsumerView). z.run.to) mine' in
+      let begins : begins_at C start s m v.consumer.scan = ⊎_elim
+      (λ (done : v.consumer.run.to ≤ v.consumer.scan).
+      subst (begins_at C start s m) (sym scan') (m.reads.stops (omega arith)))
+      (λ (here : v.consumer.run.from ≡ v.consumer.scan).
+      subst (begins_at C start s m) (ap (λ (z : ConsumerView). z.run.from) (sym mine') ∙ here) m.reads.begins) stop in
       let w : View = with_consumer (stands_at v.consumer.scan v.consumer.got v.consumer) v in (
         w,
         keeps,
         tt,
         subst (λ q. KeepsMarks C start (set s.words (head_index C) q) s.homes (set s.views id w)) scan
             (raises_to C start s m id v at consumes v.consumer.scan v.consumer.got bare (omega arith) (omega arith)
-            (λ h p. p)),
+            (λ h p. p) begins),
         (refl, refl),
       )
 
   -- the head is stored before the last message that was got
   pub raises_head_before : (slots id : ℕ) (me : Mine) (head : ℕ) (front : List PlacedMessage) (last : PlacedMessage)
       → me.0.consumes ≡ true → me.0.out ≡ [] → me.0.consumer.got ≡ front ++ last ∷ [] → last.place ≡ head
-      → me.0.consumer.head ≤ head → head ≤ me.0.consumer.scan
+      → me.0.consumer.head ≤ head → head ≤ me.0.consumer.scan → me.0.consumer.run.from ≡ head
       → Allows (Marked C start) slots id me (head_index C) (λ _. head)
       (λ _ me'. (me'.1 ≡ me.1) × StoresHeadBefore me.0 me'.0)
-  raises_head_before slots id me head front last consumes bare got place on le s m wide at small =
+  raises_head_before slots id me head front last consumes bare got place on le here s m wide at small =
       let v : View = me.0 in
       let w : View = with_consumer (stands_at last.place front v.consumer) v in (
         w,
@@ -190,7 +200,10 @@ module _ (C start : ℕ) where
         subst (λ q. KeepsMarks C start (set s.words (head_index C) q) s.homes (set s.views id w)) place
             (raises_to C start s m id v at consumes last.place front bare (omega arith) (omega arith)
             (λ h p. back_before_last v.consumer.scan start (all_of h) front last
-            (subst (Reaches v.consumer.scan start (all_of h)) got p))),
+            (subst (Reaches v.consumer.scan start (all_of h)) got p))
+            (subst (begins_at C start s m)
+            (ap (λ (z : ConsumerView). z.run.from) (sym ((m.kept.seated.each id v at).consumes consumes).1) ∙ here
+            ∙ sym place) m.reads.begins)),
         (
           refl,
           λ front' last' got'. let same = one_end front front' last last' (sym got ∙ got') in λ i. with_consumer

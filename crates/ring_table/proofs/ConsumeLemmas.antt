@@ -17,7 +17,7 @@ use Rattle.ring_table.specs.Staged.{PlacedMessage, staged_end, staged_word_at}
 use Rattle.ring_table.specs.Owners.{OwnedHistory, all_of}
 use Rattle.ring_table.specs.Passing.{Reaches}
 use Rattle.ring_table.specs.Services.{AreServed}
-use Rattle.ring_table.specs.Views.{Logs, ConsumerView, View, logged, with_consumer, scanned}
+use Rattle.ring_table.specs.Views.{Logs, ConsumerView, Run, View, logged, no_run, with_run, scanned}
 use Rattle.ring_table.specs.Rule.{IsMemory, Knows, Kept}
 use Rattle.ring_table.specs.ProducerSteps.{Mine}
 use Rattle.ring_table.specs.ConsumerSteps.{with_scan, IsInside, LoadsHeader, LoadsBody}
@@ -73,21 +73,23 @@ module _ (B : Bodies) (C start : ℕ) where
         };
       })
 
-  -- the read comes to q
-  pub scans : (s : State ℕ View) (r : Ok B C start s) (id : ℕ) (v : View) → get_elem? s.views id ≡ some v
+  -- the read comes to q, in this run
+  comes : (s : State ℕ View) (r : Ok B C start s) (id : ℕ) (v : View) → get_elem? s.views id ≡ some v
       → v.consumes ≡ true → (q : ℕ) (got : List PlacedMessage) → Reaches q start (all_of r.hist) got
-      → r.consumer.cleared ≤ q → (p n : ℕ)
-      → Kept B C start (set s.words (index C p) (slice_index s.words (index C p)))
-      (set s.views id (with_scan (index C p) n q got v))
-  scans s r id v at consumes q got reaches le p n =
+      → r.consumer.cleared ≤ q → (run : Run) (log : List (ℕ × ℕ))
+      → Kept B C start s.words
+      (set s.views id (record v { consumer = record (scanned q got v.consumer) { run = run }; log = log }))
+  comes s r id v at consumes q got reaches le run log =
       let m = r.memory in
       let mine = ((r.seated.each id v at).consumes consumes).1 in
-      let inside = index_inside B C start r.lawful p in
-      let now : ConsumerView = scanned q got r.consumer in
-      subst (λ (c : ConsumerView). Kept B C start (set s.words (index C p) (slice_index s.words (index C p)))
-      (set s.views id (with_consumer c (logged (index C p) n v)))) (ap (scanned q got) (sym mine))
-      (consumed s.words s.views r id v at consumes (index C p) (slice_index s.words (index C p)) now _
-      (subst (λ l. IsMemory B C start l (all_of r.hist) now) (sym (set-get_or s.words (index C p) 0)) (record {
+      let inside = index_inside B C start r.lawful q in
+      let i : ℕ = index C q in
+      let come : ConsumerView → ConsumerView = λ c. record (scanned q got c) { run = run } in
+      let now : ConsumerView = come r.consumer in
+      subst (λ (z : List ℕ × ConsumerView). Kept B C start z.0 (set s.views id (record v { consumer = z.1; log = log })))
+      (λ k. (set-get_or s.words i 0 k, come (sym mine k)))
+      (consumed s.words s.views r id v at consumes i (slice_index s.words i) now log
+      (subst (λ l. IsMemory B C start l (all_of r.hist) now) (sym (set-get_or s.words i 0)) (record {
         wide = m.wide;
         placed = m.placed;
         tail_is = m.tail_is;
@@ -105,16 +107,38 @@ module _ (B : Bodies) (C start : ℕ) where
         cache = λ e. omega arith;
         correlation = λ e. omega arith;
         heartbeat = λ e. omega arith;
-        unnamed = λ j un. not_inside B C start r.lawful p j un.behind;
+        unnamed = λ j un. not_inside B C start r.lawful q j un.behind;
       })
       (record { rises = omega arith; same = refl }))
+
+  -- the same as a word is loaded
+  pub scans : (s : State ℕ View) (r : Ok B C start s) (id : ℕ) (v : View) → get_elem? s.views id ≡ some v
+      → v.consumes ≡ true → (q : ℕ) (got : List PlacedMessage) → Reaches q start (all_of r.hist) got
+      → r.consumer.cleared ≤ q → (p n : ℕ) (run : Run)
+      → Kept B C start (set s.words (index C p) (slice_index s.words (index C p)))
+      (set s.views id (with_run run (with_scan (index C p) n q got v)))
+  scans s r id v at consumes q got reaches le p n run =
+      subst (λ l. Kept B C start l (set s.views id (with_run run (with_scan (index C p) n q got v))))
+      (sym (set-get_or s.words (index C p) 0))
+      (comes s r id v at consumes q got reaches le run (v.log ++ (index C p, n) ∷ []))
+
+  -- the read comes to another run
+  pub reruns : (s : State ℕ View) (r : Ok B C start s) (id : ℕ) (v : View) → get_elem? s.views id ≡ some v
+      → v.consumes ≡ true → (run : Run) → Kept B C start s.words (set s.views id (with_run run v))
+  reruns s r id v at consumes run =
+      let mine = ((r.seated.each id v at).consumes consumes).1 in
+      let to = r.memory.clears_to in
+      let scan : v.consumer.scan ≡ r.consumer.scan = ap (λ (z : ConsumerView). z.scan) mine in
+      comes s r id v at consumes v.consumer.scan v.consumer.got
+      (subst (λ (z : ConsumerView). Reaches z.scan start (all_of r.hist) z.got) (sym mine) r.memory.passed)
+      (omega arith) run v.log
 
   -- a load of a header at the position q, which the head or the read has reached with the messages got
   loads_header : (q : ℕ) (got : List PlacedMessage) (slots id : ℕ) (me : Mine) → me.0.capacity ≡ C
       → me.0.consumes ≡ true → (s : State ℕ View) (r : Ok B C start s) → get_elem? s.views id ≡ some me.0
       → Reaches q start (all_of r.hist) got → (r.consumer.cleared ≤ q) × (q < r.consumer.head + C)
       → May B C start s (index C q) id me (λ me'. (me'.1 ≡ me.1)
-      × LoadsHeader me.0.capacity q got me.0 (shown_header B (slice_index s.words (index C q))) me'.0
+      × LoadsHeader me.0.capacity q got (with_run (no_run q) me.0) (shown_header B (slice_index s.words (index C q))) me'.0
       × Logs (index C q) (shown_header B (slice_index s.words (index C q))) me.0 me'.0) (slice_index s.words (index C q))
   loads_header q got slots id me cap consumes s r at reaches ahead =
       let le = ahead.0 in
@@ -136,21 +160,22 @@ module _ (B : Bodies) (C start : ℕ) where
       let is : staged_word_at B (all_of h) q ≡ w =
       sym (m.shows q q8 (omega arith) near ∙ ap (λ b. cond b 0 (staged_word_at B (all_of h) q))
       (le-ltb q r.consumer.cleared le)) in
-      let now = λ (to : ℕ) (g : List PlacedMessage). with_scan (index C q) n to g v in
-      let Told : View → Type 0 = LoadsHeader me.0.capacity q got v n in
+      let u : View = with_run (no_run q) v in
+      let now = λ (to : ℕ) (g : List PlacedMessage). with_scan (index C q) n to g u in
+      let Told : View → Type 0 = LoadsHeader me.0.capacity q got u n in
       let no_length = λ (none : ¬ ((0 < low) × (low < 2 ^ 31))).
       let told : Told (now q got) = record {
         capacity = refl;
-        stays = record { producer = refl; out = refl; consumes = refl; head = refl };
+        stays = record { producer = refl; out = refl; consumes = refl; head = refl; run = refl };
         padding = λ len some small e. let t = halves len padding_type small e in let len_is =
             t.0 in absurd (none (omega arith, omega arith));
         message = λ len type_id some small fits other e. let t = halves len type_id small e in let len_is =
             t.0 in absurd (none (omega arith, omega arith));
-        unpublished = λ len type_id _ _ _ _. ap (λ c. with_scan (index c q) n q got v) (sym cap);
+        unpublished = λ len type_id _ _ _ _. ap (λ c. with_scan (index c q) n q got u) (sym cap);
       } in
       let step : May B C start s (index C q) id me
       (λ me'. (me'.1 ≡ me.1) × Told me'.0 × Logs (index C q) n me.0 me'.0) w =
-      (now q got, keeps, tt, scans s r id v at consumes q got reaches le q n, (refl, told, refl)) in step in
+      (now q got, keeps, tt, scans s r id v at consumes q got reaches le q n (no_run q), (refl, told, refl)) in step in
       ⊎_elim (λ (lo : 0 < low). ⊎_elim (λ (hi : low < 2 ^ 31).
       let t : Leads C q start (all_of h) got n =
       leads B C q start (all_of h) got w law.capacity (record { whole = start8; placed = m.placed }) reaches is
@@ -167,11 +192,11 @@ module _ (B : Bodies) (C start : ℕ) where
       let below = bounds.1 in
       let told : Told (now far got) = record {
         capacity = refl;
-        stays = record { producer = refl; out = refl; consumes = refl; head = refl };
+        stays = record { producer = refl; out = refl; consumes = refl; head = refl; run = refl };
         padding = λ len some small e.
             let halves_are = halves len padding_type small e in
             record {
-              view = λ i. with_scan (index (sym cap i) q) n (q + rounded (halves_are.0 i)) got v;
+              view = λ i. with_scan (index (sym cap i) q) n (q + rounded (halves_are.0 i)) got u;
               inside = subst (λ (z : ℕ × ℕ). IsInside z.0 q (rounded z.1)) (λ i. (sym cap i, halves_are.0 i))
                   (record { limit = omega arith; within = t.within });
             };
@@ -179,14 +204,14 @@ module _ (B : Bodies) (C start : ℕ) where
             halves len type_id small e in absurd (other (padding_bits type_id fits (sym halves_are.1 ∙ pad)));
         unpublished = λ len type_id fits _ le e. absurd (positive len type_id fits le e);
       } in
-      (now far got, keeps, tt, scans s r id v at consumes far got on (omega arith) q n, (refl, told, refl)))
+      (now far got, keeps, tt, scans s r id v at consumes far got on (omega arith) q n (no_run q), (refl, told, refl)))
       (λ other.
       let found = t.message other in
       let all : List PlacedMessage = got ++ (record { place = q; message = found.message }) ∷ [] in
       let bounds = reach_bounds C far start (all_of h) all m.placed found.reaches in
       let told : Told (now far all) = record {
         capacity = refl;
-        stays = record { producer = refl; out = refl; consumes = refl; head = refl };
+        stays = record { producer = refl; out = refl; consumes = refl; head = refl; run = refl };
         padding = λ len some small e. let halves_are = halves len padding_type small e in absurd (other halves_are.1);
         message = λ len type_id some small fits not_pad e.
             let halves_are = halves len type_id small e in
@@ -199,13 +224,13 @@ module _ (B : Bodies) (C start : ℕ) where
                   (λ i. (sym cap i, types i)) found.lawful;
               view = λ i. with_scan (index (sym cap i) q) n (q + rounded (halves_are.0 i))
                   (got ++ (record { place = q; message = record { type_id = types i; body = found.message.body } })
-                  ∷ []) v;
+                  ∷ []) u;
               inside = subst (λ (z : ℕ × ℕ). IsInside z.0 q (rounded z.1)) (λ i. (sym cap i, halves_are.0 i))
                   (record { limit = omega arith; within = t.within });
             };
         unpublished = λ len type_id fits _ le e. absurd (positive len type_id fits le e);
       } in
-      (now far all, keeps, tt, scans s r id v at consumes far all found.reaches (omega arith) q n, (refl, told, refl))))
+      (now far all, keeps, tt, scans s r id v at consumes far all found.reaches (omega arith) q n (no_run q), (refl, told, refl))))
       (λ (hi : 2 ^ 31 ≤ low). no_length (λ t. let above = t.1 in omega arith)) (cases_lt low (2 ^ 31)))
       (λ (lo : low ≤ 0). no_length (λ t. omega arith)) (cases_lt 0 low)
 
@@ -213,7 +238,8 @@ module _ (B : Bodies) (C start : ℕ) where
       → me.0.consumer.cleared ≡ me.0.consumer.head
       → Allows (Ok B C start) slots id me (index C me.0.consumer.head) (λ n. n)
       (λ n me'. (me'.1 ≡ me.1)
-      × LoadsHeader me.0.capacity me.0.consumer.head me.0.consumer.taken me.0 (shown_header B n) me'.0
+      × LoadsHeader me.0.capacity me.0.consumer.head me.0.consumer.taken
+      (with_run (no_run me.0.consumer.head) me.0) (shown_header B n) me'.0
       × Logs (index C me.0.consumer.head) (shown_header B n) me.0 me'.0)
   loads_first slots id me cap consumes none_cleared s r wide at small =
       let mine = ((r.seated.each id me.0 at).consumes consumes).1 in
@@ -227,7 +253,8 @@ module _ (B : Bodies) (C start : ℕ) where
       → me.0.consumer.scan < me.0.consumer.head + C
       → Allows (Ok B C start) slots id me (index C me.0.consumer.scan) (λ n. n)
       (λ n me'. (me'.1 ≡ me.1)
-      × LoadsHeader me.0.capacity me.0.consumer.scan me.0.consumer.got me.0 (shown_header B n) me'.0
+      × LoadsHeader me.0.capacity me.0.consumer.scan me.0.consumer.got
+      (with_run (no_run me.0.consumer.scan) me.0) (shown_header B n) me'.0
       × Logs (index C me.0.consumer.scan) (shown_header B n) me.0 me'.0)
   loads_next slots id me cap consumes near s r wide at small =
       let mine = ((r.seated.each id me.0 at).consumes consumes).1 in

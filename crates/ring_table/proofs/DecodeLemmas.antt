@@ -19,7 +19,7 @@ use Rattle.ring_table.specs.Staged.{elsewhere, StagedClaim, Stage, Moved, Padded
 use Rattle.ring_table.specs.Changes.{blank}
 use Rattle.ring_table.specs.Passing.{AreSettled, IsSettled, placed_committed_of, shown_at}
 use Rattle.ring_table.specs.Rescued.{one_if_unsettled, silent_of, silent_bytes, unsettled_count, Settles}
-use Rattle.ring_table.specs.Marks.{decoded, mark_of}
+use Rattle.ring_table.specs.Marks.{decoded, IsMarkOf}
 use Rattle.ring_table.proofs.HeaderReads.{halves}
 use Rattle.ring_table.proofs.MarkWords.{shows_claim, shows_mark, shows_padding}
 use Rattle.ring_table.proofs.StagedPlaces.{capacity_aligned, claim_aligned}
@@ -164,16 +164,11 @@ HeadAt p y [] = ⊤
 HeadAt p y (c ∷ cs) = (IsSettled c.stage → c.place ≡ p → y ≡ committed_header c.message.type_id (length c.message.body))
     × HeadAt p y cs
 
--- w is the mark of the header h at p
-pub record Marks (p w h : ℕ) : Type 0 where
-  pub none : h ≡ 0 → w ≤ p
-  pub mark : h ≢ 0 → w ≡ mark_of p h
-
-decode_zero : (p w y h k : ℕ) → h ≡ 0 → k ≡ 0 → Marks p w h → decoded p w y ≡ k
+decode_zero : (p w y h k : ℕ) → h ≡ 0 → k ≡ 0 → IsMarkOf p w h → decoded p w y ≡ k
 decode_zero p w y h k zero zero' m = decoded_none p w y (m.none zero) ∙ sym zero'
 
 decode_pad : (t : Stage) (p w y n : ℕ) → p % 8 ≡ 0 → n % 8 ≡ 0 → 0 < n → n < 2 ^ 31
-    → Marks p w (masked_padding t (padding_word elsewhere n)) → decoded p w y ≡ masked_padding t (padding_word elsewhere n)
+    → IsMarkOf p w (masked_padding t (padding_word elsewhere n)) → decoded p w y ≡ masked_padding t (padding_word elsewhere n)
 decode_pad Moved p w y n p8 n8 full small m = decoded_none p w y (m.none refl)
 decode_pad Padded p w y n p8 n8 full small m =
     let s = shows_padding n full small n8 in
@@ -183,7 +178,7 @@ decode_pad (Stored s) p w y n p8 n8 full small m =
     decoded_padding p n w y (m.mark s.some ∙ shows_mark p (padding_word elsewhere n) n padding_kind s) p8 n8 full
 
 decode_head : (C : ℕ) (t : Stage) (p w y : ℕ) (b : Message) → C ≤ 2 ^ 24 → IsMessage C b → p % 8 ≡ 0
-    → Marks p w (masked_record t (header_of (record { message = b; state = stage_state t })))
+    → IsMarkOf p w (masked_record t (header_of (record { message = b; state = stage_state t })))
     → (IsSettled t → y ≡ committed_header b.type_id (length b.body))
     → decoded p w y ≡ masked_record t (header_of (record { message = filled_out t b; state = stage_state t }))
 decode_head C Moved p w y b most is p8 m head = decoded_none p w y (m.none refl)
@@ -217,7 +212,7 @@ inner_word c p le ne = staged_word-record elsewhere c p le ∙ ap (masked_record
     (cond-false _ _ _ (ne_eqb (p - c.place) 0 (λ none. omega arith))) ∙ masked_zero c.stage
 
 decode_claim : (C e : ℕ) (c : StagedClaim) (p w y : ℕ) → IsCapacity C → e % 8 ≡ 0 → LiesAfter C e c → p % 8 ≡ 0
-    → Marks p w (staged_word elsewhere c p)
+    → IsMarkOf p w (staged_word elsewhere c p)
     → (IsSettled c.stage → c.place ≡ p → y ≡ committed_header c.message.type_id (length c.message.body))
     → decoded p w y ≡ staged_word elsewhere (filled_record c) p
 decode_claim C e c p w y cap e8 lies p8 m head =
@@ -235,21 +230,21 @@ decode_claim C e c p w y cap e8 lies p8 m head =
     let small : n < 2 ^ 31 = ⊎_elim (λ z. let same = z.1 in omega arith) (λ z. let far = z.0 in let goes = z.1 in omega arith)
     (next_cases C e (staged_span c)) in
     decode_pad c.stage p w y n p8 (omega arith) (omega arith) small
-    (subst (Marks p w) (staged_word-padding elsewhere c p at_it pad) m)
+    (subst (IsMarkOf p w) (staged_word-padding elsewhere c p at_it pad) m)
     ∙ sym (staged_word-padding elsewhere (filled_record c) p at_it pad))
     (λ ne. decode_zero p w y (staged_word elsewhere c p) (staged_word elsewhere (filled_record c) p)
     (staged_word-padding_behind elsewhere c p ne pad) (staged_word-padding_behind elsewhere (filled_record c) p ne pad) m))
     (λ (rec : c.place ≤ p). dite (ℕ_discrete p c.place)
     (λ at_it.
     decode_head C c.stage p w y c.message most lies.message p8
-    (subst (Marks p w) (staged_word-header elsewhere c p at_it) m) (λ done. head done (sym at_it))
+    (subst (IsMarkOf p w) (staged_word-header elsewhere c p at_it) m) (λ done. head done (sym at_it))
     ∙ sym (staged_word-header elsewhere (filled_record c) p at_it))
     (λ ne. decode_zero p w y (staged_word elsewhere c p) (staged_word elsewhere (filled_record c) p)
     (inner_word c p rec ne) (inner_word (filled_record c) p rec ne) m))
     (cases_lt p c.place)
 
 pub decode_all : (C e : ℕ) (cs : List StagedClaim) (p w y : ℕ) → IsCapacity C → e % 8 ≡ 0 → ArePlaced C e cs → p % 8 ≡ 0
-    → Marks p w (staged_word_at elsewhere cs p) → HeadAt p y cs
+    → IsMarkOf p w (staged_word_at elsewhere cs p) → HeadAt p y cs
     → decoded p w y ≡ staged_word_at elsewhere (all_filled_out cs) p
 decode_all C e [] p w y cap e8 placed p8 m heads = decoded_none p w y (m.none refl)
 decode_all C e (c ∷ cs) p w y cap e8 placed p8 m heads =
@@ -258,11 +253,11 @@ decode_all C e (c ∷ cs) p w y cap e8 placed p8 m heads =
     let same = filled_end c in
     ⊎_elim
     (λ (near : p < claim_end c).
-    decode_claim C e c p w y cap e8 placed.0 p8 (subst (Marks p w) (cond-true _ _ _ (lt-ltb p (claim_end c) near)) m) heads.0
+    decode_claim C e c p w y cap e8 placed.0 p8 (subst (IsMarkOf p w) (cond-true _ _ _ (lt-ltb p (claim_end c) near)) m) heads.0
     ∙ sym (cond-true _ _ _ (lt-ltb p (claim_end (filled_record c)) (subst (λ k. p < k) (sym same) near))))
     (λ (far : claim_end c ≤ p).
     decode_all C (claim_end c) cs p w y cap aligned.1 placed.1 p8
-    (subst (Marks p w) (cond-false _ _ _ (le-ltb p (claim_end c) far)) m) heads.1
+    (subst (IsMarkOf p w) (cond-false _ _ _ (le-ltb p (claim_end c) far)) m) heads.1
     ∙ sym (cond-false _ _ _ (le-ltb p (claim_end (filled_record c)) (subst (λ k. k ≤ p) (sym same) far))))
     (cases_lt p (claim_end c))
 

@@ -221,7 +221,7 @@ module _ (C start : ℕ) where
       }) l_m (g.held.count ∙ ap words_of (length_slot now) ∙ g.many))
 
   -- the rule but for the slots, once nothing is out
-  home_kept : (s : State ℕ View) (words : List ℕ) (id : ℕ) (v : View) → get_elem? s.views id ≡ some v → (mid : View)
+  pub home_kept : (s : State ℕ View) (words : List ℕ) (id : ℕ) (v : View) → get_elem? s.views id ≡ some v → (mid : View)
       → Kept elsewhere C start words (set s.views id mid)
       → Kept elsewhere C start words (set s.views id (with_out [] mid))
   home_kept s words id v at mid kept =
@@ -230,7 +230,7 @@ module _ (C start : ℕ) where
       (set_here s.views id mid (at_below s.views id v at)) [] mid.log)
 
   -- no slot is left
-  none_left : (me : Mine) (i : ℕ) (body : List ℕ) → (held : HasBody i body me.1)
+  pub none_left : (me : Mine) (i : ℕ) (body : List ℕ) → (held : HasBody i body me.1)
       → carried_after me.1 (gives_first held.values) ≡ []
   none_left me i body held =
       ap (λ h. carried_after h (gives_first held.values))

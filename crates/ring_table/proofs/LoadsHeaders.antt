@@ -15,7 +15,7 @@ module _ (C q : ℕ) (got : List PlacedMessage) (v : View) (cap : v.capacity ≡
   pub told_none : LoadsHeader v.capacity q got v 0 (with_scan (index C q) 0 q got v)
   told_none = record {
     capacity = refl;
-    stays = record { producer = refl; out = refl; consumes = refl; head = refl };
+    stays = record { producer = refl; out = refl; consumes = refl; head = refl; run = refl };
     padding = λ len some small e. let t = halves len padding_type small e in let len_is = t.0 in absurd (omega arith);
     message = λ len type_id some small fits other e. let t = halves len type_id small e in let len_is =
         t.0 in absurd (omega arith);
@@ -39,7 +39,7 @@ module _ (C q : ℕ) (got : List PlacedMessage) (v : View) (cap : v.capacity ≡
       let low : n % 2 ^ 32 ≡ b = both.0 in
       record {
         capacity = refl;
-        stays = record { producer = refl; out = refl; consumes = refl; head = refl };
+        stays = record { producer = refl; out = refl; consumes = refl; head = refl; run = refl };
         padding = λ len some small' e.
             let len_is = (halves len padding_type small' e).0 in
             let is : b ≡ rounded len = omega arith in
@@ -62,7 +62,7 @@ module _ (C q : ℕ) (got : List PlacedMessage) (v : View) (cap : v.capacity ≡
       let low : n % 2 ^ 32 ≡ 8 + length m.message.body = both.0 in
       record {
         capacity = refl;
-        stays = record { producer = refl; out = refl; consumes = refl; head = refl };
+        stays = record { producer = refl; out = refl; consumes = refl; head = refl; run = refl };
         padding = λ len some small' e.
             let t = halves len padding_type small' e in
             let type_is : m.message.type_id ≡ padding_type =

@@ -7,7 +7,7 @@ use lib.ListN.{get_elem?}
 use Rattle.std.proofs.lemmas.Bool.{cases_lt}
 use Rattle.std.proofs.lemmas.List.{set-get_or}
 use Rattle.std.proofs.lemmas.Nat.{mod_below}
-use Rattle.atomic_table.specs.Table.{State, Allows, carried_after}
+use Rattle.atomic_table.specs.Table.{State, Allows, carried_after, homes_after}
 use Rattle.atomic_table.proofs.Lists.{set_here, set_else}
 use Rattle.ring_layout.specs.Places.{index}
 use Rattle.ring_layout.specs.Layout.{ring_words}
@@ -15,12 +15,12 @@ use Rattle.ring_layout.proofs.Laps.{mod_step, mod_room, mod_aligned}
 use Rattle.ring_layout.proofs.ListLemmas.{at_below}
 use Rattle.ring_table.specs.Staged.{Bodies, in_words, elsewhere, staged_word_at}
 use Rattle.ring_table.specs.Owners.{all_of}
-use Rattle.ring_table.specs.Views.{ConsumerView, View}
+use Rattle.ring_table.specs.Views.{ConsumerView, Run, View}
 use Rattle.ring_table.specs.Rule.{Kept}
 use Rattle.ring_table.specs.Shelf.{IsShelf}
 use Rattle.ring_table.specs.ProducerSteps.{Mine}
 use Rattle.std.specs.Prelude.{⊤}
-use Rattle.ring_table.specs.Marks.{mark_of, Encodes, KeepsIn, KeepsMarks}
+use Rattle.ring_table.specs.Marks.{at_position, bytes_of, mark_of, Encodes, IsCommitted, KeepsIn, KeepsMarks, ReadsRun}
 use Rattle.ring_table.proofs.StagedPlaces.{capacity_aligned}
 use Rattle.ring_table.proofs.StepLemmas.{one_view}
 use Rattle.ring_table.proofs.MemoryLemmas.{index_inside, head_bounds}
@@ -28,7 +28,7 @@ use Rattle.ring_table.proofs.LoadLemmas.{Ok}
 use Rattle.ring_table.proofs.ShelfLemmas.{CarriesIn}
 use Rattle.ring_table.proofs.CarryLemmas.{Holds, lift}
 use Rattle.ring_table.proofs.MarkWords.{IsNear, near_all}
-use Rattle.ring_table.proofs.EncodeLemmas.{encodes_trailer, encodes_mark}
+use Rattle.ring_table.proofs.EncodeLemmas.{encodes_trailer, reads_trailer, encodes_mark, mark_end, rewrites_mark, reads_beside}
 
 -- each index of the buffer is that of a position in the lap from the head on
 pub record HasIndex (C head i : ℕ) : Type 0 where
@@ -66,23 +66,42 @@ position_of C head i pos c8 head8 inside =
     })
     (cases_lt (8 * i) x)
 
--- what a step leaves of the consumer's part: what is cleared, and the head
+-- the reader's part is as it was: what is cleared, the head, how far the read has come, and the run
+pub record SameReader (c d : ConsumerView) : Type 0 where
+  pub cleared : d.cleared ≡ c.cleared
+  pub head : d.head ≡ c.head
+  pub scan : d.scan ≡ c.scan
+  pub run : d.run ≡ c.run
+
+pub same_reader : {c d : ConsumerView} → d ≡ c → SameReader c d
+same_reader same = record {
+  cleared = ap (λ (z : ConsumerView). z.cleared) same;
+  head = ap (λ (z : ConsumerView). z.head) same;
+  scan = ap (λ (z : ConsumerView). z.scan) same;
+  run = ap (λ (z : ConsumerView). z.run) same;
+}
+
+-- what a step leaves of the consumer's part
 pub record Rests (v w : View) : Type 0 where
   pub stays : v.consumes ≡ true → w.consumes ≡ true
-  pub cleared : v.consumes ≡ true → w.consumer.cleared ≡ v.consumer.cleared
-  pub head : v.consumes ≡ true → w.consumer.head ≡ v.consumer.head
+  pub same : v.consumes ≡ true → SameReader v.consumer w.consumer
 
 pub rests_same : {v w : View} → w.consumes ≡ v.consumes → w.consumer ≡ v.consumer → Rests v w
-rests_same kind same = record {
-  stays = λ consumes. kind ∙ consumes;
-  cleared = λ _. ap (λ (z : ConsumerView). z.cleared) same;
-  head = λ _. ap (λ (z : ConsumerView). z.head) same;
-}
+rests_same kind same = record { stays = λ consumes. kind ∙ consumes; same = λ _. same_reader same }
 
 -- what a seat's view is after a step, whose consumer's part stays
 pub rests_as : {v w x : View} → w ≡ x → x.consumes ≡ v.consumes → x.consumer ≡ v.consumer → Rests v w
 rests_as {v} {w} {x} is kind same = rests_same {v = v} {w = w} (ap (λ (z : View). z.consumes) is ∙ kind)
     (ap (λ (z : View). z.consumer) is ∙ same)
+
+-- a header h that is to be stored at q, with this mark: no read has passed it, and no record is committed there
+pub record LiesAhead (C : ℕ) (headers : List ℕ) (c : ConsumerView) (q h mark : ℕ) : Type 0 where
+  pub whole : q % 8 ≡ 0
+  pub from : c.scan ≤ q
+  pub below : q < c.head + C
+  pub mark_is : mark ≡ mark_of q h
+  pub near : q + bytes_of h ≤ c.head + C
+  pub none : IsCommitted (at_position C headers q) → ⊥
 
 module _ (C start : ℕ) where
   abbrev pub Marked : State ℕ View → Type 0
@@ -121,7 +140,7 @@ module _ (C start : ℕ) where
   pub rests_after : (headers headers' : List ℕ) (homes : List (Option ℕ)) (views : List View)
       (r : Kept elsewhere C start headers views) → IsShelf C homes views → (id : ℕ) (v w : View)
       → get_elem? views id ≡ some v → Rests v w → (r' : Kept elsewhere C start headers' (set views id w))
-      → (r'.consumer.cleared ≡ r.consumer.cleared) × (r'.consumer.head ≡ r.consumer.head)
+      → SameReader r.consumer r'.consumer
   rests_after headers headers' homes views r s id v w at rests r' =
       let d = s.reader in
       let was : d.view.consumer ≡ r.consumer = ((r.seated.each d.seat d.view d.there).consumes d.consumes).1 in
@@ -131,15 +150,43 @@ module _ (C start : ℕ) where
       let old : v.consumer ≡ r.consumer = ap (λ (z : View). z.consumer) (sym one) ∙ was in
       let consumes : v.consumes ≡ true = ap (λ (z : View). z.consumes) (sym one) ∙ d.consumes in
       let new : w.consumer ≡ r'.consumer =
-      ((r'.seated.each id w (set_here views id w (at_below views id v at))).consumes (rests.stays consumes)).1 in (
-        ap (λ (z : ConsumerView). z.cleared) (sym new) ∙ rests.cleared consumes ∙ ap (λ (z : ConsumerView). z.cleared) old,
-        ap (λ (z : ConsumerView). z.head) (sym new) ∙ rests.head consumes ∙ ap (λ (z : ConsumerView). z.head) old,
-      ))
+      ((r'.seated.each id w (set_here views id w (at_below views id v at))).consumes (rests.stays consumes)).1 in
+      subst (λ (z : ConsumerView × ConsumerView). SameReader z.0 z.1) (λ k. (old k, new k)) (rests.same consumes))
       (λ other.
       let new : d.view.consumer ≡ r'.consumer = ((r'.seated.each d.seat d.view
       (set_else views id d.seat w other ∙ d.there)).consumes d.consumes).1 in
-      let one : r'.consumer ≡ r.consumer = sym new ∙ was in
-      (ap (λ (z : ConsumerView). z.cleared) one, ap (λ (z : ConsumerView). z.head) one))
+      same_reader (sym new ∙ was))
+
+  -- the rule, if the reader's part is as this one
+  pub remarked : (words headers : List ℕ) (ends : ℕ → ℕ) (homes : List (Option ℕ)) (views : List View) (c : ConsumerView)
+      (r : Kept elsewhere C start headers views) → IsShelf C homes views → c.cleared ≡ c.head → SameReader c r.consumer
+      → Encodes C c.head headers ends words
+      → ReadsRun C c.head c.scan c.run (at_position C headers) ends (at_position C words)
+      → KeepsMarks C start words homes views
+  remarked words headers ends homes views c r shelf none same encodes reads = record {
+    headers = headers;
+    ends = ends;
+    kept = r;
+    shelf = shelf;
+    none_cleared = same.cleared ∙ none ∙ sym same.head;
+    encodes = subst (λ z. Encodes C z headers ends words) (sym same.head) encodes;
+    reads = subst (λ (z : ℕ × ℕ × Run). ReadsRun C z.0 z.1 z.2 (at_position C headers) ends (at_position C words))
+        (λ k. (sym same.head k, sym same.scan k, sym same.run k)) reads;
+  }
+
+  -- the same after a step of the consumer, whose view is w
+  pub remarked_by : (words headers : List ℕ) (ends : ℕ → ℕ) (homes : List (Option ℕ)) (views : List View) (id : ℕ)
+      (w : View) (head : ℕ) (r : Kept elsewhere C start headers views) → IsShelf C homes views
+      → get_elem? views id ≡ some w → w.consumes ≡ true → (w.consumer.head ≡ head) × (w.consumer.cleared ≡ head)
+      → Encodes C head headers ends words
+      → ReadsRun C head w.consumer.scan w.consumer.run (at_position C headers) ends (at_position C words)
+      → KeepsMarks C start words homes views
+  remarked_by words headers ends homes views id w head r shelf there consumes at encodes reads =
+      remarked words headers ends homes views w.consumer r shelf (at.1 ∙ sym at.0)
+      (same_reader (sym ((r.seated.each id w there).consumes consumes).1))
+      (subst (λ z. Encodes C z headers ends words) (sym at.0) encodes)
+      (subst (λ z. ReadsRun C z w.consumer.scan w.consumer.run (at_position C headers) ends (at_position C words))
+      (sym at.0) reads)
 
   -- ---- steps
 
@@ -155,21 +202,19 @@ module _ (C start : ℕ) where
       let same : slice_index s.words i ≡ n = m.encodes.trailer i far in
       let t = allows (with_headers s m.headers) (r, m.shelf) wide at (subst (λ z. z < 18446744073709551616) same small) in
       let long = r.memory.wide in
-      let r' = t.3.0 in
-      let after = rests_after m.headers (set m.headers i (f n)) s.homes s.views r m.shelf id me.0 t.0 at
-      (rests n (t.0, carried_after me.1 t.1) t.4 (with_headers s m.headers) r at) r' in (
+      let headers' : List ℕ = set m.headers i (f n) in
+      let homes' : List (Option ℕ) = homes_after s.homes me.1 t.1 in
+      let views' : List View = set s.views id t.0 in
+      let after = rests_after m.headers headers' s.homes s.views r m.shelf id me.0 t.0 at
+      (rests n (t.0, carried_after me.1 t.1) t.4 (with_headers s m.headers) r at) t.3.0 in (
         t.0,
         t.1,
         t.2,
-        record {
-          headers = set m.headers i (f n);
-          kept = r';
-          shelf = t.3.1;
-          none_cleared = after.0 ∙ m.none_cleared ∙ sym after.1;
-          encodes = subst (λ (z : ℕ × ℕ). Encodes C z.0 (set m.headers i (f n)) (set s.words i (f z.1)))
-              (λ k. (sym after.1 k, sym same k))
-              (encodes_trailer C start r.lawful r.consumer.head m.headers s.words m.encodes i (f n) far (omega arith));
-        },
+        subst (λ z. KeepsMarks C start (set s.words i (f z)) homes' views') (sym same)
+            (remarked (set s.words i (f n)) headers' m.ends homes' views' r.consumer t.3.0 t.3.1 m.none_cleared after
+            (encodes_trailer C start r.lawful r.consumer.head m.headers m.ends s.words m.encodes i (f n) far (omega arith))
+            (reads_trailer C start r.lawful r.consumer.head m.headers m.ends s.words m.encodes i (f n) (f n) far
+            r.consumer.scan r.consumer.run m.reads)),
         subst (λ z. told z (t.0, carried_after me.1 t.1)) (sym same) t.4,
       )
 
@@ -183,6 +228,7 @@ module _ (C start : ℕ) where
       let t = allows (with_headers s m.headers) (r, m.shelf) wide at (header_small m.headers s.views r i inside) in
       let headers_are : set m.headers i (slice_index m.headers i) ≡ m.headers = set-get_or m.headers i 0 in
       let words_are : set s.words j (slice_index s.words j) ≡ s.words = set-get_or s.words j 0 in
+      let homes' : List (Option ℕ) = homes_after s.homes me.1 t.1 in
       let views' : List View = set s.views id t.0 in
       let r' : Kept elsewhere C start m.headers views' = subst (λ l. Kept elsewhere C start l views') headers_are t.3.0 in
       let after = rests_after m.headers m.headers s.homes s.views r m.shelf id me.0 t.0 at
@@ -190,21 +236,15 @@ module _ (C start : ℕ) where
         t.0,
         t.1,
         t.2,
-        record {
-          headers = m.headers;
-          kept = r';
-          shelf = t.3.1;
-          none_cleared = after.0 ∙ m.none_cleared ∙ sym after.1;
-          encodes = subst (λ (z : ℕ × List ℕ). Encodes C z.0 m.headers z.1)
-              (λ k. (sym after.1 k, sym words_are k)) m.encodes;
-        },
+        subst (λ z. KeepsMarks C start z homes' views') (sym words_are)
+            (remarked s.words m.headers m.ends homes' views' r.consumer r' t.3.1 m.none_cleared after m.encodes m.reads),
         t.4,
       )
 
   -- a header of a record in the lap, which is not cleared, is stored, and its mark in the words
   pub lift_mark : (slots id : ℕ) (me : Mine) (q h mark : ℕ) (told : Mine → Type 0)
       → ((s : State ℕ View) (r : Kept elsewhere C start s.words s.views) → get_elem? s.views id ≡ some me.0
-      → (q % 8 ≡ 0) × (r.consumer.cleared ≤ q) × (q < r.consumer.head + C) × (mark ≡ mark_of q h))
+      → LiesAhead C s.words r.consumer q h mark)
       → h ≢ 0
       → ((me' : Mine) → told me' → Rests me.0 me'.0)
       → Allows (Holds elsewhere C start) slots id me (index C q) (λ _. h) (λ _. told)
@@ -214,26 +254,29 @@ module _ (C start : ℕ) where
       let i : ℕ = index C q in
       let inside = index_inside elsewhere C start r.lawful q in
       let there = lies (with_headers s m.headers) r at in
-      let low = there.1 in
-      let near = there.2 in
+      let scan = there.from in
+      let low = r.memory.clears_to in
+      let lower = r.memory.clears_from in
       let t = allows (with_headers s m.headers) (r, m.shelf) wide at (header_small m.headers s.views r i inside) in
       let long = r.memory.wide in
-      let r' = t.3.0 in
-      let none = m.none_cleared in
+      let from : r.consumer.head ≤ q = omega arith in
+      let homes' : List (Option ℕ) = homes_after s.homes me.1 t.1 in
+      let views' : List View = set s.views id t.0 in
       let after = rests_after m.headers (set m.headers i h) s.homes s.views r m.shelf id me.0 t.0 at
-      (rests (t.0, carried_after me.1 t.1) t.4) r' in (
+      (rests (t.0, carried_after me.1 t.1) t.4) t.3.0 in (
         t.0,
         t.1,
         t.2,
-        record {
-          headers = set m.headers i h;
-          kept = r';
-          shelf = t.3.1;
-          none_cleared = after.0 ∙ m.none_cleared ∙ sym after.1;
-          encodes = subst (λ z. Encodes C z (set m.headers i h) (set s.words i mark)) (sym after.1)
-              (encodes_mark C start r.lawful r.consumer.head m.headers s.words m.encodes q h mark there.0 (omega arith)
-              near (omega arith) full there.3);
-        },
+        remarked (set s.words i mark) (set m.headers i h)
+            (mark_end C start r.lawful r.consumer.head m.headers m.ends s.words m.encodes q h mark there.whole from
+            there.below (omega arith) full there.mark_is there.near there.none)
+            homes' views' r.consumer t.3.0 t.3.1 m.none_cleared after
+            (encodes_mark C start r.lawful r.consumer.head m.headers m.ends s.words m.encodes q h mark there.whole from
+            there.below (omega arith) full there.mark_is there.near there.none)
+            (reads_beside C r.consumer.head (at_position C m.headers) m.ends (at_position C s.words) _ _ _ q (q + 8)
+            (rewrites_mark C start r.lawful r.consumer.head m.headers m.ends s.words m.encodes q h mark there.whole from
+            there.below (omega arith) full there.mark_is there.near there.none) r.consumer.scan r.consumer.run there.from
+            there.whole m.reads),
         t.4,
       )
 

@@ -5,7 +5,6 @@ use mathlib.Core.Option.{some}
 use mathlib.Core.Logic.{dite}
 use native.Mathlib.Decide.{ℕ_discrete}
 use lib.ListN.{get_elem?}
-use Rattle.std.proofs.lemmas.Nat.{mod_below}
 use Rattle.ring_layout.specs.Places.{index, max_position}
 use Rattle.ring_layout.specs.Layout.{tail_index, head_cache_index, head_index, correlation_index, heartbeat_index, IsUnnamed}
 use Rattle.ring_layout.proofs.Laps.{IsInLap, apart}
@@ -13,7 +12,7 @@ use Rattle.ring_table.specs.Staged.{StagedClaim, claim_end, staged_word, staged_
 use Rattle.ring_table.specs.Owners.{OwnedHistory, all_of, edited}
 use Rattle.ring_table.specs.Views.{ConsumerView}
 use Rattle.ring_table.specs.Rule.{IsLawful, IsMemory, IsService}
-use Rattle.ring_table.proofs.StagedPlaces.{capacity_aligned, start_aligned}
+use Rattle.ring_table.proofs.StagedPlaces.{capacity_aligned, inside_buffer, start_aligned}
 use Rattle.ring_table.proofs.HistoryLemmas.{staged_end-append, placed_append, staged_word_at-append, MayReplaceAt, staged_end-edited, placed_edited, staged_word_at-edited}
 use Rattle.ring_table.proofs.ReachLemmas.{reach_bounds, reach_aligned, reach_append, Unsettled, reach_edited}
 
@@ -46,11 +45,7 @@ pub record JoinsSilent (B : Bodies) (C start : ℕ) (h : OwnedHistory) (x : ℕ 
 
 module _ (B : Bodies) (C start : ℕ) (law : IsLawful C start) where
   pub index_inside : (p : ℕ) → index C p < C / 8
-  index_inside p =
-      let least = law.capacity.least in
-      let c8 = capacity_aligned C law.capacity in
-      let low = mod_below p C (omega arith) in
-      omega arith
+  index_inside p = inside_buffer C p law.capacity
 
   -- an index of the trailer is no position's
   pub not_inside : (p i : ℕ) → C / 8 ≤ i → i ≢ index C p

@@ -1,5 +1,6 @@
 -- Words that are copied.
-use Rattle.std.proofs.Common.{◌≡◌, ℕ, zero, suc, List, [], ◌∷◌, get_or, sym}
+use Rattle.std.proofs.Common.{◌≡◌, ℕ, zero, suc, ◌<◌, List, [], ◌∷◌, length, slice_index, get_or, sym}
+use Rattle.atomic_table.proofs.Lists.{at_index}
 use mathlib.Core.Option.{some, some-injective, some-ne-none}
 use lib.ListN.{get_elem?}
 
@@ -7,3 +8,7 @@ pub read_at : (l : List ℕ) (i a : ℕ) → get_elem? l i ≡ some a → get_or
 read_at [] i a e = absurd (some-ne-none a (sym e))
 read_at (x ∷ xs) zero a e = some-injective x a e
 read_at (x ∷ xs) (suc i) a e = read_at xs i a e
+
+-- what is read at an index is there
+pub value_at : (l : List ℕ) (i n : ℕ) → i < length l → n ≡ get_or l i n → slice_index l i ≡ n
+value_at l i n lt is = read_at l i n (at_index l i n lt is)

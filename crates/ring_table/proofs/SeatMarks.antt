@@ -1,5 +1,5 @@
 -- Seats that are cut in two or put together leave the marks, and a fresh ring has none.
-use Rattle.std.proofs.Common.{◌≡◌, ◌≢◌, ℕ, ◌≤◌, List, [], ◌∷◌, ◌++◌, true, false, ◌⊎◌, set, sym, refl, ap, ◌∙◌, subst, inl, inr, ⊎_elim, length, arith}
+use Rattle.std.proofs.Common.{◌≡◌, ◌≢◌, ℕ, ◌≤◌, List, [], ◌∷◌, ◌++◌, true, false, ◌⊎◌, set, sym, refl, ap, ◌∙◌, inl, inr, ⊎_elim, length, arith}
 use mathlib.Core.Option.{Option, some}
 use lib.ListN.{get_elem?}
 use Rattle.std.proofs.lemmas.Bool.{false≢true}
@@ -7,16 +7,17 @@ use Rattle.atomic_table.specs.Table.{State, Splits, Joins}
 use Rattle.atomic_table.proofs.Lists.{at_set}
 use Rattle.ring_layout.specs.Places.{index, max_position}
 use Rattle.ring_table.specs.Staged.{Bodies, in_words, elsewhere}
-use Rattle.ring_table.specs.Views.{ConsumerView, View, first_view, spent, without_consumer, consumer_alone, with_consumer_of, without_share, producer_alone, with_producer_of}
+use Rattle.ring_table.specs.Views.{View, first_view, no_run, spent, without_consumer, consumer_alone, with_consumer_of, without_share, producer_alone, with_producer_of}
 use Rattle.ring_table.specs.Rule.{IsLawful, Kept}
 use Rattle.ring_table.specs.Shelf.{IsShelf}
 use Rattle.ring_table.specs.Closed.{IsFresh}
-use Rattle.ring_table.specs.Marks.{Encodes, KeepsMarks}
+use Rattle.ring_table.specs.Marks.{at_position, Encodes, KeepsMarks, ReadsRun}
+use Rattle.ring_table.proofs.StagedPlaces.{start_aligned}
 use Rattle.ring_table.proofs.ListLemmas.{at_more}
 use Rattle.ring_table.proofs.MemoryLemmas.{index_inside}
 use Rattle.ring_table.proofs.OpenLemmas.{fresh_keeps}
 use Rattle.ring_table.proofs.CarryLemmas.{Holds, lift_consumer_split, lift_producer_split, lift_consumer_join, lift_producer_join}
-use Rattle.ring_table.proofs.MarkSteps.{Marked, Obeys, with_headers}
+use Rattle.ring_table.proofs.MarkSteps.{Marked, Obeys, remarked, same_reader, with_headers}
 
 -- what u has of the consumer's part is what v has
 abbrev pub IsReaderOf : View → View → Type 0
@@ -34,13 +35,8 @@ module _ (C start : ℕ) where
       let was = reads d.seat d.view d.there d.consumes in
       let one : m.kept.consumer ≡ kept.consumer = sym ((m.kept.seated.each was.0 was.1 was.2).consumes was.3).1
       ∙ sym was.4 ∙ ((kept.seated.each d.seat d.view d.there).consumes d.consumes).1 in
-      record {
-        headers = m.headers;
-        kept = kept;
-        shelf = shelf;
-        none_cleared = subst (λ (z : ConsumerView). z.cleared ≡ z.head) one m.none_cleared;
-        encodes = subst (λ (z : ConsumerView). Encodes C z.head m.headers s.words) one m.encodes;
-      }
+      remarked C start s.words m.headers m.ends homes views m.kept.consumer kept shelf m.none_cleared (same_reader (sym one))
+      m.encodes m.reads
 
   pub split_marks : (id : ℕ) (v left right : View) → IsReaderOf v left → IsReaderOf v right
       → Splits (Holds elsewhere C start) id v left right → Splits (Marked C start) id v left right
@@ -87,21 +83,35 @@ module _ (C start : ℕ) where
       let v : View = first_view (record { capacity = C; start = start }) in
       let kept = fresh_keeps elsewhere C start words law limit is in
       let mine = ((kept.seated.each 0 v refl).consumes refl).1 in
-      record {
-        headers = words;
-        kept = kept;
-        shelf = shelf;
-        none_cleared = subst (λ (z : ConsumerView). z.cleared ≡ z.head) mine refl;
-        encodes = subst (λ (z : ConsumerView). Encodes C z.head words words) mine no_marks;
-      }
+      remarked C start words words (λ p. p) homes (v ∷ []) v.consumer kept shelf refl (same_reader (sym mine)) no_marks
+      no_reads
     where
-      no_marks : Encodes C start words words
+      nothing : (p : ℕ) → at_position C words p ≡ 0
+      nothing p = is.records (index C p) (index_inside elsewhere C start law p)
+
+      no_marks : Encodes C start words (λ p. p) words
       no_marks = record {
         wide = refl;
         trailer = λ i far. refl;
-        marks = λ p p8 p0 p1 some. absurd (some (is.records (index C p) (index_inside elsewhere C start law p)));
+        marks = λ p p8 p0 p1 full. absurd (full (nothing p));
+        runs = λ p p8 p0 p1 committed. absurd (committed.0 (nothing p));
         none = λ p p8 p0 p1 zero. omega arith;
       }
+
+      no_reads : ReadsRun C start start (no_run start) (at_position C words) (λ p. p) (at_position C words)
+      no_reads =
+          let start8 = start_aligned C start law in
+          record {
+            from = omega arith;
+            passed = omega arith;
+            to = omega arith;
+            near = omega arith;
+            whole = (start8, start8);
+            one = λ p p8 p0 p1 committed. absurd (committed.0 (nothing p));
+            ahead = λ more. absurd (omega arith);
+            begins = λ below committed. absurd (committed.0 (nothing start));
+            stops = λ _ below committed. absurd (committed.0 (nothing start));
+          }
 
 -- ---- both rules
 

@@ -1,5 +1,5 @@
 -- The steps on slots as the functions call them.
-use Rattle.std.proofs.Common.{◌≡◌, ℕ, ◌+◌, ◌-◌, ◌/◌, ◌%◌, ◌^◌, ◌≤◌, ◌<◌, sym, ap, ◌∙◌, subst, ⊎_elim, arith}
+use Rattle.std.proofs.Common.{◌≡◌, ℕ, ◌+◌, ◌-◌, ◌/◌, ◌%◌, ◌^◌, ◌≤◌, ◌<◌, cond, refl, sym, ap, ◌∙◌, subst, ⊎_elim, le-ltb, arith}
 use mathlib.Core.Option.{some}
 use lib.ListN.{get_elem?}
 use Rattle.atomic_table.specs.Seated.{TableId}
@@ -9,18 +9,24 @@ use Rattle.ring_layout.specs.Marks.{padding_kind}
 use Rattle.ring_layout.specs.Places.{IsCapacity, index}
 use Rattle.ring_layout.specs.Layout.{head_index, ring_words}
 use Rattle.ring_layout.proofs.PlaceLemmas.{next_cases}
-use Rattle.ring_table.specs.Staged.{elsewhere, padding_word, StagedClaim, Moved, claim_end, staged_span}
+use Rattle.ring_layout.specs.declared.message.ClaimState.TheVariants.{Open, Committed, Aborted}
+use Rattle.ring_layout.specs.declared.message.Message.{Message}
+use Rattle.ring_layout.specs.History.{IsMessage}
+use Rattle.ring_layout.specs.Headers.{header_of}
+use Rattle.ring_table.specs.Staged.{elsewhere, padding_word, StagedClaim, Stage, Moved, Padded, Stored, claim_end, stage_state, staged_span, masked_padding, masked_record, staged_word, staged_word_at}
+use Rattle.ring_table.specs.Owners.{all_of}
 use Rattle.ring_table.specs.Passing.{IsSettled}
 use Rattle.ring_table.specs.Rule.{Kept}
-use Rattle.ring_table.specs.Marks.{mark_of}
+use Rattle.ring_table.specs.Marks.{at_position, IsCommitted}
 use Rattle.ring_table.specs.Views.{Key, View}
 use Rattle.ring_table.specs.ProducerSteps.{Mine, HasClaim}
 use Rattle.ring_table.specs.SlotSteps.{IsSameHolder}
-use Rattle.ring_table.proofs.StagedPlaces.{capacity_aligned}
-use Rattle.ring_table.proofs.LoadLemmas.{stands}
+use Rattle.ring_table.proofs.StagedPlaces.{capacity_aligned, word_of_claim}
+use Rattle.ring_table.proofs.StagedWords.{staged_word-header, staged_word-padding}
+use Rattle.ring_table.proofs.LoadLemmas.{HasUnsettled, stands}
 use Rattle.ring_table.proofs.CarryLemmas.{Holds}
-use Rattle.ring_table.proofs.MarkWords.{Shows, shows_mark, shows_padding}
-use Rattle.ring_table.proofs.MarkSteps.{Marked, Rests, lift_load}
+use Rattle.ring_table.proofs.MarkWords.{Shows, shows_claim, shows_mark, shows_padding}
+use Rattle.ring_table.proofs.MarkSteps.{LiesAhead, Marked, Rests, lift_load}
 use Rattle.std.proofs.lemmas.Nat.{mod_below}
 
 pub holder : {old new : Seat ℕ View} → new.table_id ≡ old.table_id → new.id ≡ old.id
@@ -93,34 +99,72 @@ module _ {id : TableId} {key : Key} {capacity : ℕ} {seat : Seat ℕ View} (tab
             (λ k. (sym key_is k, sym there k)) allows,
       )
 
+-- a header of an own claim, from where the read has come to on, is the claim's
+pub header_of_claim : (C start : ℕ) (s : State ℕ View) (r : Kept elsewhere C start s.words s.views) (id : ℕ) (v : View) (k : ℕ)
+    (c : StagedClaim) (has : HasUnsettled elsewhere C start s.views id v k c) (q : ℕ) → q % 8 ≡ 0 → r.consumer.scan ≤ q
+    → c.from ≤ q → q < claim_end c → at_position C s.words q ≡ staged_word elsewhere c q
+header_of_claim C start s r id v k c has q q8 scan from below =
+    let st = stands elsewhere C start s.words s.views r id v k c has in
+    let m = r.memory in
+    let low = m.clears_from in
+    let to = m.clears_to in
+    let room = m.room in
+    let top = st.lies.below in
+    m.shows q q8 (omega arith) (omega arith)
+    ∙ ap (λ b. cond b 0 (staged_word_at elsewhere (all_of r.hist) q)) (le-ltb q r.consumer.cleared (omega arith))
+    ∙ word_of_claim elsewhere C start r.hist st.nth (id, c) q m.placed st.there from below
+
+-- the header of a claim that is not settled is not that of a committed record
+unsettled_none : (t : Stage) (C : ℕ) (m : Message) → (IsSettled t → ⊥) → C ≤ 2 ^ 24 → IsMessage C m
+    → IsCommitted (masked_record t (header_of (record { message = m; state = stage_state t }))) → ⊥
+unsettled_none Moved C m un most is committed = committed.0 refl
+unsettled_none Padded C m un most is committed = committed.0 refl
+unsettled_none (Stored Open) C m un most is committed =
+    let kind = (shows_claim C m Open most is).kind_is in
+    let other = committed.1 in omega arith
+unsettled_none (Stored Committed) C m un most is committed = un tt
+unsettled_none (Stored Aborted) C m un most is committed = un tt
+
 -- where the mark of an own claim that is not settled lies, and which it is: the code wraps, though no position is so far
 pub lies_ahead : (C start id : ℕ) (v : View) (k : ℕ) (c : StagedClaim) → HasClaim v k c → (IsSettled c.stage → ⊥)
     → (bytes kind mark h : ℕ) → Shows h bytes kind → kind < 8 → bytes ≡ staged_span c
     → mark ≡ (c.place + (bytes + kind)) % 2 ^ 64
     → (s : State ℕ View) (r : Kept elsewhere C start s.words s.views) → get_elem? s.views id ≡ some v
-    → (c.place % 8 ≡ 0) × (r.consumer.cleared ≤ c.place) × (c.place < r.consumer.head + C) × (mark ≡ mark_of c.place h)
+    → LiesAhead C s.words r.consumer c.place h mark
 lies_ahead C start id v k c has un bytes kind mark h shows few span_is is s r at =
-    let st = stands elsewhere C start s.words s.views r id v k c
-    (record { seat = at; claim = has; unsettled = un }) in
+    let mine : HasUnsettled elsewhere C start s.views id v k c =
+    record { seat = at; claim = has; unsettled = un } in
+    let st = stands elsewhere C start s.words s.views r id v k c mine in
     let scan = st.behind_scan in
     let m = r.memory in
     let to = m.clears_to in
     let room = m.room in
     let limit = m.limit in
     let below = st.lies.below in
+    let padded = st.lies.padded in
     let mark_is = shows_mark c.place h bytes kind shows in
+    let bytes_are = shows.bytes_is in
     let end : claim_end c ≡ c.place + bytes = omega arith in
-    (st.place_aligned, omega arith, omega arith, omega arith)
+    record {
+      whole = st.place_aligned;
+      from = scan;
+      below = omega arith;
+      mark_is = omega arith;
+      near = omega arith;
+      none = λ committed. unsettled_none c.stage C c.message un r.lawful.capacity.most st.lies.message
+          (subst IsCommitted (header_of_claim C start s r id v k c mine c.place st.place_aligned scan padded (omega arith)
+          ∙ staged_word-header elsewhere c c.place refl) committed);
+    }
 
 -- the same of the padding before an own claim
 pub padding_ahead : (C start id : ℕ) (v : View) (k : ℕ) (c : StagedClaim) → HasClaim v k c → c.stage ≡ Moved
     → c.from < c.place → (mark : ℕ) → mark ≡ (c.place + 1) % 2 ^ 64
     → (s : State ℕ View) (r : Kept elsewhere C start s.words s.views) → get_elem? s.views id ≡ some v
-    → (c.from % 8 ≡ 0) × (r.consumer.cleared ≤ c.from) × (c.from < r.consumer.head + C)
-    × (mark ≡ mark_of c.from (padding_word elsewhere (c.place - c.from)))
+    → LiesAhead C s.words r.consumer c.from (padding_word elsewhere (c.place - c.from)) mark
 padding_ahead C start id v k c has moved some_way mark is s r at =
-    let st = stands elsewhere C start s.words s.views r id v k c
-    (record { seat = at; claim = has; unsettled = λ z. subst IsSettled moved z }) in
+    let mine : HasUnsettled elsewhere C start s.views id v k c =
+    record { seat = at; claim = has; unsettled = λ z. subst IsSettled moved z } in
+    let st = stands elsewhere C start s.words s.views r id v k c mine in
     let m = r.memory in
     let to = m.clears_to in
     let room = m.room in
@@ -136,5 +180,15 @@ padding_ahead C start id v k c has moved some_way mark is s r at =
     let short = st.lies.message.short in
     let small : n < 2 ^ 31 = ⊎_elim (λ z. let here = z.0 in omega arith) (λ z. let far = z.0 in omega arith) near in
     let shows = shows_padding n (omega arith) small (omega arith) in
+    let bytes_are = shows.bytes_is in
     let mark_is = shows_mark c.from (padding_word elsewhere n) n padding_kind shows in
-    (from8, omega arith, omega arith, omega arith)
+    record {
+      whole = from8;
+      from = behind;
+      below = omega arith;
+      mark_is = omega arith;
+      near = omega arith;
+      none = λ committed. committed.0 (header_of_claim C start s r id v k c mine c.from from8 behind (omega arith) (omega arith)
+          ∙ staged_word-padding elsewhere c c.from refl some_way
+          ∙ ap (λ t. masked_padding t (padding_word elsewhere n)) moved);
+    }

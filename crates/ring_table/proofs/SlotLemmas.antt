@@ -55,7 +55,7 @@ module _ (C start : ℕ) (words : List ℕ) (homes : List (Option ℕ)) (views :
     (r : Kept elsewhere C start words views) (s : IsShelf C homes views) where
   module _ (id : ℕ) (v w : View) (at : get_elem? views id ≡ some v)
       (consumes : w.consumes ≡ v.consumes) (consumer : w.consumer ≡ v.consumer) where
-    reads_before : (p : ℕ) → ReadsFrom (set views id w) p → ReadsFrom views p
+    pub reads_before : (p : ℕ) → ReadsFrom (set views id w) p → ReadsFrom views p
     reads_before p d = ⊎_elim
         (λ (t : (d.seat ≡ id) × (w ≡ d.view)).
         let heads : v.consumer.head ≡ d.view.consumer.head =
@@ -72,7 +72,7 @@ module _ (C start : ℕ) (words : List ℕ) (homes : List (Option ℕ)) (views :
         record { seat = d.seat; view = d.view; there = t.1; consumes = d.consumes; head = d.head })
         (at_set views id d.seat w d.view d.there)
 
-    reader_now : HasReader (set views id w)
+    pub reader_now : HasReader (set views id w)
     reader_now =
         let d = s.reader in
         dite (ℕ_discrete d.seat id)

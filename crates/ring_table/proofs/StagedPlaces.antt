@@ -1,10 +1,11 @@
 -- The places of claims.
 use Rattle.ring_table.specs.Staged.{Bodies}
-use Rattle.std.proofs.Common.{◌≡◌, ℕ, zero, suc, ◌%◌, ◌≤◌, ◌<◌, List, [], ◌∷◌, cond, sym, refl, ap, ◌∙◌, subst, arith, lt-ltb, le-ltb}
+use Rattle.std.proofs.Common.{◌≡◌, ℕ, zero, suc, ◌/◌, ◌%◌, ◌≤◌, ◌<◌, List, [], ◌∷◌, cond, sym, refl, ap, ◌∙◌, subst, arith, lt-ltb, le-ltb}
 use mathlib.Core.Option.{some, some-injective, some-ne-none}
 use lib.ListN.{get_elem?}
 use Rattle.ring_layout.specs.History.{IsMessage}
-use Rattle.ring_layout.specs.Places.{IsCapacity, next_place}
+use Rattle.ring_layout.specs.Places.{IsCapacity, index, next_place}
+use Rattle.std.proofs.lemmas.Nat.{mod_below}
 use Rattle.ring_layout.proofs.PlaceLemmas.{next_le, next_aligned}
 use Rattle.ring_layout.proofs.CapacityLemmas.{capacity_blocks}
 use Rattle.ring_table.specs.Staged.{StagedClaim, staged_span, claim_end, staged_word, staged_word_at, ArePlaced, staged_end}
@@ -15,6 +16,14 @@ use Rattle.std.proofs.lemmas.Nat.Gcd.{dvd_of_mod-eq-zero}
 
 pub capacity_aligned : (C : ℕ) → IsCapacity C → C % 8 ≡ 0
 capacity_aligned C cap = let b = capacity_blocks C cap in omega arith
+
+-- a position has an index of the buffer
+pub inside_buffer : (C p : ℕ) → IsCapacity C → index C p < C / 8
+inside_buffer C p cap =
+    let least = cap.least in
+    let c8 = capacity_aligned C cap in
+    let low = mod_below p C (omega arith) in
+    omega arith
 
 pub start_aligned : (C start : ℕ) → IsLawful C start → start % 8 ≡ 0
 start_aligned C start law =

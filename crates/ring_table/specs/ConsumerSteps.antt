@@ -1,5 +1,5 @@
 -- What the consumer learns by its steps: v is its view before, w after, n the number found.
-use Rattle.std.specs.Prelude.{◌≡◌, ◌≢◌, ℕ, ◌+◌, ◌*◌, ◌/◌, ◌%◌, ◌^◌, ◌≤◌, ◌<◌, ℤ, pos, ◌≤ℤ◌, FitsSigned, List, [], ◌∷◌, ◌++◌, length}
+use Rattle.std.specs.Prelude.{◌≡◌, ◌≢◌, ℕ, ◌+◌, ◌%◌, ◌^◌, ◌≤◌, ◌<◌, ℤ, pos, ◌≤ℤ◌, FitsSigned, List, [], ◌∷◌, ◌++◌, length}
 use Rattle.std.specs.Int.{w32}
 use mathlib.Core.Option.{some}
 use lib.ListN.{get_elem?}
@@ -33,12 +33,13 @@ pub record FindsMessage (C scan : ℕ) (got : List PlacedMessage) (v : View) (n 
       (got ++ (record { place = scan; message = record { type_id = type_id; body = body } }) ∷ []) v
   pub inside : IsInside C scan (rounded len)
 
--- the producer's part of the view is as it was, and the head
+-- the producer's part of the view is as it was, and the head and the run
 pub record StaysAt (v w : View) : Type 0 where
   pub producer : w.producer ≡ v.producer
   pub out : w.out ≡ v.out
   pub consumes : w.consumes ≡ v.consumes
   pub head : w.consumer.head ≡ v.consumer.head
+  pub run : w.consumer.run ≡ v.consumer.run
 
 -- what a header at the position `scan` shows a read that has come there and got these messages
 pub record LoadsHeader (C scan : ℕ) (got : List PlacedMessage) (v : View) (n : ℕ) (w : View) : Type 0 where

@@ -20,3 +20,5 @@ pub mod Rescued
 pub mod Settling
 pub mod Refilling
 pub mod Marks
+pub mod RunBodies
+pub mod Runs

@@ -7,15 +7,28 @@ pub use Rattle.ring_table.specs.declared.view.Key.{Key}
 pub use Rattle.ring_table.specs.declared.view.Wanted.{Wanted}
 pub use Rattle.ring_table.specs.declared.view.Service.{Service}
 pub use Rattle.ring_table.specs.declared.view.ProducerView.{ProducerView}
+pub use Rattle.ring_table.specs.declared.view.Run.{Run}
 pub use Rattle.ring_table.specs.declared.view.ConsumerView.{ConsumerView}
 pub use Rattle.ring_table.specs.declared.view.View.{View}
 
 abbrev pub no_service : Service
 no_service = record { draws = []; heartbeats = [] }
 
+-- no record of a run is ahead
+abbrev pub no_run : ℕ → Run
+no_run p = record { from = p; to = p }
+
 abbrev pub consumer_from : ℕ → ConsumerView
-consumer_from start =
-    record { head = start; cleared = start; scan = start; taken = []; got = []; heads = []; heartbeats = [] }
+consumer_from start = record {
+  head = start;
+  cleared = start;
+  scan = start;
+  run = no_run start;
+  taken = [];
+  got = [];
+  heads = [];
+  heartbeats = [];
+}
 
 abbrev pub new_producer : ℕ → ℕ → ℕ → ProducerView
 new_producer shares seen_tail seen_head =
@@ -76,13 +89,25 @@ with_claim c tail v = with_producer (record v.producer { claims = v.producer.cla
 abbrev pub scanned : ℕ → List PlacedMessage → ConsumerView → ConsumerView
 scanned scan got c = record c { scan = scan; got = got }
 
+-- the read has reached this run
+abbrev pub with_run : Run → View → View
+with_run run v = with_consumer (record v.consumer { run = run }) v
+
 abbrev pub cleared_to : ℕ → ConsumerView → ConsumerView
 cleared_to to c = record c { cleared = to }
 
 -- the head was stored here: nothing is cleared and nothing is got beyond it
 abbrev pub stands_at : ℕ → List PlacedMessage → ConsumerView → ConsumerView
-stands_at head got c =
-    record c { head = head; cleared = head; scan = head; taken = got; got = got; heads = c.heads ++ head ∷ [] }
+stands_at head got c = record c {
+  head = head;
+  cleared = head;
+  scan = head;
+  run = no_run head;
+  taken = got;
+  got = got;
+  heads =
+      c.heads ++ head ∷ [];
+}
 
 -- ---- service
 

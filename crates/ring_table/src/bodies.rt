@@ -19,7 +19,7 @@ use ring_layout::{committed_header, first_word, put_word, word_index};
 
 /// Puts a word into the slot taken last, which goes after the others.
 #[inline(always)]
-fn put_slot(
+pub(crate) fn put_slot(
     ring: &SharedRing<InSlots>,
     seat: &mut RingSeat,
     first: usize,

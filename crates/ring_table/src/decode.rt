@@ -1,14 +1,15 @@
 //! The headers of a table that was closed, from its marks and its slots.
-ghost use Rattle.std.specs.Prelude.{◌≡◌, ℕ, ◌+◌, ◌/◌, ◌%◌, ◌≤◌, ◌<◌, slice_index, vec_len};
+ghost use Rattle.std.specs.Prelude.{◌≡◌, ◌≢◌, ◌⊎◌, ℕ, ◌+◌, ◌/◌, ◌%◌, ◌^◌, ◌≤◌, ◌<◌, List, slice_index, vec_len};
 ghost use Rattle.std.specs.Slots.{slots_items, slots_len, IsFull};
 ghost use Rattle.ring_layout.specs.Layout.{head_index, ring_words};
+ghost use Rattle.ring_layout.specs.Marks.{committed_kind};
 ghost use Rattle.ring_layout.specs.Places.{index, max_position, IsCapacity};
-ghost use Rattle.ring_table.specs.Marks.{decoded, IsDecoded, MayDecode};
+ghost use Rattle.ring_table.specs.Marks.{decoded, AreMarked, IsDecoded, MayDecode, ShowsRuns, Spreads};
 
 use atomic_table::Closed;
 use ring_layout::mark_descriptor::{ABORTED_KIND, COMMITTED_KIND, PADDING_KIND};
 use ring_layout::ring_buffer_descriptor::HEAD_POSITION_WORD;
-use ring_layout::{open_header, pack_header, word_index};
+use ring_layout::{align8, open_header, pack_header, word_index};
 use std::alloc::Global;
 
 /// The type id of padding in headers of which the bodies lie in slots.
@@ -35,6 +36,94 @@ pub fn decode_mark(at: u64, mark: u64, slot: u64) -> u64
         return 0xffff_ffff_0000_0000 + slot % 0x1_0000_0000;
     }
     open_header(1, bytes as usize - 8)
+}
+
+/// How far a walk over the words has come: nothing begins before `next`, and up to `end` lies the rest of a run.
+#[derive(Clone, Copy)]
+pub(crate) struct Spread {
+    pub(crate) next: u64,
+    pub(crate) end: u64,
+}
+
+/// The end of the run of the record at a position that has this mark, if the run that the walk is in ends at `end`. If no
+/// committed record is there, it is the position.
+fn run_end(at: u64, mark: u64, end: u64) -> u64
+    ensures inside { at < end → result ≡ end }
+    ensures marked { end ≤ at → at < mark → mark % 8 ≡ committed_kind → result ≡ mark }
+    ensures none { end ≤ at → (mark ≤ at) ⊎ (mark % 8 ≢ committed_kind) → result ≡ at }
+{
+    if at < end {
+        return end;
+    }
+    if mark <= at {
+        return at;
+    }
+    if mark % 8 == COMMITTED_KIND { mark } else { at }
+}
+
+/// Gives the record at a position a mark of its own, if it is committed.
+pub(crate) fn spread_mark(
+    closed: &Closed<u64, Global>,
+    words: &mut Vec<u64>,
+    capacity: u32,
+    at: u64,
+    walk: Spread,
+) -> Spread
+    requires slots { IsFull closed.now.slots × (slots_len closed.now.slots ≡ capacity / 8) }
+    requires capacity { IsCapacity capacity }
+    requires words { vec_len words.old ≡ ring_words capacity }
+    requires near { at ≤ 2 ^ 63 }
+    requires walk { (head : ℕ) × (old headers : List ℕ)
+        × (r : ShowsRuns capacity head (slots_items closed.now.slots) old headers)
+        × Spreads capacity head headers r.ends old words.old.items at walk.next walk.end × (at < head + capacity) }
+    ensures long { vec_len words.new ≡ vec_len words.old }
+    ensures trailer { (i : ℕ) → capacity / 8 ≤ i → slice_index words.new.items i ≡ slice_index words.old.items i }
+    ensures walks { (head : ℕ) (old headers : List ℕ)
+        (r : ShowsRuns capacity head (slots_items closed.now.slots) old headers)
+        → Spreads capacity head headers r.ends old words.old.items at walk.next walk.end → at < head + capacity
+        → Spreads capacity head headers r.ends old words.new.items (at + 8) result.next result.end }
+{
+    if at < walk.next {
+        return walk;
+    }
+    let index = word_index(capacity, at);
+    let mark = words[index];
+    let end = run_end(at, mark, walk.end);
+    if end <= at {
+        return Spread {
+            next: at + 8,
+            end: at + 8,
+        };
+    }
+    let header = *closed.slots.get(index);
+    let next = at + align8(header % 0x1_0000_0000);
+    words[index] = next;
+    Spread { next, end }
+}
+
+/// Gives each committed record a mark of its own: a mark may cover a run of records.
+pub(crate) fn spread_runs(closed: &Closed<u64, Global>, words: &mut Vec<u64>, capacity: u32)
+    requires slots { IsFull closed.now.slots × (slots_len closed.now.slots ≡ capacity / 8) }
+    requires capacity { IsCapacity capacity }
+    requires words { vec_len words.old ≡ ring_words capacity }
+    requires head { (slice_index words.old.items (head_index capacity) % 8 ≡ 0)
+        × (slice_index words.old.items (head_index capacity) ≤ max_position) }
+    requires runs { (headers : List ℕ) × ShowsRuns capacity (slice_index words.old.items (head_index capacity))
+        (slots_items closed.now.slots) words.old.items headers }
+    ensures long { vec_len words.new ≡ vec_len words.old }
+    ensures trailer { (i : ℕ) → capacity / 8 ≤ i → slice_index words.new.items i ≡ slice_index words.old.items i }
+    ensures marks { (headers : List ℕ) → ShowsRuns capacity (slice_index words.old.items (head_index capacity))
+        (slots_items closed.now.slots) words.old.items headers
+        → AreMarked capacity (slice_index words.old.items (head_index capacity)) words.new.items headers }
+{
+    let head = words[capacity as usize / 8 + HEAD_POSITION_WORD];
+    let mut walk = Spread {
+        next: head,
+        end: head,
+    };
+    for k in 0..capacity as u64 / 8 {
+        walk = spread_mark(closed, words, capacity, head + 8 * k, walk);
+    }
 }
 
 /// Puts the headers that the marks and the slots show in place of the marks.

@@ -7,10 +7,11 @@ ghost use Rattle.ring_table.specs.ConsumerSteps.{LoadsHeader};
 ghost use Rattle.ring_table.specs.ProducerSteps.{HasClaimAt, IsStagedOpen, NeedsPadding, with_changed};
 ghost use Rattle.ring_table.specs.Seats.{IsSameSeat, IsSeatOf};
 ghost use Rattle.ring_table.specs.Staged.{AreRising, Padded, Stored};
+ghost use Rattle.ring_table.specs.Views.{with_run};
 
 use crate::mode::{InSlots, InWords, Mode};
 use crate::steps::{RingSeat, SharedRing, consumer, marks, producer};
-use crate::view::Wanted;
+use crate::view::{Run, Wanted};
 
 /// The steps on headers, whose words depend on where bodies lie.
 pub trait Headers: Mode {
@@ -59,35 +60,42 @@ pub trait Headers: Mode {
         ensures view { producer.new.me.0 ≡ with_changed place (staged (Stored Aborted)) producer.old.me.0 }
         ensures rising { AreRising producer.old.me.0.producer.claims };
 
-    /// Loads the header at the head, as a read begins. What an earlier read got beyond the head is forgotten.
+    /// Loads the header at the head, as a read begins. What an earlier read got beyond the head is forgotten. The read is
+    /// in the new run then.
     fn load_first_header(
         ring: &SharedRing<Self>,
         consumer: &mut RingSeat,
         capacity: u32,
         head: u64,
+        run: &mut Run,
     ) -> u64
         requires seat { IsSeatOf ring.now.table_id ring.now.key capacity consumer.old }
         requires consumes { consumer.old.me.0.consumes ≡ true }
         requires head { consumer.old.me.0.consumer.head ≡ head }
         requires nothing_cleared { consumer.old.me.0.consumer.cleared ≡ head }
         ensures seat { IsSameSeat consumer.old consumer.new }
+        ensures run { run.new.from ≤ head }
         ensures told { LoadsHeader capacity head consumer.old.me.0.consumer.taken
-            consumer.old.me.0 result consumer.new.me.0 };
+            (with_run run.new consumer.old.me.0) result consumer.new.me.0 };
 
-    /// Loads the header that the running read has reached.
+    /// Loads the header that the running read has reached. The read is in the new run then, which is the old one up to
+    /// its end.
     fn load_next_header(
         ring: &SharedRing<Self>,
         consumer: &mut RingSeat,
         capacity: u32,
         scan: u64,
+        run: &mut Run,
     ) -> u64
         requires seat { IsSeatOf ring.now.table_id ring.now.key capacity consumer.old }
         requires consumes { consumer.old.me.0.consumes ≡ true }
         requires scan { consumer.old.me.0.consumer.scan ≡ scan }
         requires near { scan < consumer.old.me.0.consumer.head + capacity }
+        requires run { (consumer.old.me.0.consumer.run ≡ run.old) × (run.old.from ≤ scan) }
         ensures seat { IsSameSeat consumer.old consumer.new }
+        ensures run { run.new.from ≤ scan }
         ensures told { LoadsHeader capacity scan consumer.old.me.0.consumer.got
-            consumer.old.me.0 result consumer.new.me.0 };
+            (with_run run.new consumer.old.me.0) result consumer.new.me.0 };
 }
 
 impl Headers for InWords {
@@ -130,7 +138,12 @@ impl Headers for InWords {
         consumer: &mut RingSeat,
         capacity: u32,
         head: u64,
+        run: &mut Run,
     ) -> u64 {
+        *run = Run {
+            from: head,
+            to: head,
+        };
         consumer::load_first_word(ring, consumer, capacity, head)
     }
 
@@ -140,7 +153,12 @@ impl Headers for InWords {
         consumer: &mut RingSeat,
         capacity: u32,
         scan: u64,
+        run: &mut Run,
     ) -> u64 {
+        *run = Run {
+            from: scan,
+            to: scan,
+        };
         consumer::load_next_word(ring, consumer, capacity, scan)
     }
 }
@@ -185,8 +203,11 @@ impl Headers for InSlots {
         consumer: &mut RingSeat,
         capacity: u32,
         head: u64,
+        run: &mut Run,
     ) -> u64 {
-        marks::load_first_mark(ring, consumer, capacity, head)
+        let (header, now) = marks::load_first_mark(ring, consumer, capacity, head);
+        *run = now;
+        header
     }
 
     #[inline(always)]
@@ -195,7 +216,13 @@ impl Headers for InSlots {
         consumer: &mut RingSeat,
         capacity: u32,
         scan: u64,
+        run: &mut Run,
     ) -> u64 {
-        marks::load_next_mark(ring, consumer, capacity, scan)
+        if scan < run.to {
+            return marks::load_in_run(ring, consumer, capacity, scan, *run);
+        }
+        let (header, now) = marks::load_next_mark(ring, consumer, capacity, scan);
+        *run = now;
+        header
     }
 }

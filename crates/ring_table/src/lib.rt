@@ -10,6 +10,7 @@ mod bodies;
 mod claim;
 mod decode;
 mod headers;
+mod heads;
 mod laws;
 mod mode;
 mod picture;
@@ -17,6 +18,7 @@ mod plays;
 mod putting;
 mod rescue;
 mod rule;
+mod runs;
 mod steps;
 mod table;
 mod view;
@@ -27,6 +29,7 @@ pub use bodies::{
 pub use claim::{PlacedMessage, Stage, StagedClaim};
 pub use decode::decode_mark;
 pub use headers::Headers;
+pub use heads::{store_head_before_run, store_head_past_run};
 pub use laws::{
     last_claim_stands_last, newest_claim_changes_alone, open_claims_are_counted,
     stored_claims_show_one_picture,
@@ -36,10 +39,10 @@ pub use picture::{copy_words, show_slots};
 pub use putting::put_slots;
 pub use rescue::{Unsettled, rescue_slots, rescue_words, settle_words};
 pub use rule::RingRule;
+pub use runs::{Outgoing, write_run};
 pub use steps::consumer::{
     clear_word, load_body_word, load_passed_word, store_head, store_head_before,
 };
-pub use steps::marks::{store_head_before_mark, store_head_past_marks};
 pub use steps::producer::{
     load_head, load_own_word, load_tail, move_tail, store_body_word, store_claimed_header,
     store_tail,
@@ -49,9 +52,9 @@ pub use steps::service::{
     draw_correlation_id, load_cache, load_heartbeat, store_cache, store_heartbeat,
 };
 pub use steps::slots::{
-    commit_record, give_body, lend_body, open_record, reserve_at, reserve_body, return_body,
-    take_body,
+    commit_record, commit_run, give_body, lend_body, open_record, reserve_at, reserve_body,
+    return_body, take_body,
 };
 pub use steps::{RingSeat, SharedRing};
 pub use table::{RingTable, open, open_slots};
-pub use view::{ConsumerView, Key, ProducerView, Service, View, Wanted};
+pub use view::{ConsumerView, Key, ProducerView, Run, Service, View, Wanted};

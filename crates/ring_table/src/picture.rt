@@ -9,7 +9,7 @@ ghost use Rattle.ring_table.specs.Staged.{elsewhere, shown_header, staged_end};
 ghost use Rattle.ring_table.specs.Views.{View};
 ghost use Rattle.ring_table.specs.Walk.{IsCopied, Parts, Walked};
 
-use crate::decode::decode_marks;
+use crate::decode::{decode_marks, spread_runs};
 use atomic_table::Closed;
 use ring_layout::ring_buffer_descriptor::{HEAD_POSITION_WORD, TAIL_POSITION_WORD, TRAILER_WORDS};
 use ring_layout::{align8, word_index};
@@ -117,6 +117,7 @@ pub fn show_slots(closed: Closed<u64, Global>, room: Vec<u64>) -> Vec<u64>
     let mut words = room;
     copy_words(&closed, &mut words);
     let capacity = ((words.len() - TRAILER_WORDS) * 8) as u32;
+    spread_runs(&closed, &mut words, capacity);
     decode_marks(&closed, &mut words, capacity);
     show_bodies(&closed, &mut words, capacity);
     free_slots(closed);

@@ -11,7 +11,7 @@ ghost use Rattle.ring_table.specs.Views.{View};
 ghost use Rattle.ring_table.specs.Owners.{OwnedHistory};
 ghost use Rattle.ring_table.specs.Rescued.{settled_word, HadHistory, IsSaved, Rescues, Settles, ShowsClaims};
 
-use crate::decode::decode_marks;
+use crate::decode::{decode_marks, spread_runs};
 use crate::picture::{copy_range, copy_words, formatted, free_slots};
 use atomic_table::Closed;
 use ring_layout::ring_buffer_descriptor::{HEAD_POSITION_WORD, TAIL_POSITION_WORD};
@@ -171,6 +171,7 @@ pub fn rescue_slots(
 {
     let mut words = room;
     copy_words(&closed, &mut words);
+    spread_runs(&closed, &mut words, capacity);
     decode_marks(&closed, &mut words, capacity);
     format_headers(&mut words, capacity as usize / 8);
     let unsettled = settle_words(&mut words, capacity);

@@ -41,6 +41,13 @@ pub struct ProducerView {
     pub joined: LinkedList<Service>,
 }
 
+/// A run of marked records, one after another, whose last one ends at `to`. The mark at `from` is that of the whole run.
+#[derive(Clone, Copy)]
+pub struct Run {
+    pub from: u64,
+    pub to: u64,
+}
+
 /// What the consumer knows.
 pub struct ConsumerView {
     pub head: u64,
@@ -48,6 +55,8 @@ pub struct ConsumerView {
     pub cleared: u64,
     /// How far the running read has come.
     pub scan: u64,
+    /// The run that the running read has reached. If it is at the end of the run, it must load another mark.
+    pub run: Run,
     /// The messages below the head.
     pub taken: LinkedList<PlacedMessage>,
     /// The messages below `scan`.

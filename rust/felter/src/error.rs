@@ -158,10 +158,10 @@ impl fmt::Display for Error {
 
 impl std::error::Error for Error {}
 
-/// A message of a batch was refused, and the messages after it were not tried.
+/// A message of a batch was refused, and it and the messages after it were not written.
 #[derive(Clone, Copy, Debug, PartialEq, Eq)]
 pub struct BatchRefused {
-    /// The number of messages that were written before the refused one.
+    /// The number of messages that were written. They are the first ones of the batch.
     pub written: usize,
     /// The reason why the message was refused.
     pub reason: Error,

@@ -50,6 +50,7 @@
 //! x86-64-v2. This crate and its declarations of the library are tested and not proved.
 
 mod adder;
+mod batches;
 mod board;
 mod claims;
 mod client;

@@ -128,6 +128,7 @@ extern "C" {
         buffer: *mut u8,
         room: usize,
     ) -> i32;
+    pub(crate) fn felter_write_batch(producer: *mut Raw, records: *const u8, bytes: usize, written: *mut u32) -> i32;
     pub(crate) fn felter_close(consumer: *mut Raw, producer: *mut Raw) -> i32;
     pub(crate) fn felter_finish(consumer: *mut Raw, left: *mut u64) -> i32;
     pub(crate) fn felter_board_new_numbered(number: u64, capacity: u32, transmitter: *mut Raw) -> i32;

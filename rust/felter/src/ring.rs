@@ -1,7 +1,8 @@
 //! Rings, which are many-to-one or one-to-one.
+use crate::batches::Room;
 use crate::claims::Claim;
 use crate::ends::{Bed, End};
-use crate::error::{BatchRefused, Error, Refused};
+use crate::error::{Error, Refused};
 use crate::handle::{done, Handle, Number, Sizes};
 use crate::message::{message_of, Batch, Message};
 use crate::raw::{self, Raw};
@@ -48,7 +49,7 @@ pub(crate) fn made_by(call: impl FnOnce(u64, *mut Raw, *mut Raw) -> i32) -> Resu
     done(call(ring.raw(), producer.raw(), consumer.raw()))?;
     let (writes, reads) = End::pair();
     let sizes = producer.sizes()?;
-    let producer = Producer { handle: producer, ring, end: writes, sizes };
+    let producer = Producer { handle: producer, ring, end: writes, sizes, room: Room::default() };
     Ok((producer, Consumer { handle: consumer, ring, end: reads, sizes }))
 }
 
@@ -71,6 +72,7 @@ pub struct Producer {
     pub(crate) ring: Number,
     pub(crate) end: End,
     sizes: Sizes,
+    pub(crate) room: Room,
 }
 
 impl Producer {
@@ -101,29 +103,6 @@ impl Producer {
         done(unsafe { raw::felter_write(self.handle.raw(), type_id, body.as_ptr(), body.len()) })?;
         self.end.wake();
         Ok(())
-    }
-
-    /// Writes messages one after another, up to the first one that is refused. Returns how many messages were written.
-    ///
-    /// Errors: those of [`write`](Producer::write), together with the number of messages that were written before.
-    ///
-    /// ```
-    /// let (mut producer, _consumer) = felter::one_to_one(128)?;
-    /// assert_eq!(producer.write_batch([(1, &b"one"[..]), (2, b"two")]), Ok(2));
-    /// let refused = producer.write_batch([(3, &b"three"[..]), (0, b"bad"), (4, b"never")]).unwrap_err();
-    /// assert_eq!((refused.written, refused.reason), (1, felter::Error::BadType));
-    /// # Ok::<(), felter::Error>(())
-    /// ```
-    pub fn write_batch<'a>(
-        &mut self,
-        messages: impl IntoIterator<Item = (i32, &'a [u8])>,
-    ) -> Result<usize, BatchRefused> {
-        let mut written = 0;
-        for (type_id, body) in messages {
-            self.write(type_id, body).map_err(|reason| BatchRefused { written, reason })?;
-            written += 1;
-        }
-        Ok(written)
     }
 
     /// Tries once to claim room for a message of `len` bytes. Each byte is 0 until [`put`](Claim::put) stores it. The
@@ -194,7 +173,8 @@ impl Producer {
         let mut other = Handle::empty();
         // SAFETY: both handles are ours, and the second one is empty.
         done(unsafe { raw::felter_split(self.handle.raw(), other.raw()) })?;
-        Ok(Producer { handle: other, ring: self.ring, end: self.end.other(true), sizes: self.sizes })
+        let end = self.end.other(true);
+        Ok(Producer { handle: other, ring: self.ring, end, sizes: self.sizes, room: Room::default() })
     }
 
     /// Joins another producer of the same ring to this one. This producer gets the shares and the kept claims of the

@@ -168,6 +168,38 @@ fn batches_have_all_messages_in_order() {
 }
 
 #[test]
+fn batches_are_written_by_one_call() {
+    for (mut producer, mut consumer) in [one_to_one(1024).expect("small"), many_to_one(1024).expect("small")] {
+        let bodies: Vec<Vec<u8>> = (0..100).map(|n| body_of(1, n, 24)).collect();
+        let mut read = Vec::new();
+        while read.len() < bodies.len() {
+            let left = bodies[read.len()..].iter().enumerate();
+            let written = match producer.write_batch(left.map(|(n, body)| (1 + n as i32, &body[..]))) {
+                Ok(written) => written,
+                Err(refused) => {
+                    assert_eq!(refused.reason, Error::InsufficientCapacity);
+                    refused.written
+                }
+            };
+            assert!(written > 1);
+            for n in 0..written {
+                let message = consumer.read_owned().expect("it is whole").expect("it was written");
+                assert_eq!(message.type_id, 1 + n as i32);
+                read.push(message.body);
+            }
+            assert_eq!(consumer.read_owned(), Ok(None));
+        }
+        assert_eq!(read, bodies);
+        assert_eq!(producer.write_batch([]), Ok(0));
+        for (bad, reason) in [((1, &[0; 129][..]), Error::TooLong), ((-5, &[0; 8][..]), Error::BadType)] {
+            let refused = producer.write_batch([(1, &b"good"[..]), bad]).expect_err("one is bad");
+            assert_eq!((refused.written, refused.reason), (0, reason));
+        }
+        assert_eq!(consumer.read_owned(), Ok(None));
+    }
+}
+
+#[test]
 fn claims_that_are_kept_are_settled_in_any_order_by_the_producer_that_has_them() {
     let (mut producer, mut consumer) = many_to_one(512).unwrap();
     let (mut foreign, _of_foreign) = many_to_one(512).unwrap();

@@ -2,6 +2,7 @@
 ghost use Rattle.ring_layout.specs.declared.message.ClaimState.TheVariants.{Aborted, Committed};
 ghost use Rattle.ring_handles.specs.Producing.{positions, Claimed, Counted, Drew, HeardBeat, Positioned, Put, Settled, Wrote};
 ghost use Rattle.ring_handles.specs.Kinds.{a_producer};
+ghost use Rattle.ring_handles.specs.WritingBatch.{WroteBatch};
 ghost use Rattle.ring_c.specs.Told.{Uses, Yields};
 
 use crate::work_on::work_on;
@@ -19,6 +20,20 @@ pub extern "C" fn felter_write(
     ensures { Uses a_producer (Wrote type_id body.now) producer.old.held producer.new.held result }
 {
     work_on!(producer, alloc, Producer(side) => side.write(type_id, body))
+}
+
+/// Writes the messages of a batch, and says how many were written.
+#[unsafe(no_mangle)]
+pub extern "C" fn felter_write_batch(
+    alloc: Global,
+    producer: &mut Handle,
+    records: &[u8],
+    written: &mut u32,
+) -> i32
+    ensures { Yields a_producer (λ _ told. WroteBatch records.now told) written.old written.new producer.old.held
+        producer.new.held result }
+{
+    work_on!(producer, alloc, Producer(side) => side.write_batch(records, written))
 }
 
 /// Claims room for a message of `len` bytes, which are 0 until they are put, and says the claim's number.

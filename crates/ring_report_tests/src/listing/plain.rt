@@ -133,7 +133,9 @@ fn finding_of(rt: &impl Abort, word: u64, slot: u64) -> Option<RingFinding> {
 fn a_mark_that_makes_no_sense_is_a_finding(rt: HostRuntime) {
     let wanted = [
         (144 + 4, COMMITTED, 1),
-        (152, COMMITTED, 1),
+        (136, COMMITTED, 1),
+        (152 + 2, COMMITTED, 1),
+        (200, COMMITTED, 1),
         (128 + 1, COMMITTED, 0),
         (200, 0x0000_0005_0000_0048, 72),
         (200 + 1, COMMITTED, 72),
@@ -144,6 +146,70 @@ fn a_mark_that_makes_no_sense_is_a_finding(rt: HostRuntime) {
         assert_eq!(rt; finding_of(&rt, word, slot), Some(finding));
     }
     assert_eq!(rt; finding_of(&rt, 144, COMMITTED), None);
+}
+
+/// A plain ring with three records of 16 bytes from 96 on. The mark at 96 ends here, and the other words are no marks.
+fn run_up_to(end: u64) -> ([u64; 112], [u64; 16]) {
+    let (mut words, mut slots) = ([40u64; 112], [0xaaaa_aaaa_aaaa_aaaau64; 16]);
+    words[16 + 48] = 96;
+    words[16 + 16] = 144;
+    words[12] = end;
+    slots[12] = COMMITTED;
+    slots[13] = 0x1111;
+    slots[14] = COMMITTED;
+    slots[15] = 0x2222;
+    slots[0] = COMMITTED;
+    slots[1] = 0;
+    (words, slots)
+}
+
+/// The words of this plain ring in the format, with this header at the position 128.
+fn joined_run(header: u64) -> [u64; 112] {
+    let (mut words, _) = run_up_to(40);
+    words[12] = COMMITTED;
+    words[13] = 0x1111;
+    words[14] = COMMITTED;
+    words[15] = 0x2222;
+    words[0] = header;
+    words[1..12].fill(0);
+    words
+}
+
+#[test]
+fn joins_a_run(rt: HostRuntime) {
+    let (mut words, slots) = run_up_to(144);
+    assert_eq!(rt; join_bodies(&mut words, &slots), Ok(()));
+    assert_eq!(rt; words.as_slice(), joined_run(COMMITTED).as_slice());
+    // (a consumer that stopped inside of the run left a mark there, and words of the run are not looked at)
+    for inside in [144u64, 128, 120 + 2, u64::MAX] {
+        let (mut words, slots) = run_up_to(144);
+        words[14] = inside;
+        words[13] = inside;
+        assert_eq!(rt; join_bodies(&mut words, &slots), Ok(()));
+        assert_eq!(rt; words.as_slice(), joined_run(COMMITTED).as_slice());
+    }
+}
+
+#[test]
+fn joins_what_comes_after_a_run(rt: HostRuntime) {
+    let (mut words, slots) = run_up_to(128);
+    words[0] = 144 + 3;
+    assert_eq!(rt; join_bodies(&mut words, &slots), Ok(()));
+    assert_eq!(rt; words.as_slice(), joined_run(ABORTED).as_slice());
+    let (mut words, slots) = run_up_to(128);
+    assert_eq!(rt; join_bodies(&mut words, &slots), Ok(()));
+    let mut wanted = joined_run(0);
+    wanted[1] = 40;
+    assert_eq!(rt; words.as_slice(), wanted.as_slice());
+    // (a record in the run is longer than the rest of the run, or its slot has no header of a message)
+    for (end, slot) in [(136, COMMITTED), (144, ABORTED), (144, 0)] {
+        let (mut words, mut slots) = run_up_to(end);
+        slots[0] = slot;
+        let mut wanted = joined_run(BAD);
+        wanted[1] = 40;
+        assert_eq!(rt; join_bodies(&mut words, &slots), Ok(()));
+        assert_eq!(rt; words.as_slice(), wanted.as_slice());
+    }
 }
 
 #[test]
@@ -222,11 +288,13 @@ fn use_ring(ring: &mut SoloRing, numbers: &mut Numbers) {
     }
 }
 
-/// The words and the slots of the same ring as a plain ring.
+/// The words and the slots of the same ring as a plain ring, and the index of the mark of the record before, if it is
+/// committed.
 #[derive(Drop)]
 struct Parts {
     words: Vec<u64>,
     slots: Vec<u64>,
+    run: Option<usize>,
 }
 
 /// Stores a word at an index.
@@ -246,6 +314,7 @@ fn leftover(rt: &impl Abort, alloc: Global, whole: &[u64], numbers: &mut Numbers
     let mut parts = Parts {
         words: Vec::from_slice(alloc, whole).expect(rt, "memory"),
         slots: Vec::new(alloc),
+        run: None,
     };
     let head = load(whole, 16 + 48);
     for k in 0..16u64 {
@@ -270,7 +339,8 @@ fn kind_of(state: RecordState, may_be_padding: bool) -> u64 {
     }
 }
 
-/// Stores the mark of a record, and its header and body in the slots.
+/// Stores the mark of a record, and its header and body in the slots. A committed record may get the mark of the record
+/// before.
 fn part_record(parts: &mut Parts, whole: &[u64], record: &Record<'_>, numbers: &mut Numbers) {
     let first = record.index as usize / 8;
     let count = record.length.div_ceil(8);
@@ -287,15 +357,21 @@ fn part_record(parts: &mut Parts, whole: &[u64], record: &Record<'_>, numbers: &
         record.type_id as u64
     };
     let end = record.place.wrapping_add(8 * u64::from(count));
-    store(&mut parts.words, first, end.wrapping_add(kind));
+    let in_run = kind == 0 && numbers.next() % 2 == 0;
+    let at = match parts.run {
+        Some(earlier) if in_run => earlier,
+        _ => first,
+    };
+    store(&mut parts.words, at, end.wrapping_add(kind));
+    parts.run = if kind == 0 { Some(at) } else { None };
     if kind != 1 {
         let header = (type_id << 32) | u64::from(record.length);
         store(&mut parts.slots, first, header);
     }
 }
 
-/// Makes a plain ring of words. What an earlier lap left is in the other words, and slots without a record have any
-/// words.
+/// Makes a plain ring of words, with runs. What an earlier lap left is in the other words, and slots without a record
+/// have any words.
 fn part(rt: &impl Abort, alloc: Global, whole: &[u64], numbers: &mut Numbers) -> Parts {
     let ring = RingSnapshot::new(whole).expect(rt, "a ring");
     let mut parts = leftover(rt, alloc, whole, numbers);

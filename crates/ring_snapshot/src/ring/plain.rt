@@ -7,12 +7,12 @@ ghost use Rattle.ring_layout.specs.Places.{index, IsCapacity};
 ghost use Rattle.ring_layout.specs.Layout.{ring_words};
 ghost use Rattle.ring_layout.specs.Refusals.{IsRefusedBy};
 ghost use Rattle.ring_snapshot.specs.declared.ring_finding.RingFinding.TheVariants.{BadBodies, BadSize};
-ghost use Rattle.ring_snapshot.specs.Marks.{header_at};
+ghost use Rattle.ring_snapshot.specs.Marks.{header_with};
 ghost use Rattle.ring_snapshot.specs.PlainRecords.{IsPlain, LiesBetween};
 ghost use Rattle.ring_snapshot.specs.PlainWords.{joined, joined_from, span_at, with_body, with_record, with_zeros};
 
 use crate::ring::RingSnapshot;
-use crate::ring::mark::header_at;
+use crate::ring::mark::{header_with, mark_at, run_of};
 use crate::ring_finding::RingFinding;
 use ring_layout::mark_descriptor::PADDING_KIND;
 use ring_layout::record_descriptor::PADDING_MSG_TYPE_ID;
@@ -49,69 +49,78 @@ fn fill_zeros(words: &mut [u64], index: usize, count: usize)
     words[index..index + count].fill(0);
 }
 
-/// Writes the `count` words after the header at an index in the format. They are zeros in padding, and otherwise those
-/// of the slots.
-fn join_body(words: &mut [u64], slots: &[u64], index: usize, count: usize)
+/// Writes the `count` words after the header at an index in the format. They are zeros if the mark is that of padding,
+/// and otherwise those of the slots.
+fn join_body(words: &mut [u64], slots: &[u64], mark: u64, index: usize, count: usize)
     requires inside { (index + 1 + count ≤ length slots.now) × (length slots.now ≤ length words.old) }
-    ensures words { words.new ≡ with_body slots.now index count words.old }
+    ensures words { words.new ≡ with_body slots.now mark index count words.old }
     ensures length { length words.new ≡ length words.old }
     ensures others { (i : ℕ) → length slots.now ≤ i → slice_index words.new i ≡ slice_index words.old i }
 {
     let (from, end) = (index + 1, index + 1 + count);
-    if words[index] % 8 == PADDING_KIND {
+    if mark % 8 == PADDING_KIND {
         fill_zeros(words, from, count);
     } else {
         words[from..end].copy_from_slice(&slots[from..end]);
     }
 }
 
-/// Writes the record at a position in the format, or only its header if no record has this header. Returns the number
-/// of bytes that the record takes, or 0 if there is no record.
-fn join_record(words: &mut [u64], slots: &[u64], capacity: u32, tail: u64, at: u64) -> u64
+/// Writes the record at a position with this mark in the format, or only its header if no record has this header.
+/// Returns the number of bytes that the record takes, or 0 if there is no record.
+fn join_record(
+    words: &mut [u64],
+    slots: &[u64],
+    capacity: u32,
+    tail: u64,
+    mark: u64,
+    at: u64,
+) -> u64
     requires lawful { IsCapacity capacity }
     requires sizes { (length words.old ≡ ring_words capacity) × (length slots.now ≡ capacity / 8) }
     requires order { at ≤ tail }
-    ensures span { result ≡ span_at capacity tail at (header_at capacity words.old slots.now at) }
+    ensures span { result ≡ span_at capacity tail at (header_with capacity slots.now tail mark at) }
     ensures words { words.new
-        ≡ (if result == 0 then set words.old (index capacity at) (header_at capacity words.old slots.now at)
-        else with_record capacity slots.now at result words.old) }
+        ≡ (if result == 0 then set words.old (index capacity at) (header_with capacity slots.now tail mark at)
+        else with_record capacity slots.now tail mark at result words.old) }
     ensures inside { at + result ≤ tail }
     ensures length { length words.new ≡ length words.old }
     ensures trailer { (i : ℕ) → capacity / 8 ≤ i → slice_index words.new i ≡ slice_index words.old i }
 {
     let index = word_index(capacity, at);
-    let header = header_at(&*words, slots, capacity, at);
+    let header = header_with(slots, capacity, tail, mark, at);
     let ring = RingSnapshot {
         capacity,
         words: &*words,
     };
     let bytes = ring.span_at(tail, at, header);
     if bytes > 0 {
-        join_body(words, slots, index, bytes as usize / 8 - 1);
+        join_body(words, slots, mark, index, bytes as usize / 8 - 1);
     }
     words[index] = header;
     bytes
 }
 
 /// Writes the records between these positions in the format, up to the first header that no record has.
-#[tactic(auto, using(crate::proofs::JoinLemmas::joined_goes, crate::proofs::JoinLemmas::joined_over, crate::proofs::JoinLemmas::joined_stops))]
+#[tactic(auto, using(crate::proofs::JoinLemmas::joined_goes, crate::proofs::JoinLemmas::joined_over))]
 fn join_records(words: &mut [u64], slots: &[u64], capacity: u32, head: u64, tail: u64)
     requires lawful { IsCapacity capacity }
     requires sizes { (length words.old ≡ ring_words capacity) × (length slots.now ≡ capacity / 8) }
     requires order { head ≤ tail }
-    ensures joined { words.new ≡ joined_from capacity slots.now tail ((tail - head) / 8) head words.old }
+    ensures joined { words.new ≡ joined_from capacity slots.now tail ((tail - head) / 8) 0 head words.old }
     ensures length { length words.new ≡ length words.old }
     ensures trailer { (i : ℕ) → capacity / 8 ≤ i → slice_index words.new i ≡ slice_index words.old i }
 {
-    let mut at = head;
+    let (mut at, mut run) = (head, 0);
     for _k in 0..(tail - head) / 8 {
         if at >= tail {
             return;
         }
-        let bytes = join_record(words, slots, capacity, tail, at);
+        let mark = mark_at(&*words, capacity, run, at);
+        let bytes = join_record(words, slots, capacity, tail, mark, at);
         if bytes == 0 {
             return;
         }
+        run = run_of(mark);
         at += bytes;
     }
 }
@@ -134,9 +143,15 @@ fn clear_words(words: &mut [u64], capacity: u32, at: u64, count: usize)
 /// `capacity / 8` words, which have the headers and the bodies at the same indexes. All listings can read the result.
 ///
 /// The call goes from the head to the tail, one record after another. Padding gets its header, and zeros after it. Any
-/// other record gets its header and its body, in each state. The call ends at a word that is no mark, which becomes 0,
-/// and at a mark that makes no sense. [`header_at`] says which marks these are, and what they become. A mark also makes
-/// no sense if its record would cross the end of the buffer or the tail. The words after these two stay as they are.
+/// other record gets its header and its body, in each state. A mark of kind 0 can be that of a run of committed
+/// records, which goes on up to the end in the mark. Inside of the run the call reads the headers in the slots, and no
+/// words.
+///
+/// The call ends at a word that is no mark, which becomes 0, and at a mark that makes no sense. [`header_at`] says
+/// which marks these are, and what they become. At a record of a run, it is the mark of the run that makes no sense. A
+/// mark also makes no sense if its record would cross the end of the buffer or the tail. The words after these two stay
+/// as they are.
+///
 /// All words of the buffer that are not between the head and the tail become 0. No word is changed if the positions
 /// make no sense. If the words and the slots have a history between the head and the tail, the result has the words of
 /// the history.

@@ -1,6 +1,6 @@
 //! What the steps of the consumer say.
 ghost use Rattle.std.specs.Prelude.{◌≡◌};
-ghost use Rattle.ring_table.specs.Views.{Logs, logged};
+ghost use Rattle.ring_table.specs.Views.{Logs, logged, no_run, with_run};
 ghost use Rattle.ring_table.specs.ConsumerSteps.{LoadsHeader, LoadsBody, LoadsPassed, ClearsWord};
 ghost use Rattle.ring_table.specs.ConsumerSteps.{StoresHead, StoresHeadBefore};
 
@@ -11,7 +11,8 @@ pub struct LoadFirstHeader;
 
 impl Play<u64, View> for LoadFirstHeader {
     ghost then = { λ st me n me'. (me'.1 ≡ me.1)
-        × LoadsHeader me.0.capacity me.0.consumer.head me.0.consumer.taken me.0 n me'.0
+        × LoadsHeader me.0.capacity me.0.consumer.head me.0.consumer.taken
+        (with_run (no_run me.0.consumer.head) me.0) n me'.0
         × Logs st.word n me.0 me'.0 };
 }
 
@@ -19,7 +20,8 @@ pub struct LoadNextHeader;
 
 impl Play<u64, View> for LoadNextHeader {
     ghost then = { λ st me n me'. (me'.1 ≡ me.1)
-        × LoadsHeader me.0.capacity me.0.consumer.scan me.0.consumer.got me.0 n me'.0
+        × LoadsHeader me.0.capacity me.0.consumer.scan me.0.consumer.got
+        (with_run (no_run me.0.consumer.scan) me.0) n me'.0
         × Logs st.word n me.0 me'.0 };
 }
 

@@ -2,7 +2,8 @@
 ghost use Rattle.std.specs.Prelude.{◌≡◌};
 ghost use Rattle.ring_table.specs.Staged.{AreRising};
 ghost use Rattle.ring_layout.specs.declared.message.ClaimState.TheVariants.{Committed, Open};
-ghost use Rattle.ring_table.specs.Marks.{LoadsMark};
+ghost use Rattle.ring_table.specs.Marks.{LoadsInRun, LoadsMark, SplitsAtLast, SplitsAtScan};
+ghost use Rattle.ring_table.specs.Runs.{StoresRun};
 ghost use Rattle.ring_table.specs.SlotSteps.{GivesBody, LendsBody, ReservesAt, ReservesBody, ReturnsBody};
 ghost use Rattle.ring_table.specs.SlotSteps.{ReturnsSlots, StoresRecord, TakesBody};
 
@@ -31,6 +32,12 @@ pub struct CommitRecord;
 
 impl Play<u64, View> for CommitRecord {
     ghost then = { λ st me n me'. StoresRecord Committed me me' × AreRising me.0.producer.claims };
+}
+
+pub struct CommitRun;
+
+impl Play<u64, View> for CommitRun {
+    ghost then = { λ st me n me'. StoresRun me me' × AreRising me.0.producer.claims };
 }
 
 pub struct TakeBody;
@@ -73,4 +80,22 @@ pub struct LoadNextMark;
 
 impl Play<u64, View> for LoadNextMark {
     ghost then = { λ st me n me'. LoadsMark me.0.capacity me.0.consumer.scan me.0.consumer.got me n me' };
+}
+
+pub struct LoadInRun;
+
+impl Play<u64, View> for LoadInRun {
+    ghost then = { λ st me n me'. LoadsInRun me.0.capacity me.0.consumer.scan me.0.consumer.got me me' };
+}
+
+pub struct SplitAtScan;
+
+impl Play<u64, View> for SplitAtScan {
+    ghost then = { λ st me n me'. (me'.1 ≡ me.1) × SplitsAtScan me.0 me'.0 };
+}
+
+pub struct SplitAtLast;
+
+impl Play<u64, View> for SplitAtLast {
+    ghost then = { λ st me n me'. (me'.1 ≡ me.1) × SplitsAtLast me.0 me'.0 };
 }

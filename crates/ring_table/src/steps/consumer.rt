@@ -1,7 +1,7 @@
 //! The steps of the consumer.
 ghost use Rattle.std.specs.Prelude.{◌≡◌, ◌+◌, ◌%◌, ◌<◌, true};
 ghost use Rattle.ring_layout.specs.Places.{index};
-ghost use Rattle.ring_table.specs.Views.{logged};
+ghost use Rattle.ring_table.specs.Views.{logged, no_run, with_run};
 ghost use Rattle.ring_table.specs.ConsumerSteps.{ClearsWord, LoadsBody, LoadsHeader, LoadsPassed};
 ghost use Rattle.ring_table.specs.ConsumerSteps.{StandsBefore, StoresHead, StoresHeadBefore};
 ghost use Rattle.ring_table.specs.Seats.{IsSameSeat, IsSeatOf};
@@ -27,7 +27,7 @@ pub(crate) fn load_first_word(
     requires nothing_cleared { consumer.old.me.0.consumer.cleared ≡ head }
     ensures seat { IsSameSeat consumer.old consumer.new }
     ensures told { LoadsHeader capacity head consumer.old.me.0.consumer.taken
-        consumer.old.me.0 result consumer.new.me.0 }
+        (with_run (no_run head) consumer.old.me.0) result consumer.new.me.0 }
 {
     ring.load::<LoadFirstHeader>(consumer, word_index(capacity, head))
 }
@@ -44,7 +44,8 @@ pub(crate) fn load_next_word(
     requires scan { consumer.old.me.0.consumer.scan ≡ scan }
     requires near { scan < consumer.old.me.0.consumer.head + capacity }
     ensures seat { IsSameSeat consumer.old consumer.new }
-    ensures told { LoadsHeader capacity scan consumer.old.me.0.consumer.got consumer.old.me.0 result consumer.new.me.0 }
+    ensures told { LoadsHeader capacity scan consumer.old.me.0.consumer.got
+        (with_run (no_run scan) consumer.old.me.0) result consumer.new.me.0 }
 {
     ring.load::<LoadNextHeader>(consumer, word_index(capacity, scan))
 }

@@ -8,14 +8,16 @@ ghost use Rattle.ring_table.specs.Staged.{AreRising};
 ghost use Rattle.ring_table.specs.Changes.{blank};
 ghost use Rattle.ring_table.specs.ProducerSteps.{HasClaimAt, HasNewestAt};
 ghost use Rattle.ring_table.specs.Seats.{IsSameSeat, IsSeatOf};
+ghost use Rattle.ring_layout.specs.declared.message.Message.{Message};
+ghost use Rattle.ring_table.specs.Runs.{HasRun, StoresRun};
 ghost use Rattle.ring_table.specs.SlotSteps.{GivesBody, HasLast, IsHolderOf, IsLent};
 ghost use Rattle.ring_table.specs.SlotSteps.{IsOpen, IsPadded, IsReserved, IsSameHolder, IsTaken};
 ghost use Rattle.ring_table.specs.SlotSteps.{LendsBody, ReservesAt, ReservesBody, ReturnsBody, ReturnsSlots, StoresRecord, TakesBody};
 
 use crate::mode::InSlots;
 use crate::plays::slots::{
-    CommitRecord, GiveBody, LendBody, OpenRecord, ReserveAt, ReserveBody, ReturnBody, ReturnSlots,
-    TakeBody,
+    CommitRecord, CommitRun, GiveBody, LendBody, OpenRecord, ReserveAt, ReserveBody, ReturnBody,
+    ReturnSlots, TakeBody,
 };
 use crate::steps::marks::record_mark;
 use crate::steps::{RingSeat, SharedRing, trailer_word};
@@ -88,6 +90,24 @@ pub fn commit_record(
 {
     let mark = record_mark(place, wanted.len, COMMITTED_KIND);
     ring.store::<CommitRecord>(producer, word_index(capacity, place), mark);
+}
+
+/// Stores the mark of a run in place of the newest claim, which had none, and gives its slots back with the records of the
+/// run. The messages of the run are committed from then on, each as a claim of its own.
+pub fn commit_run(
+    ring: &SharedRing<InSlots>,
+    producer: &mut RingSeat,
+    capacity: u32,
+    place: u64,
+    end: u64,
+)
+    requires seat { IsHolderOf ring.now.table_id ring.now.key capacity producer.old }
+    requires run { (ms : List Message) × HasRun capacity place end ms producer.old.me }
+    ensures seat { IsSameHolder producer.old producer.new }
+    ensures stores { StoresRun producer.old.me producer.new.me }
+    ensures rising { AreRising producer.old.me.0.producer.claims }
+{
+    ring.store::<CommitRun>(producer, word_index(capacity, place), end);
 }
 
 /// Takes the slots of an own open claim, which have the words of its body.

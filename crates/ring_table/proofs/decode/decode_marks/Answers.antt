@@ -1,33 +1,19 @@
-use Rattle.std.proofs.Common.{◌≡◌, ◌≢◌, ℕ, ◌+◌, ◌*◌, ◌/◌, ◌%◌, ◌≤◌, ◌<◌, List, set, length, slice_index, get_or, get_or-set_other, get_or-set_same, sym, ap, ◌∙◌, subst, arith}
+use Rattle.std.proofs.Common.{◌≡◌, ◌≢◌, ℕ, ◌+◌, ◌*◌, ◌%◌, ◌≤◌, ◌<◌, List, set, slice_index, get_or, get_or-set_other, get_or-set_same, sym, ap, ◌∙◌, subst, arith}
 use mathlib.Core.Logic.{dite}
 use native.Mathlib.Decide.{ℕ_discrete}
 use Rattle.std.specs.Slots.{slots_items, slots_len}
-use Rattle.std.proofs.lemmas.Nat.{mod_below}
-use Rattle.atomic_table.proofs.Lists.{at_index}
 use Rattle.ring_layout.specs.Layout.{head_index}
-use Rattle.ring_layout.specs.Places.{IsCapacity, index}
+use Rattle.ring_layout.specs.Places.{index}
 use Rattle.ring_layout.proofs.Laps.{apart}
 use Rattle.ring_table.specs.Marks.{decoded, MayDecode}
-use Rattle.ring_table.proofs.PictureWords.{read_at}
-use Rattle.ring_table.proofs.StagedPlaces.{capacity_aligned}
+use Rattle.ring_table.proofs.PictureWords.{value_at}
+use Rattle.ring_table.proofs.StagedPlaces.{capacity_aligned, inside_buffer}
 use Rattle.ring_table.proofs.decode.decode_marks.Goals as goal
-
--- a position has an index of the buffer
-inside : (C p : ℕ) → IsCapacity C → index C p < C / 8
-inside C p cap =
-    let least = cap.least in
-    let c8 = capacity_aligned C cap in
-    let low = mod_below p C (omega arith) in
-    omega arith
-
--- what is read at an index is there
-value_at : (l : List ℕ) (i n : ℕ) → i < length l → n ≡ get_or l i n → slice_index l i ≡ n
-value_at l i n lt is = read_at l i n (at_index l i n lt is)
 
 pub get-slot-requires : goal.get-slot-requires
 get-slot-requires c =
     let full = c.requires.slots in
-    let low = inside c.args.capacity (c.index-head.result.now + 8 * c.loop-k.k) c.requires.capacity in
+    let low = inside_buffer c.args.capacity (c.index-head.result.now + 8 * c.loop-k.k) c.requires.capacity in
     let at = c.word_index-index.ensures in
     let long = full.1 in
     let lt : c.word_index-index.result < slots_len c.args.closed.now.slots = omega arith in
@@ -38,7 +24,7 @@ decode_mark-requires c =
     let cap = c.requires.capacity in
     let head : ℕ = c.index-head.result.now in
     let p : ℕ = head + 8 * c.loop-k.k in
-    let low = inside c.args.capacity p cap in
+    let low = inside_buffer c.args.capacity p cap in
     let c8 = capacity_aligned c.args.capacity cap in
     let at = c.word_index-index.ensures in
     let wide = c.requires.words in
@@ -63,7 +49,7 @@ loop-k-preserved c =
     let q : ℕ = head + 8 * c.loop-k.k in
     let i : ℕ = c.word_index-index.result in
     let at : i ≡ index C q = c.word_index-index.ensures in
-    let low = inside C q cap in
+    let low = inside_buffer C q cap in
     let wide = c.requires.words in
     let head8 = c.requires.head.0 in
     let old : List ℕ = c.args.words.now.items in

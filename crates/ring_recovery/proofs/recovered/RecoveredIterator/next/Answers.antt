@@ -6,8 +6,8 @@ pub returns-in-Some-clause-steps : goal.returns-in-Some-clause-steps
 returns-in-Some-clause-steps c =
     let r = c.loop-self.self in
     sym c.loop-self.invariant
-    ∙ finds_message r.capacity r.tail r.at r.words.now r.slots.now r.aligned c.loop-self-test.true c.message_at.result
-    c.recovered_header-header.result c.recovered_header-header.ensures (search rules) c.in-Some.message c.in-Some.is
+    ∙ finds_message r.capacity r.tail r.at r.words.now r.slots.now r.walk r.aligned c.loop-self-test.true
+    c.message_at.result c.found_at-found.result c.found_at-found.ensures (search rules) c.in-Some.message c.in-Some.is
 
 pub returns-in-Some-clause-goes : goal.returns-in-Some-clause-goes
 returns-in-Some-clause-goes c = search (rules, ap length (returns-in-Some-clause-steps c))
@@ -15,6 +15,6 @@ returns-in-Some-clause-goes c = search (rules, ap length (returns-in-Some-clause
 pub loop-self-preserved : goal.loop-self-preserved
 loop-self-preserved c =
     let r = c.loop-self.self in
-    sym (finds_none r.capacity r.tail r.at r.words.now r.slots.now r.aligned c.loop-self-test.true c.message_at.result
-    c.recovered_header-header.result c.recovered_header-header.ensures (search rules) (search rules))
+    sym (finds_none r.capacity r.tail r.at r.words.now r.slots.now r.walk r.aligned c.loop-self-test.true
+    c.message_at.result c.found_at-found.result c.found_at-found.ensures (search rules) (search rules))
     ∙ c.loop-self.invariant

@@ -1,9 +1,5 @@
-use Rattle.std.proofs.Common.{false, refl, inl, inr, subst, sym, rules}
+use Rattle.std.proofs.Common.{refl, inl}
 use Rattle.std.proofs.lemmas.Result.{err_from_is_err_and}
-use Rattle.ring_table.specs.declared.view.View.{View}
-use Rattle.ring_rings.specs.Making.{FindsShortage}
-use Rattle.ring_rings.proofs.LookLemmas.{looked_none, refuses_short}
-use Rattle.ring_rings.proofs.MoveLemmas.{moves_alone}
 use Rattle.ring_rings.proofs.RefusalLemmas.{refusal_is}
 use Rattle.ring_rings.proofs.kind.OneToOneKind.try_move.Goals as goal
 
@@ -13,41 +9,3 @@ returns-in_err-test_request-clause-told g c =
     let refused = refusal_is _ c.test_request.result fault c.test_request.ensures c.in_err-test_request.was in
     let t = err_from_is_err_and c.from_residual.result c.from_residual.ensures.1 in
     rw t.1 (rw t.2 (inl (refused, refl)))
-
-pub returns-in_err-admission-clause-told : goal.returns-in_err-admission-clause-told
-returns-in_err-admission-clause-told g c =
-    let fault = c.in_err-admission.field-0.0 in
-    let refused = refusal_is _ c.admit.result fault c.admit.ensures.refused c.in_err-admission.was in
-    let t = err_from_is_err_and c.from_residual-in_err-admission.result c.from_residual-in_err-admission.ensures.1 in
-    let same = sym (c.requires.own (c.requires.sole refl)) in
-    rw t.1 (rw t.2 (inr (inl record {
-      no_other = search rules;
-      tail = c.args.own_tail;
-      sees = same;
-      refused = refused;
-      view = looked_none c.args.seat.now.me.0 c.args.own_tail same;
-    })))
-
-pub returns-in_err-find_room-clause-told : goal.returns-in_err-find_room-clause-told
-returns-in_err-find_room-clause-told g c =
-    let a = c.in_ok-admission.admission in
-    let before : View = c.args.seat.now.me.0 in
-    let same = sym (c.requires.own (c.requires.sole refl)) in
-    let after : View = c.find_room.new.seat.me.0 in
-    let fault = c.in_err-find_room.field-0.0 in
-    let admitted = c.in_ok-admission.ensures.admitted in
-    let found = subst (λ n. FindsShortage c.args.capacity n a.end fault before after) admitted.tail_is
-    c.in_err-find_room.ensures.found in
-    let t = err_from_is_err_and c.from_residual-in_err-find_room.result
-    c.from_residual-in_err-find_room.ensures.1 in
-    rw t.1 (rw t.2 (refuses_short false c.args.capacity c.args.wanted.type_id c.args.wanted.len c.args.own_tail
-    before before after (search rules) same (looked_none before c.args.own_tail same) c.requires.sole
-    a.end fault admitted.end found))
-
-pub returns-clause-told : goal.returns-clause-told
-returns-clause-told g c =
-    moves_alone c.args.capacity c.args.own_tail c.args.wanted.type_id c.args.wanted.len c.in_ok-admission.admission
-    c.args.seat.now.me.0 c.find_room.new.seat.me.0
-    c.store_tail.new.producer.me.0 (search rules) c.in_ok-admission.ensures.admitted
-    c.in_ok-admission.ensures.whole (c.requires.own (c.requires.sole refl)) c.in_ok-find_room.ensures.found
-    c.store_tail.ensures.told

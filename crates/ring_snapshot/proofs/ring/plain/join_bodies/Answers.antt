@@ -24,9 +24,9 @@ returns-then-is_ordered-clause-joined c = λ C ok size.
     let wide : c.from.result ≡ D = search rules in
     let same : D ≡ C = same_capacity D C (length words) c.capacity-capacity.ensures.lawful ok long size in
     c.join_records.ensures.joined
-    ∙ ap (joined_from D slots t ((t - h) / 8) h)
+    ∙ ap (joined_from D slots t ((t - h) / 8) 0 h)
     (c.clear_words.ensures.words ∙ ap (λ K. with_zeros D t ((K - (t - h)) / 8) words) wide)
-    ∙ sym (cond-true _ (joined_from D slots t ((t - h) / 8) h (with_zeros D t ((D - (t - h)) / 8) words)) words
+    ∙ sym (cond-true _ (joined_from D slots t ((t - h) / 8) 0 h (with_zeros D t ((D - (t - h)) / 8) words)) words
     ordered)
     ∙ (λ i. joined_between D slots (head i) (tail i) words)
     ∙ ap (λ K. joined K slots words) same
@@ -44,7 +44,7 @@ returns-else-is_ordered-clause-joined c = λ C ok size.
     let tail : t ≡ slice_index words (tail_index D) = search rules in
     let long : length words ≡ D / 8 + 96 = search rules in
     let same : D ≡ C = same_capacity D C (length words) c.capacity-capacity.ensures.lawful ok long size in
-    sym (cond-false _ (joined_from D slots t ((t - h) / 8) h (with_zeros D t ((D - (t - h)) / 8) words)) words
+    sym (cond-false _ (joined_from D slots t ((t - h) / 8) 0 h (with_zeros D t ((D - (t - h)) / 8) words)) words
     unordered)
     ∙ (λ i. joined_between D slots (head i) (tail i) words)
     ∙ ap (λ K. joined K slots words) same
@@ -57,8 +57,8 @@ returns-then-is_ordered-clause-history c = λ C h ok size plain.
     let slots : length c.args.slots.now ≡ D / 8 = search rules in
     let same : D ≡ C = same_capacity D C (length words) c.capacity-capacity.ensures.lawful ok long size in
     subst (λ w. LiesBetween C words w h) (sym (returns-then-is_ordered-clause-joined c C ok size))
-    (joined_lies C words c.args.slots.now (slice_index words (tail_index C)) (slice_index words (head_index C)) h ok size
-    (slots ∙ ap (λ K. K / 8) same) plain)
+    (joined_lies C words c.args.slots.now (slice_index words (tail_index C)) (slice_index words (head_index C)) h ok
+    size (slots ∙ ap (λ K. K / 8) same) plain)
 
 pub returns-else-is_ordered-clause-history : goal.returns-else-is_ordered-clause-history
 returns-else-is_ordered-clause-history c = λ C h ok size plain.
@@ -68,5 +68,5 @@ returns-else-is_ordered-clause-history c = λ C h ok size plain.
     let slots : length c.args.slots.now ≡ D / 8 = search rules in
     let same : D ≡ C = same_capacity D C (length words) c.capacity-capacity.ensures.lawful ok long size in
     subst (λ w. LiesBetween C words w h) (sym (returns-else-is_ordered-clause-joined c C ok size))
-    (joined_lies C words c.args.slots.now (slice_index words (tail_index C)) (slice_index words (head_index C)) h ok size
-    (slots ∙ ap (λ K. K / 8) same) plain)
+    (joined_lies C words c.args.slots.now (slice_index words (tail_index C)) (slice_index words (head_index C)) h ok
+    size (slots ∙ ap (λ K. K / 8) same) plain)

@@ -14,7 +14,7 @@ load-mark-requires c =
     (λ _ n me'. LoadsMark c.args.consumer.now.me.0.capacity c.args.consumer.now.me.0.consumer.scan
     c.args.consumer.now.me.0.consumer.got c.args.consumer.now.me n me')
     (reads_next c.args.capacity c.args.ring.now.key.start _ _ c.args.consumer.now.me s.view_is c.requires.consumes s.home s.none
-    (omega arith))
+    (omega arith) (omega (arith, c.requires.done, at)))
 
 -- what the mark shows, in the words of the code
 shows : (c : After-load-mark) → LoadsMark c.args.capacity c.args.scan c.args.consumer.now.me.0.consumer.got

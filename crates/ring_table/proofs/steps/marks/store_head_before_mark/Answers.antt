@@ -12,7 +12,7 @@ store-requires c =
     head_step s.table_is s.words_are s.key_is s.lawful _ c.trailer_word.ensures c.args.head
     (λ _ me'. (me'.1 ≡ c.args.consumer.now.me.1) × StoresHeadBefore c.args.consumer.now.me.0 me'.0)
     (raises_head_before c.args.capacity c.args.ring.now.key.start _ _ c.args.consumer.now.me c.args.head l.front l.last
-    c.requires.consumes s.home l.got l.place c.requires.passed.0 c.requires.passed.1)
+    c.requires.consumes s.home l.got l.place c.requires.passed.0 c.requires.passed.1 c.requires.marked)
 
 pub returns-clause-seat : goal.returns-clause-seat
 returns-clause-seat c =

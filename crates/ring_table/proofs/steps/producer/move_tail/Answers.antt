@@ -11,6 +11,7 @@ use Rattle.ring_layout.specs.Headers.{open_header}
 use Rattle.ring_table.specs.Changes.{blank}
 use Rattle.ring_table.specs.Views.{Logs, Wanted}
 use Rattle.ring_table.specs.ProducerSteps.{MovesTail}
+use Rattle.ring_table.proofs.MarkSteps.{same_reader}
 use Rattle.ring_table.proofs.Calls.{same_seat, trailer_step, leaves_claim, leaves_same, of_as}
 use Rattle.ring_table.proofs.ClaimLemmas.{moves_tail}
 use Rattle.ring_table.proofs.steps.producer.move_tail.Goals as goal
@@ -34,7 +35,7 @@ compare_exchange_with-requires g c =
     c.args.wanted.type_id c.args.wanted.len _ c.requires.room.message.type_fits c.open_header-said.ensures)) in (
       t.0,
       dite (ℕ_discrete n old) (λ hit. leaves_claim g.M.Mode.bodies _ _ _ _ _ (told.hit hit))
-          (λ missed. leaves_same g.M.Mode.bodies (told.miss missed) refl refl refl refl refl),
+          (λ missed. leaves_same g.M.Mode.bodies (told.miss missed) refl refl refl (same_reader refl)),
     ))
     (moves_tail g.M.Mode.bodies c.args.capacity c.args.ring.now.key.start _ _ c.args.producer.now.me c.requires.seat.view_is old new
     c.args.wanted c.open_header-said.result

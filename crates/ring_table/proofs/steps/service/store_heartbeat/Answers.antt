@@ -7,7 +7,11 @@ use Rattle.ring_table.proofs.steps.service.store_heartbeat.Goals as goal
 pub store-requires : goal.store-requires
 store-requires g c = trailer_step g.M.Mode.bodies c.requires.seat _ 80 (omega arith) c.trailer_word.ensures (λ _. c.args.value)
     (λ _ me _ me'. (me'.1 ≡ me.1) × (me'.0 ≡ with_beat c.args.value me.0))
-    (λ _ _ t _ _ _. (t.0, leaves_same g.M.Mode.bodies t.1 refl refl refl refl refl))
+    (λ _ _ t _ _ _. (
+      t.0,
+      leaves_same g.M.Mode.bodies t.1 refl refl refl
+          (record { cleared = refl; head = refl; scan = refl; run = refl }),
+    ))
     (stores_heartbeat g.M.Mode.bodies c.args.capacity c.args.ring.now.key.start _ _ c.args.value c.args.consumer.now.me
     c.requires.consumes)
 
