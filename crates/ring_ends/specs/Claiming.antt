@@ -13,7 +13,7 @@ use Rattle.ring_rings.specs.Claiming.{Claims, RefusesTry}
 use Rattle.ring_rings.specs.Holding.{AreOpenAt}
 use Rattle.ring_rings.specs.Joining.{Joins}
 use Rattle.ring_ends.specs.Claims.{aborted, claim_numbered, without}
-use Rattle.ring_ends.specs.End.{Does, End}
+use Rattle.ring_ends.specs.End.{Does, End, OpensNone}
 use Rattle.ring_ends.specs.declared.claiming.Claimed.{Claimed}
 use Rattle.ring_ends.specs.declared.claiming.ClaimRefused.{ClaimRefused}
 use Rattle.ring_ends.specs.declared.claiming.ClaimRefused.TheVariants.{NoMemory, Refused}
@@ -52,6 +52,10 @@ TriesToKeep type_id len p r q =
 -- the call did this to the end, and the claims are as before
 abbrev pub OfEnd : {R : Type 0} → (End → R → End → Type 0) → NumberedClaims → R → NumberedClaims → Type 0
 OfEnd Call p r q = (q.claims ≡ p.claims) × Call p.end r q.end
+
+-- the claims are as before, and so is the end but for what it knows. No further claim is open
+abbrev pub KeepsNumbered : NumberedClaims → NumberedClaims → Type 0
+KeepsNumbered p q = (q.claims ≡ p.claims) × OpensNone p.end q.end
 
 -- the claim of this number is open, and P holds of it; otherwise the call returns NoClaim, and nothing changed
 abbrev pub WithClaim : ℕ → (ClaimAt → Type 0) → NumberedClaims → Result (Unit {0}) NumberFault → NumberedClaims

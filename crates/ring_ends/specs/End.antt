@@ -1,15 +1,17 @@
 -- An end of a ring: a producer or a consumer with its ring, and what a call of it did.
-use Rattle.std.specs.Prelude.{◌≡◌, ℕ, ℤ, List, length, Bool, true, Result, MatchResult, [], ◌∷◌, ◌++◌, OnErr, OnOk}
+use Rattle.std.specs.Prelude.{◌≡◌, ℕ, ℤ, List, length, Bool, true, Result, MatchResult, [], ◌∷◌, ◌++◌, take, IfOk, OnErr, OnOk}
 use Rattle.atomic_table.specs.Seated.{TableId}
 use Rattle.ring_layout.specs.declared.message.Message.{Message}
 use Rattle.ring_words.specs.Open.{ClaimAt}
 use Rattle.ring_words.specs.declared.fault.ClaimFault.{ClaimFault}
 use Rattle.ring_words.specs.declared.positions.Positions.{Positions}
+use Rattle.ring_table.specs.RunBodies.{messages_of}
+use Rattle.ring_table.specs.declared.runs.Outgoing.{Outgoing}
 use Rattle.ring_table.specs.declared.view.View.{View}
 use Rattle.ring_rings.specs.Claiming.{AfterTries, Claims, Refuses, RefusesTry, Writes}
 use Rattle.ring_rings.specs.Joining.{LoadsPositions}
 use Rattle.ring_rings.specs.Ring.{message, received_in, sent_in, HasMessageAt}
-use Rattle.ring_rings.specs.Seats.{view_of, IsOpenAt, KeepsOpen, MayClaim}
+use Rattle.ring_rings.specs.Seats.{view_of, IsOpenAt, KeepsOpen, MayClaim, OpensNoneAt}
 use Rattle.ring_rings.specs.declared.ring.Producer.{Producer}
 use Rattle.ring_rings.specs.declared.fault.TryFault.{TryFault}
 
@@ -61,6 +63,10 @@ IsOpenIn p t = IsOpenAt p.capacity p.view t
 abbrev pub HasMessage : End → ℕ → Message → Type 0
 HasMessage p place m = HasMessageAt p.view place m
 
+-- the call changed at most what the end knows. Its open claims and its shares stay, and no further claim is open
+abbrev pub OpensNone : End → End → Type 0
+OpensNone p q = AreOfOneRing p q × OpensNoneAt p.capacity p.view q.view
+
 -- what was open stays open
 abbrev pub KeepsClaims : End → End → Type 0
 KeepsClaims p q = KeepsOpen p.capacity p.view q.view
@@ -79,6 +85,11 @@ Either Done Refused v r w = MatchResult r (λ x. Done v x w) (λ fault. Refused 
 -- the message was sent, or nothing was
 abbrev pub Sends : {F : Type 0} → ℤ → List ℕ → End → Result (Unit {0}) F → End → Type 0
 Sends type_id body p r q = OnOk r (sent q ≡ sent p ++ message type_id body ∷ []) × OnErr r (sent q ≡ sent p)
+
+-- these messages were sent in their order, as many of the first ones as the call says, or none
+abbrev pub SendsFirst : {F : Type 0} → List Outgoing → End → Result ℕ F → End → Type 0
+SendsFirst messages p r q =
+    IfOk r (λ n. sent q ≡ sent p ++ messages_of (take n messages)) × OnErr r (sent q ≡ sent p)
 
 -- a try to write
 abbrev pub TriesWrite : Bool → ℕ → ℤ → List ℕ → View → Result (Unit {0}) TryFault → View → Type 0

@@ -7,7 +7,7 @@ ghost use Rattle.ring_table.specs.ServiceSteps.{DrawsId, LoadsHeartbeat};
 ghost use Rattle.ring_table.specs.Views.{producer_alone, without_share};
 ghost use Rattle.ring_ends.specs.declared.many_to_one.SplitFault.TheVariants.{OneShare};
 ghost use Rattle.ring_ends.specs.Claims.{claims_in};
-ghost use Rattle.ring_ends.specs.Claiming.{aborted_view, AreAllOpen, OfEnd, Puts, Settles, TakesIn};
+ghost use Rattle.ring_ends.specs.Claiming.{aborted_view, AreAllOpen, KeepsNumbered, OfEnd, Puts, Settles, TakesIn};
 ghost use Rattle.ring_ends.specs.Claiming.{TriesToKeep};
 ghost use Rattle.ring_ends.specs.End.{shares, AreOfOneTable, Does, IsOfEnd, LoadsThem, Sends, TriesWrite, WritesAlone};
 
@@ -21,7 +21,7 @@ use std::marker::Model;
 /// A producer with its ring and its open claims. The number of a claim is its place.
 #[derive(Drop)]
 pub struct NumberedEnd<K: Kind, B: Bodies> {
-    end: ProducerEnd<K, B>,
+    pub(crate) end: ProducerEnd<K, B>,
     claims: OpenClaims,
 }
 
@@ -90,6 +90,7 @@ impl<K: Kind, B: Bodies> NumberedEnd<K, B> {
         ensures sent { OfEnd (Sends type_id body.now) self.old result self.new }
         ensures does { OfEnd (Does (TriesWrite self.old.end.many self.old.end.capacity type_id body.now))
             self.old result self.new }
+        ensures keeps { KeepsNumbered self.old self.new }
     {
         self.end.try_write(type_id, body)
     }
