@@ -81,15 +81,14 @@ side identity p = record {
   claims = p.claims;
 }
 
--- the same, of a ring of either kind
-abbrev pub side_in : Identity → AnyProducer → Side
-side_in identity (any.Many p) = side identity p
-side_in identity (any.One p) = side identity p
+-- the end and the claims of a producer of a ring of either kind
+abbrev pub numbered_in : AnyProducer → NumberedClaims
+numbered_in (any.Many p) = p
+numbered_in (any.One p) = p
 
--- any number of producers write its ring
-abbrev pub writes_many : AnyProducer → Bool
-writes_many (any.Many p) = true
-writes_many (any.One p) = false
+-- a producer of a ring of either kind and of this number
+abbrev pub side_in : Identity → AnyProducer → Side
+side_in identity p = side identity (numbered_in p)
 
 -- the producer is of its kind
 abbrev pub IsOfKind : AnyProducer → Type 0

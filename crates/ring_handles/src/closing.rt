@@ -111,7 +111,7 @@ impl ConsumerSide {
             × IsNotLast self.old producer r.0) }
     {
         if self.last.is_some()
-            || !self.ring.is_like(&producer.end)
+            || !self.ring.is_like(&producer)
             || !self.identity.is(producer.identity)
         {
             return Err((OTHER_RING, producer));

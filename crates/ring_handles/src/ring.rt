@@ -1,7 +1,8 @@
 //! Rings of either kind, and their producers.
 ghost use Rattle.std.specs.Prelude.{◌≡◌, ◌≢◌, false, true};
-ghost use Rattle.ring_handles.specs.Side.{is_many, writes_many};
+ghost use Rattle.ring_handles.specs.Side.{is_many};
 
+use crate::producer::ProducerSide;
 use ring_ends::NumberedEnd;
 use ring_rings::{InSlots, ManyToOne, OneToOne, PlainManyToOneRing, PlainOneToOneRing};
 use std::sync::Arc;
@@ -17,14 +18,15 @@ pub enum AnyRing {
 
 impl AnyRing {
     /// Tests whether a producer is of a ring of the same kind.
-    pub(crate) fn is_like(&self, other: &AnyProducer) -> bool
-        ensures same { result ≡ true → is_many self.now ≡ writes_many other.now }
-        ensures others { result ≡ false → is_many self.now ≢ writes_many other.now }
+    pub(crate) fn is_like(&self, other: &ProducerSide) -> bool
+        ensures same { result ≡ true → is_many self.now ≡ other.now.many }
+        ensures others { result ≡ false → is_many self.now ≢ other.now.many }
     {
-        match (self, other) {
+        match (self, &other.end) {
             (AnyRing::Many(_), AnyProducer::Many(_)) => true,
+            (AnyRing::Many(_), AnyProducer::One(_)) => false,
+            (AnyRing::One(_), AnyProducer::Many(_)) => false,
             (AnyRing::One(_), AnyProducer::One(_)) => true,
-            _ => false,
         }
     }
 }
