@@ -202,6 +202,37 @@ static void full(uint32_t bytes) {
     end();
 }
 
+/* The marks of a batch --------------------------------------------------------------------------------------------- */
+
+static uint64_t loaded(size_t at) {
+    uint64_t value;
+    memcpy(&value, memory + at, 8);
+    return value;
+}
+
+/* The three records of a batch have one mark, which is the end of the last one. A read that stops after the first
+ * record leaves a mark for the others. */
+static void one_mark(int is_one) {
+    const size_t words = 128;
+    struct { felter_record record; uint8_t body[8]; } batch[3];
+    uint32_t written = 0;
+    uint8_t body[8];
+    int32_t type_id;
+    size_t len;
+    memset(batch, 0, sizeof batch);
+    for (int k = 0; k < 3; k++) {
+        batch[k].record.len = sizeof batch[k].body;
+        batch[k].record.type_id = k + 1;
+    }
+    begin(is_one, 512);
+    EXPECT(FELTER_OK, felter_write_batch(&producer, batch, sizeof batch, &written));
+    CHECK(written == 3);
+    CHECK(loaded(words) == 48 && loaded(words + 16) == 0 && loaded(words + 32) == 0);
+    EXPECT(FELTER_OK, felter_read(&consumer, &type_id, &len, body, sizeof body));
+    CHECK(type_id == 1 && loaded(words + 16) == 48 && loaded(words + 32) == 0);
+    end();
+}
+
 /* Damage ----------------------------------------------------------------------------------------------------------- */
 
 static void store(size_t at, uint64_t value) {
@@ -376,6 +407,7 @@ int main(void) {
     for (int is_one = 0; is_one < 2; is_one++) {
         for (uint32_t bytes = 128; bytes <= MOST; bytes *= 2) messages(is_one, bytes);
         claims(is_one);
+        one_mark(is_one);
         turns(is_one, 128);
         turns(is_one, 512);
     }
