@@ -138,7 +138,7 @@ def names_of(name, path, within):
     trait, _, own = within[-1][1].rpartition(" for ")
     kind, of = TYPE.match(own.strip()).groups()
     trait, given = TYPE.match(trait.strip()).groups()
-    of, given = of.replace(", ", "+"), re.sub(r"<.*|\W", "", given)
+    of, given = named(of.replace(", ", "+")), re.sub(r"<.*|\W", "", given)
     argument = f"{kind}{trait}{given[:1].upper()}{given[1:]}::" if trait else f"{kind}+{of}::"
     more = trait and trait + r"[\w+]*"
     return f"{kind}::{name}", rf"::{kind}(\+[\w+]+)?{more}::{name}$", argument
@@ -157,7 +157,12 @@ def folder_of(path, within):
     given = [it for it in of.split(", ") if it and not it.startswith("'")]
     if all(re.search(rf"[<,] ?{re.escape(it)}\b", parameters) for it in given):
         return kind
-    return "/".join([module, "+".join([kind, *given])])
+    return "/".join([module, "+".join([kind, *map(named, given)])])
+
+
+def named(arguments):
+    """Returns arguments of a type as a check names them: `ref+slice+u8` for `&[u8]`, and `Vec+u8` for `Vec<u8>`."""
+    return re.sub(r"[>\]]", "", arguments.replace("&", "ref+").replace("[", "slice+").replace("<", "+"))
 
 
 def at_place(functions, place):

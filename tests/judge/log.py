@@ -7,6 +7,8 @@ ERROR = re.compile(r"(?:\./)?proofs/(\S+)/\w+\.antt:(\d+:\d+: error: .*)")
 ITEM = re.compile(r"(?:fn|impl|struct|enum|trait) (\S+): (.*)")
 # A proof file names what the edit took away.
 GONE = re.compile(r"has no field|is not in scope|has no `|was not found")
+# What a message names goes on in its next line, if the message is long.
+NEXT_LINE = re.compile(r"\n {2}(?=has no |is not in scope|was not found)")
 # Something depends on a declaration that was refused.
 FOLLOWS = re.compile(r"declarations? that depends? on `|was not admitted")
 # A name that is declared in a copy's answers and has no definition. An answer that is refused keeps a check, which has
@@ -19,6 +21,7 @@ class Log:
     """The output of a check, by function: its status, the goals of its own that failed, and names that are gone."""
 
     def __init__(self, crate, text, status):
+        text = NEXT_LINE.sub(" ", text)
         self.text, self.status, self.functions = text, status, {}
         self.own, self.gone = collections.defaultdict(list), collections.defaultdict(list)
         self.is_verdict = status == 3 or bool(re.search(r"^(logic=(not-)?proved|only=\d+ proved=)", text, re.M))

@@ -12,7 +12,7 @@ use Rattle.ring_words.specs.declared.read.end.Stop.TheVariants.{Block, Unpublish
 use Rattle.ring_words.specs.Controlled.{GoesOn}
 use Rattle.ring_table.specs.declared.claim.PlacedMessage.{PlacedMessage}
 use Rattle.ring_table.specs.declared.view.View.{View}
-use Rattle.ring_rings.specs.Reading.{Controls, EndsAt, FoundUnsettled, IsNext, Reads, messages_of}
+use Rattle.ring_rings.specs.Reading.{Controls, EndsAt, FoundUnsettled, Reads, messages_of}
 use Rattle.ring_handles.specs.declared.batch.Laying.{Laying}
 use Rattle.ring_handles.specs.Batch.{Batch, HasNoRoomAt, IsShort, LaidNone, LaysIn, Lays, LeavesOut, NoMoreCame, ReadBatch, ReadsBatch, TookBatch, TookSome, batch, laid, laid_end, span_in}
 use Rattle.ring_handles.specs.Consuming.{CameToEnd, RanOut, TookNone}

@@ -1,6 +1,6 @@
 -- How a read that its handler controls leaves the consumer, why it took nothing, and two reads as one.
-use Rattle.std.proofs.Common.{◌≡◌, ◌⊎◌, false, inl, inr, ℕ, ◌+◌, ◌%◌, ◌<◌, ◌&&◌, ◌==◌, nat_lt, if◌then◌else◌, ℤ, pos, List, ◌++◌, arith, sym, ap, ◌∙◌, subst}
-use Rattle.std.proofs.lemmas.Bool.{and_parts, cases_Bool, cases_lt, cond-true, cond-false, eqb-true, ltb-true, ne_eqb}
+use Rattle.std.proofs.Common.{◌≡◌, ◌⊎◌, false, inl, inr, ℕ, ◌+◌, ◌%◌, ◌&&◌, ◌==◌, nat_lt, if◌then◌else◌, ℤ, pos, List, ◌++◌, arith, sym, ap, ◌∙◌, subst}
+use Rattle.std.proofs.lemmas.Bool.{and_parts, cases_Bool, cond-true, cond-false, eqb-true, ltb-true}
 use Rattle.std.proofs.lemmas.List.{append_assoc}
 use Rattle.ring_layout.specs.declared.message.Message.{Message}
 use Rattle.ring_words.specs.declared.read.action.Action.{Action}

@@ -1,5 +1,5 @@
 -- Batches that a producer writes.
-use Rattle.std.proofs.Common.{◌≡◌, ℕ, ◌+◌, ◌*◌, ◌/◌, ◌^◌, ◌<◌, ◌≤◌, ℤ, pos, ◌-◌, zero, suc, List, [], ◌∷◌, ◌++◌, Bool, length, take, drop, get_or, refl, sym, ap, ◌∙◌, subst, append_assoc, arith, length-append, inl, inr, slice_set}
+use Rattle.std.proofs.Common.{◌≡◌, ℕ, ◌+◌, ◌<◌, ◌≤◌, ℤ, pos, ◌-◌, suc, List, [], ◌∷◌, ◌++◌, Bool, length, take, drop, get_or, refl, sym, ap, ◌∙◌, subst, append_assoc, arith, length-append, inl, inr, slice_set}
 use Rattle.std.proofs.lemmas.List.{append-nil, drop_more, length-drop, length-take-le, take-append-drop, take_all, take_more, take_more_set, take_rest}
 use Rattle.ring_layout.specs.declared.message.Message.{Message}
 use Rattle.ring_table.specs.declared.runs.Outgoing.{Outgoing}
@@ -7,7 +7,6 @@ use Rattle.ring_table.specs.declared.view.View.{View}
 use Rattle.ring_table.specs.RunBodies.{message_of, messages_of}
 use Rattle.ring_table.proofs.RunFill.{messages_on}
 use Rattle.ring_rings.specs.Ring.{sent_in}
-use Rattle.ring_rings.specs.Seats.{OpensNoneAt}
 use Rattle.ring_handles.specs.Batch.{laid_end, span_in}
 use Rattle.ring_handles.specs.Producing.{IsRefused}
 use Rattle.ring_handles.specs.WritingBatch.{AreRecords, Begins, HasRest, IsBatch, IsInside, IsRecord, StopsAt, WritesSome, message_at, word_at}
@@ -197,15 +196,6 @@ stops_at many C os k d code v before w less was stays refused = record {
   before = before;
   so_far = was;
   refused = refused;
-}
-
-pub opens_none_on : (C : ℕ) (u v w : View) → OpensNoneAt C u v → OpensNoneAt C v w → OpensNoneAt C u w
-opens_none_on C u v w first then = record {
-  holdings = record {
-    claims = λ t h. then.holdings.claims t (first.holdings.claims t h);
-    shares = then.holdings.shares ∙ first.holdings.shares;
-  };
-  open_claims = then.open_claims ∙ first.open_claims;
 }
 
 -- these messages were written, which are the first ones of a batch, up to this byte

@@ -2,7 +2,6 @@ pub mod Adding
 pub mod Batch
 pub mod Boards
 pub mod Calling
-pub mod Claims
 pub mod Closing
 pub mod Conducting
 pub mod Consuming
@@ -20,6 +19,5 @@ pub mod Returning
 pub mod Seating
 pub mod Serving
 pub mod Side
-pub mod Slots
 pub mod Taking
 pub mod WritingBatch

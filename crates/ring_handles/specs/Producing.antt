@@ -1,5 +1,5 @@
 -- What a producer's calls do: p is the producer before, q after, and the code is what is returned.
-use Rattle.std.specs.Prelude.{◌≡◌, ◌≢◌, ◌⊎◌, ℕ, ◌+◌, ◌<◌, ℤ, pos, List, [], ◌∷◌, ◌++◌, length, MatchOption, Bool, true, false}
+use Rattle.std.specs.Prelude.{◌≡◌, ◌≢◌, ◌⊎◌, ℕ, ◌+◌, ◌<◌, ℤ, pos, List, [], ◌∷◌, ◌++◌, length, MatchOption, Bool, true, false, Result, Ok, Err}
 use Rattle.ring_layout.specs.declared.message.ClaimState.{ClaimState}
 use Rattle.ring_words.specs.Open.{ClaimAt}
 use Rattle.ring_rings.specs.declared.fault.TryFault.{TryFault}
@@ -12,7 +12,9 @@ use Rattle.ring_rings.specs.Bodies.{PutsBytes}
 use Rattle.ring_rings.specs.Claiming.{Claims, RefusesTry, Writes}
 use Rattle.ring_rings.specs.Joining.{Joins, LoadsPositions}
 use Rattle.ring_rings.specs.Claiming.{try_code}
-use Rattle.ring_handles.specs.Claims.{aborted, claim_numbered, without}
+use Rattle.ring_ends.specs.Claims.{aborted, claim_numbered, without}
+use Rattle.ring_ends.specs.declared.claiming.NumberFault.{NumberFault}
+use Rattle.ring_ends.specs.declared.claiming.NumberFault.TheVariants.{NoClaim, PutRange}
 use Rattle.ring_handles.specs.Side.{Side, knowing}
 
 -- it was refused with this number, and nothing changed
@@ -60,6 +62,12 @@ Claimed type_id len before number p q code = ((code ≡ pos 0) × MadeClaim type
 -- the claim of this number is open, and P holds; otherwise 104
 abbrev pub WithClaim : ℕ → (ClaimAt → Type 0) → Side → Side → ℤ → Type 0
 WithClaim number P p q code = MatchOption (claim_numbered number p.claims) (Declined (pos 104) p q code) P
+
+-- the code of a call that names a claim by its number
+abbrev pub number_code : Result (Unit {0}) NumberFault → ℤ
+number_code (Ok x) = pos 0
+number_code (Err NoClaim) = pos 104
+number_code (Err PutRange) = pos 9
 
 -- bytes were put into the claim of this number, or are not inside it
 abbrev pub Put : ℕ → ℕ → List ℕ → Side → Side → ℤ → Type 0

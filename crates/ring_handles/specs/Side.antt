@@ -8,13 +8,13 @@ use Rattle.ring_table.specs.declared.view.View.{View}
 use Rattle.ring_words.specs.Open.{ClaimAt}
 use Rattle.ring_rings.specs.Closing.{close_refusal_of}
 use Rattle.ring_rings.specs.declared.fault.CloseFault.{CloseFault}
-use Rattle.ring_rings.specs.declared.ring.Ring.{Ring}
-use Rattle.ring_rings.specs.declared.bodies.Bodies.{Ghosts}
 use Rattle.ring_rings.specs.declared.ring.Producer.{Producer}
 use Rattle.ring_rings.specs.declared.ring.Consumer.{Consumer}
-use Rattle.ring_rings.specs.Holding.{AreOpen}
-use Rattle.ring_rings.specs.Seats.{capacity_of, shares_of, start_of, view_of, IsConsumerOf, IsProducerOf}
+use Rattle.ring_rings.specs.Seats.{capacity_of, shares_of, start_of, IsConsumerOf, IsProducerOf}
 use Rattle.ring_handles.specs.declared.identity.Identity.{Identity}
+use Rattle.ring_ends.specs.Claiming.{NumberedClaims}
+use Rattle.ring_handles.specs.declared.ring.AnyProducer.{AnyProducer}
+use Rattle.ring_handles.specs.declared.ring.AnyProducer.TheVariants as any
 use Rattle.ring_handles.specs.declared.ring.AnyRing.{AnyRing}
 use Rattle.ring_handles.specs.declared.ring.AnyRing.TheVariants.{Many, One}
 
@@ -45,11 +45,6 @@ abbrev pub IsProducerIn : AnyRing → Producer → Type 0
 IsProducerIn (Many ring) p = IsProducerOf (arc_value ring) p
 IsProducerIn (One ring) p = IsProducerOf (arc_value ring) p × (shares_of p ≡ all_shares)
 
--- these are open claims of its producer
-abbrev pub AreClaimsIn : AnyRing → Producer → List ClaimAt → Type 0
-AreClaimsIn (Many ring) p claims = AreOpen (arc_value ring) p claims
-AreClaimsIn (One ring) p claims = AreOpen (arc_value ring) p claims
-
 abbrev pub IsConsumerIn : AnyRing → Consumer → Type 0
 IsConsumerIn (Many ring) c = IsConsumerOf (arc_value ring) c
 IsConsumerIn (One ring) c = IsConsumerOf (arc_value ring) c
@@ -75,32 +70,30 @@ pub record Side : Type 0 where
   -- the claims that are open, the oldest first
   pub claims : List ClaimAt
 
--- the producer of a ring of this kind and number, with these open claims
-abbrev pub side : {K B : Type 0} {G : Ghosts B} → Bool → Identity → Ring K B G → Producer → List ClaimAt → Side
-side {K} {B} {G} many identity ring p claims = record {
-  many = many;
-  table = ring.table.shared.table_id;
+-- a producer of a ring of this number
+abbrev pub side : Identity → NumberedClaims → Side
+side identity p = record {
+  many = p.end.many;
+  table = p.end.table;
   identity = identity;
-  capacity = capacity_of ring;
-  view = view_of p;
-  claims = claims;
+  capacity = p.end.capacity;
+  view = p.end.view;
+  claims = p.claims;
 }
 
--- the same, of a ring of either kind
-abbrev pub side_in : AnyRing → Identity → Producer → List ClaimAt → Side
-side_in ring identity p claims = record {
-  many = is_many ring;
-  table = table_in ring;
-  identity = identity;
-  capacity = capacity_in ring;
-  view = view_of p;
-  claims = claims;
-}
+-- the end and the claims of a producer of a ring of either kind
+abbrev pub numbered_in : AnyProducer → NumberedClaims
+numbered_in (any.Many p) = p
+numbered_in (any.One p) = p
 
--- the producer and the claims are the ring's
-pub record IsSide (ring : AnyRing) (producer : Producer) (claims : List ClaimAt) : Type 0 where
-  pub of : IsProducerIn ring producer
-  pub claimed : AreClaimsIn ring producer claims
+-- a producer of a ring of either kind and of this number
+abbrev pub side_in : Identity → AnyProducer → Side
+side_in identity p = side identity (numbered_in p)
+
+-- the producer is of its kind
+abbrev pub IsOfKind : AnyProducer → Type 0
+IsOfKind (any.Many p) = p.end.many ≡ true
+IsOfKind (any.One p) = p.end.many ≡ false
 
 -- the producer that knows this
 abbrev pub knowing : View → Side → Side

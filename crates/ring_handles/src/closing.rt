@@ -12,7 +12,7 @@ ghost use Rattle.ring_handles.specs.Side.{close_refusal, IsOfThisRing};
 use crate::code::{CLAIMS_OPEN, IN_USE, OTHER_RING, PRODUCERS_OUT};
 use crate::consumer::ConsumerSide;
 use crate::producer::ProducerSide;
-use crate::ring::{AnyRing, on_ring};
+use crate::ring::{AnyRing, on_end};
 use ring_layout::ALL_SHARES;
 use ring_rings::{Consumer, PlainRing, Producer};
 use std::sync::Arc;
@@ -36,11 +36,11 @@ fn test_close(side: &ProducerSide) -> Result<(), i32>
     ensures { MatchResult result (λ _. open_count side.now.view.producer.claims ≡ 0)
         (λ code. MatchOption (close_refusal side.now.view) ⊥ (λ fault. code ≡ close_code fault)) }
 {
-    if side.producer.open_claims() > 0 {
+    if on_end!(&side.end, end => end.open_claims()) > 0 {
         return Err(CLAIMS_OPEN);
     }
-    let owners = on_ring!(side.ring, ring => Arc::strong_count(ring));
-    if side.producer.shares() != ALL_SHARES && owners > 2 {
+    let owners = on_end!(&side.end, end => end.owners());
+    if on_end!(&side.end, end => end.shares()) != ALL_SHARES && owners > 2 {
         return Err(PRODUCERS_OUT);
     }
     Ok(())
@@ -111,7 +111,7 @@ impl ConsumerSide {
             × IsNotLast self.old producer r.0) }
     {
         if self.last.is_some()
-            || !self.ring.is_like(&producer.ring)
+            || !self.ring.is_like(&producer)
             || !self.identity.is(producer.identity)
         {
             return Err((OTHER_RING, producer));
@@ -119,13 +119,8 @@ impl ConsumerSide {
         if let Err(code) = test_close(&producer) {
             return Err((code, producer));
         }
-        let ProducerSide {
-            ring: _,
-            identity: _,
-            producer,
-            claims: _,
-        } = producer;
-        self.last = Some(producer);
+        let ProducerSide { end, identity: _ } = producer;
+        self.last = Some(on_end!(end, end => end.into_producer()));
         Ok(())
     }
 

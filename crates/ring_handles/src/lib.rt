@@ -3,8 +3,8 @@
 //!
 //! - `handle`, `held`, `loose`: what such a program keeps, and what it can be. `identity`: what distinguishes two
 //!   rings. `code`: what calls return. `opening`: what is made for handles.
-//! - `producer`, `claims`, `open_claims`, `writing_batch`, `consumer`, `copying`, `taking`, `batch`, `closing`, `ring`:
-//!   handles of a ring.
+//! - `producer`, `claims`, `writing_batch`, `consumer`, `copying`, `taking`, `batch`, `closing`, `ring`: handles of a
+//!   ring.
 //! - `boards`, `raw`, `board_ending`: handles of a broadcast buffer. `counters`, `counting`, `reading`: of counters and
 //!   their readers. `adders`, `adding`: of shared counters.
 //! - `conductor`, `client`, `lending`, `finishing`: a conductor, its clients, and what it lends.
@@ -33,7 +33,6 @@ mod held;
 mod identity;
 mod lending;
 mod loose;
-mod open_claims;
 mod opening;
 mod producer;
 mod raw;

@@ -1,13 +1,13 @@
 //! What is made for handles: rings, broadcast buffers, counters, shared counters and conductors, each in a box.
-ghost use Rattle.std.specs.Prelude.{◌≡◌, ◌≢◌, pos, true, false, IfErr, IfOk, MatchResult};
+ghost use Rattle.std.specs.Prelude.{◌≡◌, ◌≢◌, [], pos, true, false, IfErr, IfOk, MatchResult};
 ghost use Rattle.std.specs.Arc.{arc_value};
 ghost use Rattle.std.specs.declared.option.Option.TheVariants.{Some};
-ghost use Rattle.ring_rings.specs.Seats.{consumer_view, view_of};
+ghost use Rattle.ring_rings.specs.Seats.{consumer_view};
 ghost use Rattle.ring_handles.specs.Conducting.{IsConductorCode};
 ghost use Rattle.ring_handles.specs.Opening.{HoldFirstAdder, HoldFresh, HoldFreshCounters, HoldNewBoard};
 ghost use Rattle.ring_handles.specs.Opening.{HoldNewConductor, HoldPair, IsAdderCode, IsBoardCode, IsCountersCode};
 ghost use Rattle.ring_handles.specs.Opening.{IsMakeCode};
-ghost use Rattle.ring_handles.specs.Side.{capacity_in, is_many, start_in, table_in, IsConsumerIn, IsProducerIn};
+ghost use Rattle.ring_handles.specs.Side.{capacity_in, is_many, side_in, start_in, table_in, IsConsumerIn, IsOfKind};
 
 use crate::adders::AdderSide;
 use crate::boards::TransmitterSide;
@@ -18,13 +18,13 @@ use crate::consumer::ConsumerSide;
 use crate::counters::CountersSide;
 use crate::held::Held;
 use crate::identity::Identity;
-use crate::open_claims::OpenClaims;
 use crate::producer::ProducerSide;
-use crate::ring::AnyRing;
+use crate::ring::{AnyProducer, AnyRing};
 use ring_adders::SharedCounter;
 use ring_board::Board;
 use ring_counters::CountersManager;
-use ring_rings::{Consumer, PlainManyToOneRing, PlainOneToOneRing, Producer};
+use ring_ends::{NumberedEnd, ProducerEnd};
+use ring_rings::{Consumer, PlainManyToOneRing, PlainOneToOneRing};
 use std::alloc::Global;
 use std::sync::Arc;
 
@@ -77,27 +77,21 @@ pub fn room(alloc: Global) -> Result<Box<Held>, i32>
 fn box_both(
     alloc: Global,
     identity: Identity,
+    end: AnyProducer,
     ring: AnyRing,
-    same: AnyRing,
-    producer: Producer,
     consumer: Consumer,
 ) -> Result<Pair, i32>
-    requires same { (is_many same ≡ is_many ring) × (table_in same ≡ table_in ring)
-        × (capacity_in same ≡ capacity_in ring) × (start_in same ≡ start_in ring) }
-    requires producer { IsProducerIn ring producer }
-    requires consumer { IsConsumerIn same consumer }
-    ensures made { IfOk result (λ made. HoldPair (is_many ring) identity (capacity_in ring)
-        (start_in ring) (view_of producer) (consumer_view consumer) (Some made.0.value) (Some made.1.value)) }
+    requires kind { IsOfKind end }
+    requires same { ((side_in identity end).many ≡ is_many ring) × ((side_in identity end).table ≡ table_in ring)
+        × ((side_in identity end).capacity ≡ capacity_in ring) × ((side_in identity end).claims ≡ []) }
+    requires consumer { IsConsumerIn ring consumer }
+    ensures made { IfOk result (λ made. HoldPair (is_many ring) identity (capacity_in ring) (start_in ring)
+        (side_in identity end).view (consumer_view consumer) (Some made.0.value) (Some made.1.value)) }
     ensures refused { IfErr result (λ code. code ≡ pos 3) }
 {
-    let one = Held::Producer(ProducerSide {
-        ring,
-        identity,
-        producer,
-        claims: OpenClaims::new(alloc),
-    });
+    let one = Held::Producer(ProducerSide { end, identity });
     let two = Held::Consumer(ConsumerSide {
-        ring: same,
+        ring,
         identity,
         consumer,
         last: None,
@@ -125,8 +119,8 @@ pub fn open_many_to_one(
         Err(fault) => return Err(fault.code()),
     };
     let (ring, same) = share(alloc, ring)?;
-    let (ring, same) = (AnyRing::Many(ring), AnyRing::Many(same));
-    box_both(alloc, identity, ring, same, producer, consumer)
+    let end = AnyProducer::Many(NumberedEnd::of(alloc, ProducerEnd::of(ring, producer)));
+    box_both(alloc, identity, end, AnyRing::Many(same), consumer)
 }
 
 /// Makes a ring of one producer, which holds all shares, with its consumer. It refuses as `open_many_to_one`.
@@ -146,8 +140,8 @@ pub fn open_one_to_one(
         Err(fault) => return Err(fault.code()),
     };
     let (ring, same) = share(alloc, ring)?;
-    let (ring, same) = (AnyRing::One(ring), AnyRing::One(same));
-    box_both(alloc, identity, ring, same, producer, consumer)
+    let end = AnyProducer::One(NumberedEnd::of(alloc, ProducerEnd::of(ring, producer)));
+    box_both(alloc, identity, end, AnyRing::One(same), consumer)
 }
 
 /// Makes a broadcast buffer, with a transmitter that holds all shares. The errors are those of `open_many_to_one`.

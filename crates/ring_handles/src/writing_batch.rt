@@ -1,21 +1,21 @@
 //! Batches that a producer writes, from bytes in which their messages lie one after another.
 ghost use Rattle.std.specs.Prelude.{◌≡◌, ℕ, ◌+◌, ◌*◌, ◌^◌, ◌≤◌, ◌<◌, ◌++◌, IfErr, IfOk, List, OnOk, length, take as first_of};
 ghost use Rattle.ring_layout.specs.declared.message.Message.{Message};
+ghost use Rattle.ring_ends.specs.Claiming.{KeepsNumbered};
+ghost use Rattle.ring_ends.specs.End.{sent};
 ghost use Rattle.ring_handles.specs.Batch.{span_in};
 ghost use Rattle.ring_handles.specs.Side.{side};
 ghost use Rattle.ring_handles.specs.WritingBatch.{message_at, word_at, Begins, HasRest, HasType, IsBadRecord, IsBatch, IsInside, IsNoBatch, IsRecord, StopsAt, WritesSome, WroteBatch};
 ghost use Rattle.ring_handles.specs.declared.identity.Identity.{Identity};
-ghost use Rattle.ring_rings.specs.Ring.{sent};
-ghost use Rattle.ring_rings.specs.Seats.{capacity_of, view_of, IsProducerOf, MayClaim, OpensNone};
 ghost use Rattle.ring_table.specs.RunBodies.{message_of, messages_of as batch_of};
-ghost use Rattle.ring_words.specs.Open.{ClaimAt};
 
 use crate::batch::span_in;
 use crate::code::{BAD_TYPE, DONE, PUT_RANGE, TOO_LONG};
 use crate::producer::ProducerSide;
-use crate::ring::on_ring;
+use crate::ring::on_end;
+use ring_ends::NumberedEnd;
 use ring_layout::{first_word, max_message};
-use ring_rings::{Kind, Outgoing, PlainRing, Producer};
+use ring_rings::{InSlots, Kind, Outgoing};
 
 /// The most messages that are passed to the ring at once.
 const CHUNK: usize = 64;
@@ -114,19 +114,12 @@ fn gather<'a>(records: &'a [u8], start: usize, chunk: &mut [Outgoing<'a>]) -> Ga
 }
 
 /// Writes the first messages, and returns how many were written.
-fn write_some<K: Kind>(
-    ring: &PlainRing<K>,
-    producer: &mut Producer,
-    messages: &[Outgoing<'_>],
-) -> usize
-    requires producer { IsProducerOf ring.now producer.old }
-    requires sole { MayClaim K.many producer.old }
-    ensures producer { IsProducerOf ring.now producer.new }
+fn write_some<K: Kind>(end: &mut NumberedEnd<K, InSlots>, messages: &[Outgoing<'_>]) -> usize
     ensures count { result ≤ length messages.now }
-    ensures sent { sent producer.new ≡ sent producer.old ++ batch_of (first_of result messages.now) }
-    ensures keeps { OpensNone ring.now producer.old producer.new }
+    ensures sent { sent end.new.end ≡ sent end.old.end ++ batch_of (first_of result messages.now) }
+    ensures keeps { KeepsNumbered end.old end.new }
 {
-    match ring.write_batch(producer, messages) {
+    match end.write_batch(messages) {
         Ok(count) => count,
         Err(_) => 0,
     }
@@ -134,26 +127,22 @@ fn write_some<K: Kind>(
 
 /// Writes messages in their order, until one is refused. Then it returns how many were written, and the code.
 fn write_messages<K: Kind>(
-    ring: &PlainRing<K>,
-    producer: &mut Producer,
+    end: &mut NumberedEnd<K, InSlots>,
     messages: &[Outgoing<'_>],
 ) -> Result<(), (usize, i32)>
-    requires producer { IsProducerOf ring.now producer.old }
-    requires sole { MayClaim K.many producer.old }
-    ensures producer { IsProducerOf ring.now producer.new }
-    ensures sent { OnOk result (sent producer.new ≡ sent producer.old ++ batch_of messages.now) }
-    ensures stops { IfErr result (λ r. StopsAt K.many (capacity_of ring.now) (batch_of messages.now) r.0 r.1
-        (view_of producer.old) (view_of producer.new)) }
-    ensures keeps { OpensNone ring.now producer.old producer.new }
+    ensures sent { OnOk result (sent end.new.end ≡ sent end.old.end ++ batch_of messages.now) }
+    ensures stops { IfErr result (λ r. StopsAt end.old.end.many end.old.end.capacity (batch_of messages.now) r.0 r.1
+        end.old.end.view end.new.end.view) }
+    ensures keeps { KeepsNumbered end.old end.new }
 {
     let mut written = 0;
     while written < messages.len() {
-        written += write_some(ring, producer, &messages[written..]);
+        written += write_some(end, &messages[written..]);
         if written == messages.len() {
             return Ok(());
         }
         let next = messages[written];
-        match ring.try_write(producer, next.type_id, next.body) {
+        match end.try_write(next.type_id, next.body) {
             Ok(()) => written += 1,
             Err(fault) => return Err((written, fault.code())),
         }
@@ -163,19 +152,14 @@ fn write_messages<K: Kind>(
 
 /// Writes the messages of a batch, a chunk at a time.
 fn write_chunks<K: Kind>(
-    ring: &PlainRing<K>,
-    producer: &mut Producer,
+    end: &mut NumberedEnd<K, InSlots>,
     records: &[u8],
     written: &mut u32,
 ) -> i32
-    requires producer { IsProducerOf ring.now producer.old }
-    requires sole { MayClaim K.many producer.old }
-    requires batch { (ms : List Message) × IsBatch (capacity_of ring.now) records.now ms }
-    ensures producer { IsProducerOf ring.now producer.new }
-    ensures written { (ms : List Message) → IsBatch (capacity_of ring.now) records.now ms
-        → WritesSome K.many (capacity_of ring.now) ms written.new result (view_of producer.old)
-        (view_of producer.new) }
-    ensures keeps { OpensNone ring.now producer.old producer.new }
+    requires batch { (ms : List Message) × IsBatch end.old.end.capacity records.now ms }
+    ensures written { (ms : List Message) → IsBatch end.old.end.capacity records.now ms
+        → WritesSome end.old.end.many end.old.end.capacity ms written.new result end.old.end.view end.new.end.view }
+    ensures keeps { KeepsNumbered end.old end.new }
 {
     let none = Outgoing {
         type_id: 1,
@@ -185,7 +169,7 @@ fn write_chunks<K: Kind>(
     let (mut at, mut count) = (0, 0);
     while at < records.len() {
         let gathered = gather(records, at, &mut chunk);
-        if let Err((some, code)) = write_messages(ring, producer, &chunk[..gathered.count]) {
+        if let Err((some, code)) = write_messages(end, &chunk[..gathered.count]) {
             *written = (count + some) as u32;
             return code;
         }
@@ -198,24 +182,18 @@ fn write_chunks<K: Kind>(
 
 /// Writes a batch into a ring.
 fn write_batch_in<K: Kind>(
-    ring: &PlainRing<K>,
-    producer: &mut Producer,
+    end: &mut NumberedEnd<K, InSlots>,
     records: &[u8],
     written: &mut u32,
 ) -> i32
-    requires producer { IsProducerOf ring.now producer.old }
-    requires sole { MayClaim K.many producer.old }
-    ensures producer { IsProducerOf ring.now producer.new }
-    ensures keeps { OpensNone ring.now producer.old producer.new }
-    ensures wrote { (identity : Identity) (claims : List ClaimAt)
-        → WroteBatch records.now written.new (side K.many identity ring.now producer.old claims)
-        (side K.many identity ring.now producer.new claims) result }
+    ensures kind { end.new.end.many ≡ end.old.end.many }
+    ensures code { (i : Identity) → WroteBatch records.now written.new (side i end.old) (side i end.new) result }
 {
-    if let Err(code) = test_records(ring.capacity(), records) {
+    if let Err(code) = test_records(end.capacity(), records) {
         *written = 0;
         return code;
     }
-    write_chunks(ring, producer, records, written)
+    write_chunks(end, records, written)
 }
 
 impl ProducerSide {
@@ -223,6 +201,6 @@ impl ProducerSide {
     pub fn write_batch(&mut self, records: &[u8], written: &mut u32) -> i32
         ensures { WroteBatch records.now written.new self.old self.new result }
     {
-        on_ring!(self.ring, ring => write_batch_in(ring, &mut self.producer, records, written))
+        on_end!(&mut self.end, end => return write_batch_in(end, records, written))
     }
 }

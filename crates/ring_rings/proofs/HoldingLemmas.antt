@@ -3,11 +3,9 @@ use Rattle.std.proofs.Common.{◌≡◌, ◌≢◌, ℕ, suc, ◌<◌, List, [],
 use Rattle.std.proofs.lemmas.List.{set-get_or, set_split}
 use Rattle.std.proofs.lemmas.List.Elements.{All-append, All-cons, All-head, All-nil, All-push, All-tail, All-weaker}
 use Rattle.ring_words.specs.Open.{ClaimAt}
-use Rattle.ring_rings.specs.declared.ring.Ring.{Ring}
-use Rattle.ring_rings.specs.declared.bodies.Bodies.{Ghosts}
-use Rattle.ring_rings.specs.declared.ring.Producer.{Producer}
-use Rattle.ring_rings.specs.Holding.{in_slots, AreApart, AreOpen}
-use Rattle.ring_rings.specs.Seats.{IsOpenClaimOf, KeepsBoth, KeepsClaims, KeepsOthers, LiesApart}
+use Rattle.ring_table.specs.declared.view.View.{View}
+use Rattle.ring_rings.specs.Holding.{in_slots, AreApart, AreOpenAt}
+use Rattle.ring_rings.specs.Seats.{IsOpenAt, KeepsAllBut, KeepsBothOpen, KeepsOpen, LiesApartAt}
 
 -- Slots --------------------------------------------------------------------------
 
@@ -67,48 +65,48 @@ others P Q t keeps (u ∷ us) back all apart =
 
 -- Claims that are open -----------------------------------------------------------
 
-module _ {K B : Type 0} {G : Ghosts B} (ring : Ring K B G) where
-  pub still_open : (p q : Producer) (claims : List ClaimAt) → KeepsClaims ring p q → AreOpen ring p claims
-      → AreOpen ring q claims
+module _ (C : ℕ) where
+  pub still_open : (p q : View) (claims : List ClaimAt) → KeepsOpen C p q → AreOpenAt C p claims
+      → AreOpenAt C q claims
   still_open p q claims keeps are =
       record { each = λ k d lt. keeps (slice_index_or claims k d) (are.each k d lt); apart = are.apart }
 
-  pub one_more_open : (p q : Producer) (claims : List ClaimAt) (t : ClaimAt) → KeepsClaims ring p q
-      → IsOpenClaimOf ring q t → LiesApart ring p t → AreOpen ring p claims → AreOpen ring q (claims ++ t ∷ [])
+  pub one_more_open : (p q : View) (claims : List ClaimAt) (t : ClaimAt) → KeepsOpen C p q
+      → IsOpenAt C q t → LiesApartAt C p t → AreOpenAt C p claims → AreOpenAt C q (claims ++ t ∷ [])
   one_more_open p q claims t keeps is_open off are = record {
-    each = All-push (IsOpenClaimOf ring q) claims t (still_open p q claims keeps are).each is_open;
-    apart = apart_both (IsOpenClaimOf ring p) (λ u. u ≡ t) claims (t ∷ []) are.each
+    each = All-push (IsOpenAt C q) claims t (still_open p q claims keeps are).each is_open;
+    apart = apart_both (IsOpenAt C p) (λ u. u ≡ t) claims (t ∷ []) are.each
         (All-cons (λ u. u ≡ t) t [] refl (All-nil (λ u. u ≡ t)))
         (λ s u is same. subst (λ x. s.place ≢ x.place) (sym same) (off s is)) are.apart
         (All-nil (λ u. t.place ≢ u.place), tt);
   }
 
-  pub both_open : (p other q : Producer) (claims more : List ClaimAt) → KeepsBoth ring p other q
-      → AreOpen ring p claims → AreOpen ring other more → AreOpen ring q (claims ++ more)
+  pub both_open : (p other q : View) (claims more : List ClaimAt) → KeepsBothOpen C p other q
+      → AreOpenAt C p claims → AreOpenAt C other more → AreOpenAt C q (claims ++ more)
   both_open p other q claims more keeps are also = record {
-    each = All-append (IsOpenClaimOf ring q) claims more (still_open p q claims keeps.first are).each
+    each = All-append (IsOpenAt C q) claims more (still_open p q claims keeps.first are).each
         (still_open other q more keeps.second also).each;
-    apart = apart_both (IsOpenClaimOf ring p) (IsOpenClaimOf ring other) claims more are.each also.each keeps.apart
+    apart = apart_both (IsOpenAt C p) (IsOpenAt C other) claims more are.each also.each keeps.apart
         are.apart also.apart;
   }
 
   -- the claim t, with those before it and those after it
-  module _ (p q : Producer) (front back : List ClaimAt) (t : ClaimAt) (are : AreOpen ring p (front ++ t ∷ back)) where
-    pub one_open : IsOpenClaimOf ring p t
-    one_open = (all_parts (IsOpenClaimOf ring p) front t back are.each).1
+  module _ (p q : View) (front back : List ClaimAt) (t : ClaimAt) (are : AreOpenAt C p (front ++ t ∷ back)) where
+    pub one_open : IsOpenAt C p t
+    one_open = (all_parts (IsOpenAt C p) front t back are.each).1
 
     -- it went
-    pub one_less_open : KeepsOthers ring t.place p q → AreOpen ring q (front ++ back)
+    pub one_less_open : KeepsAllBut C t.place p q → AreOpenAt C q (front ++ back)
     one_less_open keeps =
-        let rest = others (IsOpenClaimOf ring p) (IsOpenClaimOf ring q) t keeps.claims front back are.each are.apart in
-        record { each = All-append (IsOpenClaimOf ring q) front back rest.0 rest.1; apart = rest.2 }
+        let rest = others (IsOpenAt C p) (IsOpenAt C q) t keeps.claims front back are.each are.apart in
+        record { each = All-append (IsOpenAt C q) front back rest.0 rest.1; apart = rest.2 }
 
     -- it was changed
-    pub one_changed_open : KeepsOthers ring t.place p q → IsOpenClaimOf ring q t → AreOpen ring q (front ++ t ∷ back)
+    pub one_changed_open : KeepsAllBut C t.place p q → IsOpenAt C q t → AreOpenAt C q (front ++ t ∷ back)
     one_changed_open keeps here =
-        let rest = others (IsOpenClaimOf ring p) (IsOpenClaimOf ring q) t keeps.claims front back are.each are.apart in
+        let rest = others (IsOpenAt C p) (IsOpenAt C q) t keeps.claims front back are.each are.apart in
         record {
-          each = All-append (IsOpenClaimOf ring q) front (t ∷ back) rest.0
-              (All-cons (IsOpenClaimOf ring q) t back here rest.1);
+          each = All-append (IsOpenAt C q) front (t ∷ back) rest.0
+              (All-cons (IsOpenAt C q) t back here rest.1);
           apart = are.apart;
         }

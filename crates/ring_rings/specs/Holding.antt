@@ -1,10 +1,11 @@
 -- The open claims that the owner of a producer holds.
-use Rattle.std.specs.Prelude.{◌≢◌, List, [], ◌∷◌, All, Option, Some, None}
+use Rattle.std.specs.Prelude.{◌≢◌, ℕ, List, [], ◌∷◌, All, Option, Some, None}
 use Rattle.ring_words.specs.Open.{ClaimAt}
+use Rattle.ring_table.specs.declared.view.View.{View}
 use Rattle.ring_rings.specs.declared.ring.Ring.{Ring}
 use Rattle.ring_rings.specs.declared.bodies.Bodies.{Ghosts}
 use Rattle.ring_rings.specs.declared.ring.Producer.{Producer}
-use Rattle.ring_rings.specs.Seats.{IsOpenClaimOf}
+use Rattle.ring_rings.specs.Seats.{capacity_of, view_of, IsOpenAt}
 
 -- the contents of these slots, of which some are empty
 abbrev pub in_slots : {A : Type 0} → List (Option A) → List A
@@ -17,7 +18,10 @@ abbrev pub AreApart : List ClaimAt → Type 0
 AreApart [] = Unit {0}
 AreApart (t ∷ ts) = All (λ u. t.place ≢ u.place) ts × AreApart ts
 
--- each claim is an open one of the producer, and the claims are at different places
-pub record AreOpen {K B : Type 0} {G : Ghosts B} (ring : Ring K B G) (p : Producer) (claims : List ClaimAt) : Type 0 where
-  pub each : All (IsOpenClaimOf ring p) claims
+-- each claim is an open one of the producer with this view, and the claims are at different places
+pub record AreOpenAt (C : ℕ) (v : View) (claims : List ClaimAt) : Type 0 where
+  pub each : All (IsOpenAt C v) claims
   pub apart : AreApart claims
+
+abbrev pub AreOpen : {K B : Type 0} {G : Ghosts B} → Ring K B G → Producer → List ClaimAt → Type 0
+AreOpen ring p claims = AreOpenAt (capacity_of ring) (view_of p) claims

@@ -6,15 +6,16 @@ use Rattle.ring_table.specs.declared.claim.StagedClaim.{StagedClaim}
 use Rattle.ring_table.specs.Passing.{placed_committed_of}
 use Rattle.ring_rings.specs.Closing.{AreOrdered}
 use Rattle.ring_rings.specs.Seats.{capacity_of, claims_of, start_of}
-use Rattle.ring_standalone.specs.Standalone.{Standalone, aborted_view}
+use Rattle.ring_ends.specs.Claiming.{aborted_view}
 use Rattle.ring_counters.specs.Manager.{registry_of, shares_of}
 use Rattle.ring_service.specs.Conducting.{manager_in, received_of}
+use Rattle.ring_scenario.specs.declared.ring.RunRing.{RunRing}
 use Rattle.ring_scenario.specs.declared.service.CommandService.{CommandService}
 use Rattle.ring_scenario.specs.declared.service.closing.Served.{Served}
 
 -- the number of messages that the reads of a ring took, within 64 bits
-abbrev pub read_count : Standalone → ℕ
-read_count l = min (length l.consumer.consumer.taken) (2 ^ 64 - 1)
+abbrev pub read_count : RunRing → ℕ
+read_count r = min (length r.consumer.view.consumer.taken) (2 ^ 64 - 1)
 
 -- The claims come one after another from the ring's start on, in the order of the tail exchanges. Their committed
 -- messages, with their places, are the messages that were taken, followed by the messages that are left. This many
@@ -27,9 +28,9 @@ pub record TakesAllBut (C start : ℕ) (claims : List StagedClaim) (taken : List
   pub counted : count ≡ length left
 
 -- the ring of a run took all messages except this many, after its open claims were aborted
-abbrev pub LeavesMessages : Standalone → ℕ → Type 0
-LeavesMessages l count =
-    TakesAllBut l.capacity 0 (aborted_view l.producer).producer.claims l.consumer.consumer.taken count
+abbrev pub LeavesMessages : RunRing → ℕ → Type 0
+LeavesMessages r count = TakesAllBut r.producer.end.capacity 0
+    (aborted_view r.producer.claims r.producer.end.view).producer.claims r.consumer.view.consumer.taken count
 
 -- The number of commands that the conductor took. They are all messages that were committed to its ring, except those
 -- that it left. Its counters have all shares of the values.

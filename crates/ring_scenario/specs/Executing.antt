@@ -1,10 +1,8 @@
 -- The effects of lines, with the text that they print.
 use Rattle.std.specs.Prelude.{◌≡◌, ◌↔◌, ℕ, List, codes, IfOk, Result, Err}
-use Rattle.ring_layout.specs.declared.message.ClaimState.{ClaimState}
 use Rattle.ring_layout.specs.declared.message.ClaimState.TheVariants.{Aborted, Committed}
 use Rattle.ring_table.specs.ServiceSteps.{DrawsId, LoadsHeartbeat}
-use Rattle.ring_words.specs.declared.positions.Positions.{Positions}
-use Rattle.ring_rings.specs.Joining.{LoadsPositions}
+use Rattle.ring_table.specs.Views.{with_beat}
 use Rattle.ring_protocol.specs.Command.{content_of_owned}
 use Rattle.ring_storm.specs.Storming.{IsPlan, IsReportOf}
 use Rattle.ring_storm.specs.declared.plan.StormFault.{StormFault}
@@ -15,14 +13,14 @@ use Rattle.ring_lines.specs.declared.call.Call.{Call}
 use Rattle.ring_lines.specs.declared.call.Call.TheVariants as call
 use Rattle.ring_lines.specs.declared.service_call.ServiceCall.{ServiceCall}
 use Rattle.ring_lines.specs.declared.service_call.ServiceCall.TheVariants as asks
-use Rattle.ring_standalone.specs.Claims.{SettlesAt}
-use Rattle.ring_standalone.specs.Held.{IsFree, held_in}
-use Rattle.ring_standalone.specs.Standalone.{Standalone, beaten_view, with_numbered_claims, with_reader, with_view}
+use Rattle.ring_ends.specs.End.{Does, LoadsThem}
+use Rattle.ring_ends.specs.Held.{IsFree, held_in}
 use Rattle.ring_scenario.specs.declared.runner.Runner.{Runner}
 use Rattle.ring_scenario.specs.declared.service.CommandService.{CommandService}
 use Rattle.ring_scenario.specs.BoardLines.{LeavesLine, ReceivesLine, SubscribesLine, TransmitsLine}
 use Rattle.ring_scenario.specs.RefusalTexts.{storm_refused}
-use Rattle.ring_scenario.specs.RingLines.{ClaimsLine, ControlsLine, PutsLine, ReadsLine, WritesLine}
+use Rattle.ring_scenario.specs.RingLines.{CallsLine, ClaimsLine, ControlsLine, HasNoClaim, KeepsButReading, PutsLine, ReadsLine, SettlesLine}
+use Rattle.ring_scenario.specs.RingLines.{WritesLine}
 use Rattle.ring_scenario.specs.SeatLines.{HearsLine, ListensLine, PeeksLine, UnwatchesLine, WatchesLine}
 use Rattle.ring_scenario.specs.ServiceLines.{CountsLine, RequestsLine, SendsLine, WorksLine, owner_text}
 use Rattle.ring_scenario.specs.ServiceTexts.{storm_text}
@@ -63,11 +61,6 @@ pub record StormsLine (plan : StormPlan) (text : List ℕ) : Type 0 where
   pub report : IfOk ran (IsReportOf plan)
   pub prints : text ≡ answer_text storm_text storm_refused ran
 
--- a claim was settled
-abbrev pub SettlesLine : ClaimState → ℕ → Standalone → Standalone → List ℕ → Type 0
-SettlesLine state number old new text =
-    SettlesAt state old.producer number new.producer × (new ≡ with_numbered_claims new.producer old) × (text ≡ ok_text)
-
 -- a line made its call, and the text is the result of the call
 abbrev pub Executes : Call → Runner → Runner → List ℕ → Type 0
 Executes (call.Write type_id body) old new text = WritesLine type_id body.items old.ring new.ring text
@@ -78,15 +71,13 @@ Executes (call.Abort number) old new text = SettlesLine Aborted number old.ring 
 Executes (call.Read limit) old new text = ReadsLine limit old.ring new.ring text
 Executes (call.Control limit actions) old new text = ControlsLine limit actions.items old.ring new.ring text
 Executes call.Positions old new text =
-    (p : Positions) × LoadsPositions old.ring.capacity old.ring.producer.view p.head p.tail new.ring.producer.view
-    × (new.ring ≡ with_view new.ring.producer.view old.ring) × (text ≡ positions_text p)
-Executes call.Correlation old new text = (id : ℕ) × DrawsId old.ring.producer.view id new.ring.producer.view
-    × (new.ring ≡ with_view new.ring.producer.view old.ring) × (text ≡ number_text (codes "correlation") id)
-Executes (call.Beat value) old new text =
-    (new.ring ≡ with_reader (beaten_view value old.ring) old.ring) × (text ≡ ok_text)
-Executes call.Heartbeat old new text =
-    (value : ℕ) × LoadsHeartbeat old.ring.capacity old.ring.producer.view value new.ring.producer.view
-    × (new.ring ≡ with_view new.ring.producer.view old.ring) × (text ≡ number_text (codes "heartbeat") value)
+    CallsLine (Does (LoadsThem old.ring.producer.end.capacity)) positions_text old.ring new.ring text
+Executes call.Correlation old new text =
+    CallsLine (Does DrawsId) (number_text (codes "correlation")) old.ring new.ring text
+Executes (call.Beat value) old new text = Does (λ v (r : Unit {0}) w. w ≡ with_beat value v) old.ring.consumer tt
+    new.ring.consumer × KeepsButReading old.ring new.ring × (text ≡ ok_text)
+Executes call.Heartbeat old new text = CallsLine (Does (LoadsHeartbeat old.ring.producer.end.capacity))
+    (number_text (codes "heartbeat")) old.ring new.ring text
 Executes (call.Transmit type_id body) old new text = TransmitsLine type_id body.items old.board new.board text
 Executes call.Subscribe old new text = SubscribesLine old.board new.board text
 Executes (call.Receive number) old new text = ReceivesLine number old.board new.board text
@@ -96,9 +87,9 @@ Executes (call.Service c) old new text = Serves c old.service new.service text
 
 -- a line cannot be executed, because nothing is kept under its number or its command has no room
 abbrev pub CannotExecute : Call → Runner → Type 0
-CannotExecute (call.Put number offset bytes) r = IsFree r.ring.producer.claims number
-CannotExecute (call.Commit number) r = IsFree r.ring.producer.claims number
-CannotExecute (call.Abort number) r = IsFree r.ring.producer.claims number
+CannotExecute (call.Put number offset bytes) r = HasNoClaim r.ring number
+CannotExecute (call.Commit number) r = HasNoClaim r.ring number
+CannotExecute (call.Abort number) r = HasNoClaim r.ring number
 CannotExecute (call.Receive number) r = IsFree (held_in r.board.receivers) number
 CannotExecute (call.Leave number) r = IsFree (held_in r.board.receivers) number
 CannotExecute (call.Service c) r = CannotServe c r.service

@@ -1,5 +1,5 @@
 -- The making of a run.
-use Rattle.std.specs.Prelude.{◌≡◌, [], false}
+use Rattle.std.specs.Prelude.{◌≡◌, ℕ, [], false}
 use Rattle.ring_rings.specs.Opening.{first_consumer, first_producer}
 use Rattle.ring_rings.specs.Seats.{capacity_of, view_of as producer_view}
 use Rattle.ring_board.specs.Rule.{opening_view}
@@ -9,8 +9,8 @@ use Rattle.ring_counters.specs.Manager.{registry_of, writes_of}
 use Rattle.ring_counters.specs.Registry.{fresh_registry}
 use Rattle.ring_counters.specs.Seats.{values_count}
 use Rattle.ring_service.specs.Conducting.{board_view, manager_in, ring_view, value_shares_of}
-use Rattle.ring_standalone.specs.Held.{held_in}
-use Rattle.ring_standalone.specs.Standalone.{fresh_standalone}
+use Rattle.ring_ends.specs.Held.{held_in}
+use Rattle.ring_scenario.specs.declared.ring.RunRing.{RunRing}
 use Rattle.ring_scenario.specs.declared.options.Options.{Options}
 use Rattle.ring_scenario.specs.declared.runner.Runner.{Runner}
 use Rattle.ring_scenario.specs.declared.service.CommandService.{CommandService}
@@ -31,9 +31,17 @@ pub record ServesBy (options : Options) (s : CommandService) : Type 0 where
   pub listeners : held_in s.listeners ≡ []
   pub watchers : held_in s.watchers ≡ []
 
+-- The ring is a new one of this capacity. Nothing was written, claimed or read.
+pub record IsFresh (C : ℕ) (r : RunRing) : Type 0 where
+  pub capacity : r.producer.end.capacity ≡ C
+  pub producer : r.producer.end.view ≡ first_producer C 0
+  pub claims : r.producer.claims ≡ []
+  pub consumer : r.consumer.view ≡ first_consumer C 0
+  pub places : held_in r.places ≡ []
+
 -- Each part is a new one that the options describe. No line used the conductor's side.
 pub record RunsBy (options : Options) (r : Runner) : Type 0 where
-  pub ring : r.ring ≡ fresh_standalone options.ring
+  pub ring : IsFresh options.ring r.ring
   pub board : board_capacity_of r.board.board ≡ options.board
   pub transmitter : view_of r.board.transmitter ≡ opening_view options.board 0
   pub receivers : held_in r.board.receivers ≡ []

@@ -9,8 +9,8 @@ use Rattle.ring_counters.specs.Registry.{live_of}
 use Rattle.ring_lines.specs.declared.call.Call.{Call}
 use Rattle.ring_lines.specs.Lines.{AsksFor, AsksForNone}
 use Rattle.ring_lines.specs.Text.{AllBlank, IsBlank, IsEnd, lines_of, words_of}
-use Rattle.ring_standalone.specs.Held.{held_in}
-use Rattle.ring_standalone.specs.Receivers.{all_left}
+use Rattle.ring_ends.specs.Held.{held_in}
+use Rattle.ring_ends.specs.Receivers.{all_left}
 use Rattle.ring_scenario.specs.Closing.{LeavesMessages, TookAndLeft, read_count}
 use Rattle.ring_scenario.specs.declared.options.Options.{Options}
 use Rattle.ring_scenario.specs.declared.runner.Ended.{Ended}

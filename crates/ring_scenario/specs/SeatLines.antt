@@ -9,9 +9,9 @@ use Rattle.ring_counters.specs.Seats.{values_count}
 use Rattle.ring_counters.specs.declared.fault.BadId.{BadId}
 use Rattle.ring_counters.specs.declared.values.seats.ValueReader.{ValueReader}
 use Rattle.ring_service.specs.Conducting.{KeepsAllCounters, KeepsTheRest, manager_in, transmitter_of, value_shares_of}
-use Rattle.ring_standalone.specs.Held.{IsHeld, held_in}
-use Rattle.ring_standalone.specs.Receivers.{ReceivesAt, Subscribes, by_number}
-use Rattle.ring_standalone.specs.declared.received.Received.{Received}
+use Rattle.ring_ends.specs.Held.{IsHeld, held_in}
+use Rattle.ring_ends.specs.Receivers.{ReceivesAt, Subscribes, by_number}
+use Rattle.ring_ends.specs.declared.received.Received.{Received}
 use Rattle.ring_scenario.specs.Keeping.{KeepsButListeners, KeepsButWatchers}
 use Rattle.ring_scenario.specs.RefusalTexts.{load_refused, shares_refused, subscribe_refused}
 use Rattle.ring_scenario.specs.ServiceTexts.{value_text}

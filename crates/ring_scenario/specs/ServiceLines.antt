@@ -1,5 +1,5 @@
 -- The effects of lines of the command ring and of the conductor, with the text that they print.
-use Rattle.std.specs.Prelude.{◌≡◌, ℕ, ℤ, List, codes, length, IfErr, IfOk, OnOk, Result}
+use Rattle.std.specs.Prelude.{◌≡◌, ℕ, ℤ, List, codes, true, IfErr, IfOk, Result}
 use Rattle.ring_words.specs.declared.fault.ClaimFault.{ClaimFault}
 use Rattle.ring_rings.specs.Seats.{capacity_of, view_of}
 use Rattle.ring_counters.specs.Infos.{AreInfos}
@@ -10,7 +10,7 @@ use Rattle.ring_counters.specs.declared.info.CounterInfo.{CounterInfo}
 use Rattle.ring_service.specs.declared.conductor.Work.{Work}
 use Rattle.ring_service.specs.Conducting.{Works, ledger_of, manager_in, ring_view}
 use Rattle.ring_protocol.specs.declared.command.Request.{Request}
-use Rattle.ring_standalone.specs.Claims.{RefusesAfter, WritesAfter}
+use Rattle.ring_ends.specs.End.{WritesAlone}
 use Rattle.ring_scenario.specs.Keeping.{KeepsButConductor, KeepsButProducer}
 use Rattle.ring_scenario.specs.RefusalTexts.{claim_refused, id_refused, memory_refused}
 use Rattle.ring_scenario.specs.ServiceTexts.{counters_text, work_text}
@@ -21,10 +21,7 @@ use Rattle.ring_scenario.specs.declared.service.CommandService.{CommandService}
 -- a message was written into the command ring, or refused
 pub record SendsLine (type_id : ℤ) (body : List ℕ) (old new : CommandService) (text : List ℕ) : Type 0 where
   pub sent : Result (Unit {0}) ClaimFault
-  pub written : OnOk sent
-      (WritesAfter (capacity_of old.ring) type_id body (view_of old.producer) (view_of new.producer))
-  pub refused : IfErr sent (λ fault.
-      RefusesAfter (capacity_of old.ring) type_id (length body) (view_of old.producer) fault (view_of new.producer))
+  pub wrote : WritesAlone true (capacity_of old.ring) type_id body (view_of old.producer) sent (view_of new.producer)
   pub rest : KeepsButProducer old new
   pub prints : text ≡ done_text claim_refused sent
 

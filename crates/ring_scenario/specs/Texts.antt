@@ -7,9 +7,9 @@ use Rattle.ring_words.specs.declared.positions.Positions.{Positions}
 use Rattle.ring_words.specs.declared.read.end.ReadEnd.{ReadEnd}
 use Rattle.ring_words.specs.declared.read.end.Stop.{Stop}
 use Rattle.ring_words.specs.declared.read.end.Stop.TheVariants as read
-use Rattle.ring_standalone.specs.declared.ring.Claimed.{Claimed}
-use Rattle.ring_standalone.specs.declared.received.Received.{Received}
-use Rattle.ring_standalone.specs.declared.received.Received.TheVariants.{Copy, Nothing, Lapped}
+use Rattle.ring_scenario.specs.declared.ring.Claimed.{Claimed}
+use Rattle.ring_ends.specs.declared.received.Received.{Received}
+use Rattle.ring_ends.specs.declared.received.Received.TheVariants.{Copy, Nothing, Lapped}
 
 abbrev pub ok_text : List ℕ
 ok_text = codes "ok\n"

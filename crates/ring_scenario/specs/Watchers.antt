@@ -6,8 +6,8 @@ use Rattle.ring_counters.specs.declared.values.view.ValueWrite.{ValueWrite}
 use Rattle.ring_counters.specs.declared.manager.CountersManager.{CountersManager}
 use Rattle.ring_counters.specs.Manager.{IsManagerOf}
 use Rattle.ring_counters.specs.Seats.{IsReaderOf, LoadsValue, loads_of, seen_by}
-use Rattle.ring_standalone.specs.Held.{Comes, Goes, HasAt, Stays, held_in}
-use Rattle.ring_standalone.specs.declared.numbered.Numbered.{Numbered}
+use Rattle.ring_ends.specs.Held.{Comes, Goes, HasAt, Stays, held_in}
+use Rattle.ring_ends.specs.declared.numbered.Numbered.{Numbered}
 
 -- the readers are of these values
 abbrev pub AreWatchers : CounterValues → Numbered ValueReader → Type 0

@@ -3,7 +3,7 @@
 //! - `scenario`: reads a whole text, and executes it line by line. `options` has the options of the command line.
 //! - `runner`: the parts of a run, and the text that each call prints. `printer` prints messages, and `refusal` prints
 //!   faults.
-//! - `service`: the conductor's side of a run.
+//! - `ring`: the ring of a run. `service`: the conductor's side of a run.
 //! - `fault`: the reasons why a line or a run ends early.
 #![tactic(auto)]
 
@@ -11,6 +11,7 @@ mod fault;
 mod options;
 mod printer;
 mod refusal;
+mod ring;
 mod runner;
 mod scenario;
 mod service;

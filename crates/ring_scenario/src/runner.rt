@@ -1,11 +1,8 @@
 //! The parts of a run, and the text that its calls print.
 ghost use Rattle.std.specs.Prelude.{◌≡◌, ◌≢◌, ◌↔◌, ℕ, None, IfErr, IfOk, IfSome, IsOkUnless, IsSome, IsTrue, OnOk, codes, string_bytes};
-ghost use Rattle.ring_board.specs.Runs.{AreAllRuns};
-ghost use Rattle.ring_board.specs.Board.{transmitted};
-ghost use Rattle.ring_board.specs.Seats.{view_of};
-ghost use Rattle.ring_standalone.specs.Held.{IsFree, held_in};
-ghost use Rattle.ring_standalone.specs.Receivers.{all_left};
-ghost use Rattle.ring_scenario.specs.Closing.{read_count, LeavesMessages, TookAndLeft};
+ghost use Rattle.ring_ends.specs.End.{Does, LoadsThem};
+ghost use Rattle.ring_ends.specs.Held.{IsFree, held_in};
+ghost use Rattle.ring_scenario.specs.Closing.{read_count};
 ghost use Rattle.ring_scenario.specs.Sizes.{size_fault_of};
 ghost use Rattle.ring_scenario.specs.Texts.{number_text, positions_text};
 
@@ -16,10 +13,11 @@ mod texts;
 use crate::fault::RunFault;
 use crate::options::Options;
 use crate::printer::Printer;
+use crate::ring::RunRing;
 use crate::service::{CommandService, Served};
+use ring_ends::StandaloneBoard;
 use ring_lines::{Call, LineError, LineFault};
-use ring_standalone::{StandaloneBoard, StandaloneRing};
-use ring_words::{Action, MakeFault, Positions};
+use ring_words::{Action, Positions};
 use std::alloc::{AllocError, Global};
 use std::sync::Wait;
 use std::thread::Threads;
@@ -28,7 +26,7 @@ use std::thread::Threads;
 #[derive(Drop)]
 pub struct Runner {
     alloc: Global,
-    ring: StandaloneRing,
+    ring: RunRing,
     board: StandaloneBoard,
     service: CommandService,
     /// The capacity of the command ring, and of the ring of a storm.
@@ -51,15 +49,14 @@ pub struct Ended {
 }
 
 impl Runner {
-    ghost use Rattle.ring_words.specs.declared.positions.Positions.{Positions};
-    ghost use Rattle.ring_rings.specs.Joining.{LoadsPositions};
     ghost use Rattle.ring_table.specs.ServiceSteps.{DrawsId, LoadsHeartbeat};
-    ghost use Rattle.ring_standalone.specs.Standalone.{with_view};
     ghost use Rattle.ring_scenario.specs.BoardLines.{ReceivesLine, SubscribesLine, TransmitsLine};
     ghost use Rattle.ring_scenario.specs.Executing.{CannotExecute, Executes};
     ghost use Rattle.ring_scenario.specs.Keeping.{KeepsButBoard, KeepsButRing, KeepsRest};
     ghost use Rattle.ring_scenario.specs.Making.{RunsBy};
-    ghost use Rattle.ring_scenario.specs.RingLines.{ClaimsLine, ControlsLine, PutsLine, ReadsLine, WritesLine};
+    ghost use Rattle.ring_scenario.specs.RingLines.{CallsLine, ClaimsLine, ControlsLine, HasNoClaim, PutsLine};
+    ghost use Rattle.ring_scenario.specs.RingLines.{ReadsLine, WritesLine};
+    ghost use Rattle.ring_scenario.specs.Running.{EndsAs};
 
     /// Makes the parts that the options describe.
     pub fn new(alloc: Global, options: &Options) -> Result<Self, RunFault>
@@ -67,8 +64,13 @@ impl Runner {
         ensures made { IsOkUnless result RunFault.OutOfMemory }
         ensures options { IfOk result (RunsBy options.now) }
     {
-        let ring = StandaloneRing::new(alloc, options.ring).map_err(from_make)?;
-        let board = StandaloneBoard::new(alloc, options.board).map_err(from_make)?;
+        // The sizes were tested, so the only possible error is out of memory.
+        let Ok(ring) = RunRing::new(alloc, options.ring) else {
+            return Err(RunFault::OutOfMemory);
+        };
+        let Ok(board) = StandaloneBoard::new(alloc, options.board) else {
+            return Err(RunFault::OutOfMemory);
+        };
         let service = CommandService::new(alloc, options)?;
         Ok(Runner {
             alloc,
@@ -88,8 +90,8 @@ impl Runner {
         ensures bad { IfErr result (λ fault. fault ≢ LineFault.OutOfMemory → CannotExecute call self.old) }
     {
         let text = match call {
-            Call::Write { type_id, body } => self.write(rt, type_id, body.as_slice())?,
-            Call::Claim { type_id, len } => self.claim(rt, type_id, len)?,
+            Call::Write { type_id, body } => self.write(type_id, body.as_slice())?,
+            Call::Claim { type_id, len } => self.claim(type_id, len)?,
             Call::Put {
                 number,
                 offset,
@@ -112,7 +114,7 @@ impl Runner {
             Call::Positions => self.positions()?,
             Call::Correlation => self.correlation()?,
             Call::Beat { value } => {
-                self.ring.set_heartbeat(value);
+                self.ring.consumer.set_heartbeat(value);
                 self.ok()?
             }
             Call::Heartbeat => self.heartbeat()?,
@@ -126,26 +128,26 @@ impl Runner {
                 self.ok()?
             }
             Call::Storm { clients, commands } => self.storm(rt, clients, commands)?,
-            Call::Service(call) => self.serve(rt, call)?,
+            Call::Service(call) => self.serve(call)?,
         };
         Ok(text)
     }
 
-    fn write<R: Wait>(&mut self, rt: &R, type_id: i32, body: &[u8]) -> Result<String, AllocError>
+    fn write(&mut self, type_id: i32, body: &[u8]) -> Result<String, AllocError>
         ensures line { IfOk result (λ text.
             WritesLine type_id body.now self.old.ring self.new.ring (string_bytes text)) }
         ensures rest { KeepsButRing self.old self.new }
     {
-        let written = self.ring.write(rt, type_id, body);
+        let written = self.ring.producer.write_alone(type_id, body);
         self.done(written)
     }
 
-    fn claim<R: Wait>(&mut self, rt: &R, type_id: i32, len: usize) -> Result<String, AllocError>
+    fn claim(&mut self, type_id: i32, len: usize) -> Result<String, AllocError>
         ensures line { IfOk result (λ text.
             ClaimsLine type_id len self.old.ring self.new.ring (string_bytes text)) }
         ensures rest { KeepsButRing self.old self.new }
     {
-        let tried = self.ring.claim(rt, type_id, len)?;
+        let tried = self.ring.claim(type_id, len)?;
         self.claimed(tried)
     }
 
@@ -153,7 +155,7 @@ impl Runner {
         ensures line { IfOk result (λ text.
             PutsLine number offset bytes.now self.old.ring self.new.ring (string_bytes text)) }
         ensures rest { KeepsButRing self.old self.new }
-        ensures bad { IfErr result (λ fault. fault ≢ LineFault.OutOfMemory → IsFree self.old.ring.producer.claims number) }
+        ensures bad { IfErr result (λ fault. fault ≢ LineFault.OutOfMemory → HasNoClaim self.old.ring number) }
     {
         let Some(put) = self.ring.put(number, offset, bytes) else {
             return Err(LineFault::Bad(LineError::NotHeld));
@@ -166,7 +168,7 @@ impl Runner {
         ensures rest { KeepsButRing self.old self.new }
     {
         let mut printer = Printer::new(self.alloc, &[]);
-        let end = self.ring.read(limit, &mut printer);
+        let end = self.ring.consumer.read(limit, &mut printer);
         self.messages = self.messages.saturating_add(u64::from(end.messages));
         self.read_text(printer, end)
     }
@@ -177,41 +179,35 @@ impl Runner {
         ensures rest { KeepsButRing self.old self.new }
     {
         let mut printer = Printer::new(self.alloc, actions);
-        let end = self.ring.controlled_read(limit, &mut printer);
+        let end = self.ring.consumer.controlled_read(limit, &mut printer);
         self.messages = self.messages.saturating_add(u64::from(end.messages));
         self.read_text(printer, end)
     }
 
     fn positions(&mut self) -> Result<String, AllocError>
-        ensures line { IfOk result (λ text. (p : Positions) × LoadsPositions self.old.ring.capacity
-            self.old.ring.producer.view p.head p.tail self.new.ring.producer.view
-            × (self.new.ring ≡ with_view self.new.ring.producer.view self.old.ring)
-            × (string_bytes text ≡ positions_text p)) }
+        ensures line { IfOk result (λ text. CallsLine (Does (LoadsThem self.old.ring.producer.end.capacity)) positions_text
+            self.old.ring self.new.ring (string_bytes text)) }
         ensures rest { KeepsButRing self.old self.new }
     {
-        let Positions { head, tail } = self.ring.positions();
+        let Positions { head, tail } = self.ring.producer.positions();
         format!(in self.alloc; "head {head} tail {tail}\n")
     }
 
     fn correlation(&mut self) -> Result<String, AllocError>
-        ensures line { IfOk result (λ text. (id : ℕ)
-            × DrawsId self.old.ring.producer.view id self.new.ring.producer.view
-            × (self.new.ring ≡ with_view self.new.ring.producer.view self.old.ring)
-            × (string_bytes text ≡ number_text (codes "correlation") id)) }
+        ensures line { IfOk result (λ text. CallsLine (Does DrawsId) (number_text (codes "correlation"))
+            self.old.ring self.new.ring (string_bytes text)) }
         ensures rest { KeepsButRing self.old self.new }
     {
-        let id = self.ring.next_correlation_id();
+        let id = self.ring.producer.next_correlation_id();
         format!(in self.alloc; "correlation {id}\n")
     }
 
     fn heartbeat(&mut self) -> Result<String, AllocError>
-        ensures line { IfOk result (λ text. (value : ℕ) × LoadsHeartbeat self.old.ring.capacity
-            self.old.ring.producer.view value self.new.ring.producer.view
-            × (self.new.ring ≡ with_view self.new.ring.producer.view self.old.ring)
-            × (string_bytes text ≡ number_text (codes "heartbeat") value)) }
+        ensures line { IfOk result (λ text. CallsLine (Does (LoadsHeartbeat self.old.ring.producer.end.capacity))
+            (number_text (codes "heartbeat")) self.old.ring self.new.ring (string_bytes text)) }
         ensures rest { KeepsButRing self.old self.new }
     {
-        let value = self.ring.heartbeat();
+        let value = self.ring.producer.heartbeat();
         format!(in self.alloc; "heartbeat {value}\n")
     }
 
@@ -246,14 +242,10 @@ impl Runner {
     }
 
     /// Aborts the open claims, and joins receivers, listeners and watchers. Then closes all parts, and counts the
-    /// messages that are left.
-    pub fn close(self) -> Ended
-        ensures messages { result.messages ≡ read_count self.ring }
-        ensures left { LeavesMessages self.ring result.left }
-        ensures copies { AreAllRuns (transmitted self.board.transmitter)
-            (all_left (held_in self.board.receivers) (view_of self.board.transmitter)).heard }
-        ensures served { IsSome result.served ↔ IsTrue self.serves }
-        ensures finished { IfSome result.served (TookAndLeft self.service) }
+    /// messages that are left. Returns `InUse` if a part has another owner. None has, but no contract says so.
+    pub fn close(self) -> Result<Ended, RunFault>
+        ensures ended { IfOk result (EndsAs self) }
+        ensures in_use { IfErr result (λ fault. fault ≡ RunFault.InUse) }
     {
         let Runner {
             ring,
@@ -263,22 +255,15 @@ impl Runner {
             serves,
             ..
         } = self;
-        let left = ring.close().drain();
+        let Some(left) = ring.close() else {
+            return Err(RunFault::InUse);
+        };
         let _ = board.close();
         let served = service.close();
-        Ended {
+        Ok(Ended {
             messages,
             left: u64::from(left),
             served: serves.then_some(served),
-        }
-    }
-}
-
-fn from_make(fault: MakeFault) -> RunFault
-    ensures { fault ≡ MakeFault.OutOfMemory → result ≡ RunFault.OutOfMemory }
-{
-    match fault {
-        MakeFault::OutOfMemory => RunFault::OutOfMemory,
-        MakeFault::BadCapacity | MakeFault::BadStart => RunFault::BadCapacity,
+        })
     }
 }

@@ -106,6 +106,7 @@ fn run_text<R: Threads + Wait, O: Write>(
     let outcome = run_to_end(rt, alloc, &mut runner, &mut lines, writer);
     let ended = runner.close();
     outcome?;
+    let ended = ended?;
     write_end(alloc, ended, writer)?;
     rest_is_blank(alloc, &mut lines)
 }

@@ -3,8 +3,8 @@ ghost use Rattle.std.specs.Prelude.{◌≡◌, ◌+◌};
 ghost use Rattle.ring_layout.specs.Refusals.{all_shares};
 ghost use Rattle.ring_rings.specs.Seats.{open_claims_of, shares_of, IsConsumerOf, IsProducerOf};
 ghost use Rattle.ring_service.specs.Conducting.{consumer_of, manager_in, transmitter_of, value_shares_of};
-ghost use Rattle.ring_standalone.specs.Held.{held_count, held_in};
-ghost use Rattle.ring_standalone.specs.Receivers.{by_number, shares_in, AreReceiversOf};
+ghost use Rattle.ring_ends.specs.Held.{held_count, held_in};
+ghost use Rattle.ring_ends.specs.Receivers.{by_number, shares_in, AreReceiversOf};
 ghost use Rattle.ring_scenario.specs.Watchers.{AreWatchedBy};
 
 mod closing;
@@ -16,9 +16,9 @@ mod working;
 pub use closing::Served;
 use ring_board::{Board, CopyReceiver};
 use ring_counters::{CounterValues, ValueReader};
+use ring_ends::Numbered;
 use ring_rings::{ManyToOneRing, Producer};
 use ring_service::Conductor;
-use ring_standalone::Numbered;
 
 /// A conductor with its ring, its broadcast buffer and its counters. It also has the listeners to its replies, and the
 /// watchers of the counters' values. Listeners are numbered from 1, and watchers are too. No number is given to two

@@ -1,9 +1,9 @@
 //! The calls of the conductor's side. They print lines, and write commands into the ring.
-ghost use Rattle.std.specs.Prelude.{◌≡◌, ◌≢◌, IfErr, IfOk, string_bytes, ◌↔◌, length, IfNone, IfSome, IsSome, OnOk};
+ghost use Rattle.std.specs.Prelude.{◌≡◌, ◌≢◌, true, IfErr, IfOk, string_bytes, ◌↔◌, IfNone, IfSome, IsSome, OnOk};
 ghost use Rattle.ring_protocol.specs.Command.{content_of_request};
-ghost use Rattle.ring_rings.specs.Seats.{capacity_of, view_of, IsProducerOf, OpensNone};
-ghost use Rattle.ring_standalone.specs.Claims.{RefusesAfter, WritesAfter};
-ghost use Rattle.ring_standalone.specs.Held.{IsFree, held_in};
+ghost use Rattle.ring_rings.specs.Seats.{all_shares, capacity_of, shares_of, view_of, IsProducerOf, OpensNone};
+ghost use Rattle.ring_ends.specs.End.{WritesAlone};
+ghost use Rattle.ring_ends.specs.Held.{IsFree, held_in};
 ghost use Rattle.ring_scenario.specs.ServiceTexts.{counter_text, counters_text, work_stop_text};
 ghost use Rattle.ring_scenario.specs.Keeping.{KeepsButProducer};
 ghost use Rattle.ring_scenario.specs.Serving.{FitsRoom, RefusesRequest, SendsRequest};
@@ -14,10 +14,9 @@ use crate::runner::Runner;
 use crate::service::CommandService;
 use ring_counters::CounterInfo;
 use ring_lines::{LineError, LineFault, Moment, ServiceCall};
-use ring_rings::{ClaimFault, ManyToOneRing, Producer};
+use ring_rings::{ClaimFault, ManyToOneRing, Producer, TryFault};
 use ring_service::{Request, Work, WorkStop, encode_request};
 use std::alloc::{AllocError, Global};
-use std::sync::Wait;
 
 /// The largest number of bytes of a command.
 const MAX_COMMAND: usize = 4096;
@@ -29,15 +28,15 @@ impl Runner {
     ghost use Rattle.ring_scenario.specs.ServiceLines.{CountsLine, RequestsLine, SendsLine, WorksLine, owner_text};
 
     /// Executes a call of the conductor's side, and returns the lines that it prints.
-    pub(super) fn serve<R: Wait>(&mut self, rt: &R, call: ServiceCall) -> Result<String, LineFault>
+    pub(super) fn serve(&mut self, call: ServiceCall) -> Result<String, LineFault>
         ensures line { IfOk result (λ text. Serves call self.old.service self.new.service (string_bytes text)) }
         ensures rest { OnOk result (KeepsButService self.old self.new) }
         ensures bad { IfErr result (λ fault. fault ≢ LineFault.OutOfMemory → CannotServe call self.old.service) }
     {
         self.serves = true;
         let text = match call {
-            ServiceCall::Send { type_id, body } => self.send(rt, type_id, body.as_slice())?,
-            ServiceCall::Request(request) => self.request(rt, request.as_slices())?,
+            ServiceCall::Send { type_id, body } => self.send(type_id, body.as_slice())?,
+            ServiceCall::Request(request) => self.request(request.as_slices())?,
             ServiceCall::Work { now, limit } => self.work(now, limit)?,
             ServiceCall::Listen => self.listen()?,
             ServiceCall::Hear { number } => self.hear(number)?,
@@ -55,22 +54,22 @@ impl Runner {
         Ok(text)
     }
 
-    fn send<R: Wait>(&mut self, rt: &R, type_id: i32, body: &[u8]) -> Result<String, AllocError>
+    fn send(&mut self, type_id: i32, body: &[u8]) -> Result<String, AllocError>
         ensures line { IfOk result (λ text.
             SendsLine type_id body.now self.old.service self.new.service (string_bytes text)) }
         ensures rest { KeepsOthers self.old self.new }
     {
-        let sent = self.service.send(rt, type_id, body);
+        let sent = self.service.send(type_id, body);
         self.done(sent)
     }
 
-    fn request<R: Wait>(&mut self, rt: &R, request: Request<&[u8]>) -> Result<String, LineFault>
+    fn request(&mut self, request: Request<&[u8]>) -> Result<String, LineFault>
         ensures line { IfOk result (λ text. RequestsLine (content_of_request request.entry) self.old.service
             self.new.service (string_bytes text)) }
         ensures rest { KeepsOthers self.old self.new }
         ensures bad { IfErr result (λ fault. fault ≢ LineFault.OutOfMemory → ¬ FitsRoom (content_of_request request.entry)) }
     {
-        let Some(sent) = self.service.request(rt, request) else {
+        let Some(sent) = self.service.request(request) else {
             return Err(LineFault::Bad(LineError::CommandTooLong));
         };
         Ok(self.identified("sent", sent)?)
@@ -180,34 +179,36 @@ fn counter_text(alloc: Global, info: &CounterInfo) -> Result<String, AllocError>
     )
 }
 
-/// Writes a message, and leaves no claim open.
-fn write_message<R: Wait>(
-    rt: &R,
+/// Writes a message of a producer that holds all shares.
+fn write_message(
     ring: &ManyToOneRing,
     producer: &mut Producer,
     type_id: i32,
     body: &[u8],
 ) -> Result<(), ClaimFault>
-    requires { IsProducerOf ring.now producer.old }
+    requires producer { IsProducerOf ring.now producer.old }
+    requires alone { shares_of producer.old ≡ all_shares }
     ensures producer { IsProducerOf ring.now producer.new }
-    ensures written { OnOk result
-        (WritesAfter (capacity_of ring.now) type_id body.now (view_of producer.old) (view_of producer.new)) }
-    ensures refused { IfErr result (λ fault. RefusesAfter (capacity_of ring.now) type_id (length body.now)
-        (view_of producer.old) fault (view_of producer.new)) }
+    ensures wrote { WritesAlone true (capacity_of ring.now) type_id body.now (view_of producer.old) result
+        (view_of producer.new) }
     ensures keeps { OpensNone ring.now producer.old producer.new }
 {
-    ring.write(rt, producer, type_id, body)
+    match ring.try_write(producer, type_id, body) {
+        Ok(()) => Ok(()),
+        Err(TryFault::Refused(fault)) => Err(fault),
+        Err(TryFault::Contended { .. }) => unreachable!(),
+    }
 }
 
 /// Draws a correlation id, and writes the command with this id. Returns `None` if the command has no room. The id is
 /// not drawn again.
-fn send_request<R: Wait>(
-    rt: &R,
+fn send_request(
     ring: &ManyToOneRing,
     producer: &mut Producer,
     request: Request<&[u8]>,
 ) -> Option<Result<u64, ClaimFault>>
-    requires { IsProducerOf ring.now producer.old }
+    requires producer { IsProducerOf ring.now producer.old }
+    requires alone { shares_of producer.old ≡ all_shares }
     ensures producer { IsProducerOf ring.now producer.new }
     ensures fits { IsSome result ↔ FitsRoom (content_of_request request.entry) }
     ensures sent { IfSome result (λ answer. IfOk answer (λ correlation. SendsRequest (capacity_of ring.now)
@@ -225,7 +226,7 @@ fn send_request<R: Wait>(
     let Some(len) = encode_request(correlation, request, &mut body) else {
         unreachable!()
     };
-    match write_message(rt, ring, producer, request.type_id(), &body[..len]) {
+    match write_message(ring, producer, request.type_id(), &body[..len]) {
         Ok(()) => Some(Ok(correlation)),
         Err(fault) => Some(Err(fault)),
     }
@@ -233,25 +234,19 @@ fn send_request<R: Wait>(
 
 impl CommandService {
     /// Writes a message into the ring, as `ManyToOneRing::write` does.
-    pub fn send<R: Wait>(&mut self, rt: &R, type_id: i32, body: &[u8]) -> Result<(), ClaimFault>
-        ensures written { OnOk result (WritesAfter (capacity_of self.old.ring) type_id body.now
-            (view_of self.old.producer) (view_of self.new.producer)) }
-        ensures refused { IfErr result (λ fault. RefusesAfter (capacity_of self.old.ring) type_id (length body.now)
-            (view_of self.old.producer) fault (view_of self.new.producer)) }
+    pub fn send(&mut self, type_id: i32, body: &[u8]) -> Result<(), ClaimFault>
+        ensures wrote { WritesAlone true (capacity_of self.old.ring) type_id body.now (view_of self.old.producer) result
+            (view_of self.new.producer) }
         ensures rest { KeepsButProducer self.old self.new }
     {
-        write_message(rt, &self.ring, &mut self.producer, type_id, body)
+        write_message(&self.ring, &mut self.producer, type_id, body)
     }
 
     /// Draws a correlation id, writes the command with it into the ring, and returns the id. The id is not drawn again,
     /// even if the ring refuses the command as `ManyToOneRing::write` does.
     ///
     /// Returns `None` if the command takes more than 4,096 bytes. Nothing has then changed.
-    pub fn request<R: Wait>(
-        &mut self,
-        rt: &R,
-        request: Request<&[u8]>,
-    ) -> Option<Result<u64, ClaimFault>>
+    pub fn request(&mut self, request: Request<&[u8]>) -> Option<Result<u64, ClaimFault>>
         ensures fits { IsSome result ↔ FitsRoom (content_of_request request.entry) }
         ensures sent { IfSome result (λ answer. IfOk answer (λ correlation. SendsRequest
             (capacity_of self.old.ring) (content_of_request request.entry) (view_of self.old.producer) correlation
@@ -262,6 +257,6 @@ impl CommandService {
         ensures none { IfNone result (self.new.producer ≡ self.old.producer) }
         ensures rest { KeepsButProducer self.old self.new }
     {
-        send_request(rt, &self.ring, &mut self.producer, request)
+        send_request(&self.ring, &mut self.producer, request)
     }
 }

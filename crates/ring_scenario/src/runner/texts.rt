@@ -7,8 +7,9 @@ ghost use Rattle.ring_scenario.specs.Texts.{answer_text, claimed_text, done_text
 use super::Runner;
 use crate::printer::{Printer, hex_of};
 use crate::refusal::Refusal;
+use crate::ring::Claimed;
 use ring_counters::BadId;
-use ring_standalone::{Claimed, Received};
+use ring_ends::Received;
 use ring_words::{ClaimFault, ReadEnd, Stop};
 use std::alloc::AllocError;
 

@@ -1,92 +1,21 @@
 //! The watchers of the counters' values.
-ghost use Rattle.std.specs.Prelude.{◌≡◌, ◌+◌, ◌<◌, ◌↔◌, IfNone, IfOk, IfSome, IsOk, OnErr, OnSome};
+ghost use Rattle.std.specs.Prelude.{◌≡◌, ◌<◌, ◌↔◌, IfNone, IfOk, IfSome, IsOk, OnErr, OnSome};
 ghost use Rattle.ring_layout.specs.Refusals.{all_shares};
 ghost use Rattle.ring_counters.specs.Manager.{writes_of};
 ghost use Rattle.ring_counters.specs.Seats.{values_count};
 ghost use Rattle.ring_service.specs.Conducting.{manager_in, value_shares_of, KeepsAllCounters};
 ghost use Rattle.ring_counters.specs.declared.values.seats.ValueReader.{ValueReader};
-ghost use Rattle.ring_standalone.specs.Held.{IsFree, IsHeld, held_count, held_in};
+ghost use Rattle.ring_ends.specs.Held.{IsFree, IsHeld, held_in};
 ghost use Rattle.ring_scenario.specs.Keeping.{KeepsButWatchers, KeepsRing};
-ghost use Rattle.ring_scenario.specs.Watchers.{AreWatchedBy, AreWatchers, Peeks, Unwatches, Watches};
+ghost use Rattle.ring_scenario.specs.Watchers.{Peeks, Unwatches, Watches};
 
 use super::CommandService;
-use ring_counters::{BadId, CounterValues, NoShares, ValueReader};
-use ring_service::Conductor;
-use ring_standalone::Numbered;
+use ring_counters::{BadId, NoShares};
 use std::alloc::AllocError;
 
-/// Makes a watcher, keeps it under the next number, and returns the number. The room for the watcher is made first.
-fn make_watcher(
-    values: &CounterValues,
-    conductor: &mut Conductor,
-    watchers: &mut Numbered<ValueReader>,
-) -> Result<Result<usize, NoShares>, AllocError>
-    requires { AreWatchedBy values.now (manager_in conductor.old) watchers.old }
-    ensures watched { AreWatchedBy values.now (manager_in conductor.new) watchers.new }
-    ensures made { IfOk result (λ made. IfOk made (λ number.
-        Watches (writes_of (manager_in conductor.old)) watchers.old number watchers.new)) }
-    ensures same { IfOk result (λ made. OnErr made
-        ((conductor.new ≡ conductor.old) × (held_in watchers.new ≡ held_in watchers.old))) }
-    ensures enough { IfOk result (λ made. IsOk made ↔ (1 < value_shares_of conductor.old)) }
-    ensures shares { value_shares_of conductor.new + held_count (held_in watchers.new)
-        ≡ value_shares_of conductor.old + held_count (held_in watchers.old) }
-    ensures keeps { KeepsAllCounters values.now conductor.old conductor.new }
-{
-    watchers.reserve()?;
-    let watcher = match conductor.value_reader(values) {
-        Ok(watcher) => watcher,
-        Err(fault) => return Ok(Err(fault)),
-    };
-    Ok(Ok(watchers.hold(watcher)))
-}
-
-/// Loads a value for the watcher of this number, if it was not joined.
-fn load_at(
-    values: &CounterValues,
-    watchers: &mut Numbered<ValueReader>,
-    number: usize,
-    id: u32,
-) -> Option<Result<i64, BadId>>
-    requires { AreWatchers values.now watchers.old }
-    ensures watchers { AreWatchers values.now watchers.new }
-    ensures in_range { IfSome result (λ loaded. IsOk loaded ↔ (id < values_count values.now)) }
-    ensures loaded { IfSome result (λ loaded. IfOk loaded (λ value. Peeks id value watchers.old number watchers.new)) }
-    ensures refused { IfSome result (λ loaded. OnErr loaded (held_in watchers.new ≡ held_in watchers.old)) }
-    ensures none { IfNone result
-        (IsFree (held_in watchers.old) number × (held_in watchers.new ≡ held_in watchers.old)) }
-    ensures here { OnSome result ((watcher : ValueReader) × IsHeld (held_in watchers.old) number watcher) }
-    ensures count { held_count (held_in watchers.new) ≡ held_count (held_in watchers.old) }
-{
-    let mut watcher = watchers.take(number)?;
-    let loaded = values.load(&mut watcher, id);
-    watchers.put_back(number, watcher);
-    Some(loaded)
-}
-
-/// Joins the watcher of this number, if it was not joined before.
-fn join_watcher(
-    values: &CounterValues,
-    conductor: &mut Conductor,
-    watchers: &mut Numbered<ValueReader>,
-    number: usize,
-) -> Option<()>
-    requires { AreWatchedBy values.now (manager_in conductor.old) watchers.old }
-    ensures watched { AreWatchedBy values.now (manager_in conductor.new) watchers.new }
-    ensures left { OnSome result (Unwatches watchers.old number watchers.new) }
-    ensures same { IfNone result
-        ((conductor.new ≡ conductor.old) × (held_in watchers.new ≡ held_in watchers.old)) }
-    ensures free { IfNone result (IsFree (held_in watchers.old) number) }
-    ensures shares { value_shares_of conductor.new + held_count (held_in watchers.new)
-        ≡ value_shares_of conductor.old + held_count (held_in watchers.old) }
-    ensures keeps { KeepsAllCounters values.now conductor.old conductor.new }
-{
-    let watcher = watchers.take(number)?;
-    conductor.join_value_reader(values, watcher);
-    Some(())
-}
-
 impl CommandService {
-    /// Makes a watcher and returns its number. Returns `NoShares` if only one share of the values is left.
+    /// Makes a watcher and returns its number. The room for the watcher is made first. Returns `NoShares` if only one
+    /// share of the values is left.
     pub fn watch(&mut self) -> Result<Result<usize, NoShares>, AllocError>
         ensures made { IfOk result (λ made. IfOk made (λ number.
             Watches (writes_of (manager_in self.old.conductor)) self.old.watchers number self.new.watchers)) }
@@ -96,7 +25,11 @@ impl CommandService {
         ensures keeps { KeepsAllCounters self.new.values self.old.conductor self.new.conductor }
         ensures rest { KeepsButWatchers self.old self.new }
     {
-        make_watcher(&self.values, &mut self.conductor, &mut self.watchers)
+        self.watchers.reserve()?;
+        match self.conductor.value_reader(&self.values) {
+            Ok(watcher) => Ok(Ok(self.watchers.hold(watcher))),
+            Err(fault) => Ok(Err(fault)),
+        }
     }
 
     /// Loads the value of an id for the watcher of this number. Returns `None` if there is no such watcher. Nothing has
@@ -113,7 +46,10 @@ impl CommandService {
         ensures conductor { self.new.conductor ≡ self.old.conductor }
         ensures rest { KeepsButWatchers self.old self.new }
     {
-        load_at(&self.values, &mut self.watchers, number, id)
+        let mut watcher = self.watchers.take(number)?;
+        let loaded = self.values.load(&mut watcher, id);
+        self.watchers.put_back(number, watcher);
+        Some(loaded)
     }
 
     /// Joins the watcher of this number. Returns `None` if there is no such watcher.
@@ -124,12 +60,9 @@ impl CommandService {
         ensures keeps { KeepsAllCounters self.new.values self.old.conductor self.new.conductor }
         ensures rest { KeepsButWatchers self.old self.new }
     {
-        join_watcher(
-            &self.values,
-            &mut self.conductor,
-            &mut self.watchers,
-            number,
-        )
+        let watcher = self.watchers.take(number)?;
+        self.conductor.join_value_reader(&self.values, watcher);
+        Some(())
     }
 
     /// Joins all watchers, in rising order of their numbers. The counters have all shares of the values afterwards.

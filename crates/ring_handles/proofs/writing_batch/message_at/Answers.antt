@@ -1,4 +1,4 @@
-use Rattle.std.proofs.Common.{◌≡◌, ◌+◌, ◌-◌, ℤ, pos, drop, take, to_z, w32, ap, ◌∙◌, arith}
+use Rattle.std.proofs.Common.{◌≡◌, ◌+◌, ◌-◌, pos, drop, take, to_z, w32, ap, ◌∙◌, arith}
 use Rattle.std.proofs.lemmas.Int.{to_z_pos}
 use Rattle.ring_handles.specs.WritingBatch.{word_at}
 use Rattle.ring_handles.proofs.writing_batch.message_at.Goals as goal

@@ -1,12 +1,11 @@
 use Rattle.std.proofs.Common.{◌≡◌, ◌-◌, ◌+◌, ◌*◌, ◌^◌, ◌≤◌, ◌<◌, length}
-use Rattle.ring_rings.specs.Seats.{view_of, IsProducerOf, OpensNone}
+use Rattle.ring_ends.specs.Claiming.{KeepsNumbered}
 use Rattle.ring_handles.proofs.WritingLemmas.{Wrote}
 use Rattle.ring_handles.proofs.writing_batch.write_chunks.Given as goal
 
 abbrev pub invariant-loop-at : goal.invariant-loop-at
-invariant-loop-at g l = IsProducerOf l.ring l.producer
-    × Wrote l.records l.at l.count (view_of l.fn.producer) (view_of l.producer)
-    × OpensNone l.ring l.fn.producer l.producer
+invariant-loop-at g l = Wrote l.records l.at l.count l.fn.end.end.view l.end.end.view
+    × KeepsNumbered l.fn.end l.end
     × (length l.chunk ≡ 64)
     × (16 * l.count ≤ l.at)
     × (l.at < 2 ^ 32 + 8)

@@ -1,13 +1,14 @@
 use Rattle.std.proofs.Common.{rules, ◌≡◌, ◌+◌, List, [], ◌∷◌, ◌++◌, ℕ, length, arith, sym, ◌∙◌, subst, w32, to_z, of_z, get_or, ℤ}
 use Rattle.std.proofs.lemmas.Int.{to_z-of_z}
 use Rattle.ring_rings.specs.Claiming.{RefusesTry}
-use Rattle.ring_rings.specs.Ring.{sent}
-use Rattle.ring_rings.specs.Seats.{capacity_of, view_of}
 use Rattle.ring_table.specs.RunBodies.{message_of, messages_of}
 use Rattle.ring_table.specs.declared.runs.Outgoing.{Outgoing}
 use Rattle.ring_table.proofs.RunFill.{no_message}
+use Rattle.ring_ends.specs.Claiming.{NumberedClaims}
+use Rattle.ring_ends.specs.End.{sent, End}
+use Rattle.ring_ends.proofs.EndLemmas.{keeps_on}
 use Rattle.ring_handles.specs.WritingBatch.{StopsAt}
-use Rattle.ring_handles.proofs.WritingLemmas.{opens_none_on, sent_all, sent_next, sent_on, stops_at}
+use Rattle.ring_handles.proofs.WritingLemmas.{sent_all, sent_next, sent_on, stops_at}
 use Rattle.ring_handles.proofs.writing_batch.write_messages.Goals as goal
 
 pub returns-then-written-messages-clause-sent : goal.returns-then-written-messages-clause-sent
@@ -15,33 +16,35 @@ returns-then-written-messages-clause-sent g c =
     let os : List Outgoing = c.args.messages.now in
     let a : ℕ = c.loop-written.written in
     let n : ℕ = c.write_some-written.result in
-    let on = sent_on os a n (sent c.args.producer.now) (sent c.loop-written.producer)
-    (sent c.write_some-written.new.producer) c.loop-written.invariant.1 c.write_some-written.ensures.sent in
-    sent_all os (a + n) (sent c.args.producer.now) (sent c.write_some-written.new.producer) (omega arith) on
+    let p : NumberedClaims = c.args.end.now in
+    let q : NumberedClaims = c.write_some-written.new.end in
+    let on = sent_on os a n (sent p.end) (sent c.loop-written.end.end) (sent q.end) c.loop-written.invariant.0
+    c.write_some-written.ensures.sent in
+    sent_all os (a + n) (sent p.end) (sent q.end) (omega arith) on
+
+pub returns-then-written-messages-clause-keeps : goal.returns-then-written-messages-clause-keeps
+returns-then-written-messages-clause-keeps g c = keeps_on c.args.end.now c.loop-written.end c.write_some-written.new.end
+    c.loop-written.invariant.2 c.write_some-written.ensures.keeps
 
 pub loop-written-preserved : goal.loop-written-preserved
 loop-written-preserved g c =
     let os : List Outgoing = c.args.messages.now in
     let a : ℕ = c.loop-written.written in
     let n : ℕ = c.write_some-written.result in
-    let C : ℕ = capacity_of c.args.ring.now in
+    let p : NumberedClaims = c.args.end.now in
+    let was : NumberedClaims = c.loop-written.end in
+    let q : NumberedClaims = c.write_some-written.new.end in
+    let r : NumberedClaims = c.try_write.new.self in
     let inv = c.loop-written.invariant in
-    let most = inv.2 in
-    let on = sent_on os a n (sent c.args.producer.now) (sent c.loop-written.producer)
-    (sent c.write_some-written.new.producer) inv.1 c.write_some-written.ensures.sent in
+    let most = inv.1 in
+    let on = sent_on os a n (sent p.end) (sent was.end) (sent q.end) inv.0 c.write_some-written.ensures.sent in
     let type_is : to_z w32 (of_z w32 (get_or os (a + n) no_message).type_id) ≡ (get_or os (a + n) no_message).type_id =
     search (rules, to_z-of_z) in
-    let is : sent c.try_write.new.producer ≡ sent c.write_some-written.new.producer
-    ++ message_of (get_or os (a + n) no_message) ∷ [] = c.in-Ok.ensures.sent.0
-    ∙ (λ i. sent c.write_some-written.new.producer
-    ++ record { type_id = type_is i; body = (get_or os (a + n) no_message).body.now } ∷ []) in (
-      c.in-Ok.ensures.producer,
-      sent_next os (a + n) no_message (sent c.args.producer.now) (sent c.write_some-written.new.producer)
-          (sent c.try_write.new.producer) (omega arith) on is,
+    let is : sent r.end ≡ sent q.end ++ message_of (get_or os (a + n) no_message) ∷ [] = c.in-Ok.ensures.sent.1.0
+    ∙ (λ i. sent q.end ++ record { type_id = type_is i; body = (get_or os (a + n) no_message).body.now } ∷ []) in (
+      sent_next os (a + n) no_message (sent p.end) (sent q.end) (sent r.end) (omega arith) on is,
       omega arith,
-      opens_none_on C (view_of c.args.producer.now) (view_of c.loop-written.producer) (view_of c.try_write.new.producer)
-          inv.3 (opens_none_on C (view_of c.loop-written.producer) (view_of c.write_some-written.new.producer)
-          (view_of c.try_write.new.producer) c.write_some-written.ensures.keeps c.in-Ok.ensures.keeps),
+      keeps_on p q r (keeps_on p was q inv.2 c.write_some-written.ensures.keeps) c.in-Ok.ensures.keeps,
     )
 
 pub returns-in-Err-clause-stops : goal.returns-in-Err-clause-stops
@@ -49,17 +52,28 @@ returns-in-Err-clause-stops g c =
     let os : List Outgoing = c.args.messages.now in
     let a : ℕ = c.loop-written.written in
     let n : ℕ = c.write_some-written.result in
-    let C : ℕ = capacity_of c.args.ring.now in
-    let on = sent_on os a n (sent c.args.producer.now) (sent c.loop-written.producer)
-    (sent c.write_some-written.new.producer) c.loop-written.invariant.1 c.write_some-written.ensures.sent in
-    let type_is : to_z w32 (of_z w32 (get_or os (a + n) no_message).type_id) ≡ (get_or os (a + n) no_message).type_id =
-    search (rules, to_z-of_z) in
+    let p : NumberedClaims = c.args.end.now in
+    let was : NumberedClaims = c.loop-written.end in
+    let q : NumberedClaims = c.write_some-written.new.end in
+    let r : NumberedClaims = c.try_write.new.self in
+    let next : Outgoing = get_or os (a + n) no_message in
+    let kept = keeps_on p was q c.loop-written.invariant.2 c.write_some-written.ensures.keeps in
+    let on = sent_on os a n (sent p.end) (sent was.end) (sent q.end) c.loop-written.invariant.0
+    c.write_some-written.ensures.sent in
+    let type_is : to_z w32 (of_z w32 next.type_id) ≡ next.type_id = search (rules, to_z-of_z) in
     let same : to_z w32 (of_z w32 c.code.result) ≡ c.code.result = search (rules, to_z-of_z) in
-    let refused = subst (λ (z : ℤ). RefusesTry g.K.Kind.many C z (length (get_or os (a + n) no_message).body.now)
-    (view_of c.write_some-written.new.producer) c.in-Err.fault (view_of c.try_write.new.producer)) type_is
-    c.in-Err.ensures.refused in
-    let stops = stops_at g.K.Kind.many C os (a + n) no_message c.code.result (view_of c.args.producer.now)
-    (view_of c.write_some-written.new.producer) (view_of c.try_write.new.producer) (omega arith) on
-    c.in-Err.ensures.sent.1 (record { fault = c.in-Err.fault; code_is = c.code.ensures; refused = refused }) in
-    subst (λ (z : ℤ). StopsAt g.K.Kind.many C (messages_of os) (a + n) z
-    (view_of c.args.producer.now) (view_of c.try_write.new.producer)) (sym same) stops
+    let typed = subst (λ (z : ℤ). RefusesTry q.end.many q.end.capacity z (length next.body.now) q.end.view
+    c.in-Err.fault r.end.view) type_is c.in-Err.ensures.does.1.1 in
+    let refused = subst (λ (e : End). RefusesTry e.many e.capacity next.type_id (length next.body.now) q.end.view
+    c.in-Err.fault r.end.view) kept.1.0 typed in
+    let stops = stops_at p.end.many p.end.capacity os (a + n) no_message c.code.result p.end.view q.end.view r.end.view
+    (omega arith) on c.in-Err.ensures.sent.1.1
+    (record { fault = c.in-Err.fault; code_is = c.code.ensures; refused = refused }) in
+    subst (λ (z : ℤ). StopsAt p.end.many p.end.capacity (messages_of os) (a + n) z p.end.view r.end.view) (sym same) stops
+
+pub returns-in-Err-clause-keeps : goal.returns-in-Err-clause-keeps
+returns-in-Err-clause-keeps g c =
+    let p : NumberedClaims = c.args.end.now in
+    let q : NumberedClaims = c.write_some-written.new.end in
+    keeps_on p q c.try_write.new.self
+    (keeps_on p c.loop-written.end q c.loop-written.invariant.2 c.write_some-written.ensures.keeps) c.in-Err.ensures.keeps

@@ -1,4 +1,4 @@
-use Rattle.std.proofs.Common.{subst}
+use Rattle.std.proofs.Common.{refl, subst}
 use Rattle.std.proofs.lemmas.Result.{IfOk-weaker}
 use Rattle.ring_rings.specs.Reading.{Controls}
 use Rattle.ring_scenario.specs.Printing.{Printed, Prints, printed_by}
@@ -12,10 +12,13 @@ returns-clause-line c =
     (λ text shown. record {
       end = call.result;
       printed = printed_by call.new.handler;
-      controls = subst (λ (s : Printed). Controls Prints c.args.limit c.args.self.now.ring.consumer
-          call.new.self.consumer s (printed_by call.new.handler) call.result) c.new-printer.ensures
-          (printed_controls _ _ _ _ _ _ call.ensures.controls shown.0);
+      controls = (
+        call.ensures.does.0,
+        subst (λ (s : Printed). Controls Prints c.args.limit c.args.self.now.ring.consumer.view
+            call.new.self.view s (printed_by call.new.handler) call.result) c.new-printer.ensures
+            (printed_controls _ _ _ _ _ _ call.ensures.does.1 shown.0),
+      );
       ends = call.ensures.ends;
-      rest = call.ensures.rest;
+      rest = (refl, refl);
       prints = shown.1;
     }) c.read_text.ensures

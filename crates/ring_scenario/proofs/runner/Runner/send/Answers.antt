@@ -4,14 +4,13 @@ use Rattle.std.proofs.lemmas.Result.{IfOk-weaker}
 use Rattle.ring_scenario.proofs.runner.Runner.send.Goals as goal
 
 pub returns-clause-line : goal.returns-clause-line
-returns-clause-line g c =
+returns-clause-line c =
     let same = to_z-of_z w32 c.args.type_id c.ranges.type_id in
     let call = c.send-sent in
     IfOk-weaker c.done.result _ _
     (λ text shown. record {
       sent = call.result;
-      written = rw same at call.ensures.written;
-      refused = rw same at call.ensures.refused;
+      wrote = rw same at call.ensures.wrote;
       rest = call.ensures.rest;
       prints = shown;
     }) c.done.ensures

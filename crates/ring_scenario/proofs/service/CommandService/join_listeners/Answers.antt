@@ -1,8 +1,8 @@
 use Rattle.std.proofs.Common.{◌∙◌, ◌+◌, ◌<◌, ℕ, length, arith}
 use Rattle.ring_service.specs.Conducting.{transmitter_of}
-use Rattle.ring_standalone.specs.Receivers.{LeavesAt, by_number}
-use Rattle.ring_standalone.specs.Held.{held_in}
-use Rattle.ring_standalone.proofs.HeldLemmas.{all_back, given_up}
+use Rattle.ring_ends.specs.Receivers.{LeavesAt, by_number}
+use Rattle.ring_ends.specs.Held.{held_in}
+use Rattle.ring_ends.proofs.HeldLemmas.{all_back, given_up}
 use Rattle.ring_scenario.proofs.service.CommandService.join_listeners.Goals as goal
 
 pub loop-index-preserved : goal.loop-index-preserved

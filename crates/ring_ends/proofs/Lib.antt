@@ -1,0 +1,5 @@
+mod ClaimLemmas
+pub mod EndLemmas
+pub mod HeldLemmas
+mod LeavingLemmas
+mod SlotLemmas

@@ -1,0 +1,31 @@
+use Rattle.std.proofs.Common.{ap, rules, subst}
+use Rattle.ring_board.specs.declared.shared.view.View.{View}
+use Rattle.ring_board.specs.Seats.{IsReceiverOf}
+use Rattle.ring_ends.specs.Held.{Comes, held_in}
+use Rattle.ring_ends.proofs.HeldLemmas.{of_comes, sum_comes}
+use Rattle.ring_ends.proofs.board.StandaloneBoard.subscribe.Goals as goal
+
+pub invariant_of-self-in-Ok-clause-belong : goal.invariant_of-self-in-Ok-clause-belong
+invariant_of-self-in-Ok-clause-belong c =
+    let comes = subst (λ l. Comes c.in-Ok.receiver l c.hold.result (held_in c.hold.new.self)) c.reserve.ensures.same
+    c.hold.ensures in
+    record {
+      transmitter = c.subscribe.ensures.board;
+      receivers = of_comes (IsReceiverOf c.args.self.now.board) _ _ _ _ c.args.self.now.belong.receivers comes
+          c.in-Ok.ensures.receiver.0;
+    }
+
+pub invariant_of-self-in-Ok-clause-shares : goal.invariant_of-self-in-Ok-clause-shares
+invariant_of-self-in-Ok-clause-shares c =
+    let comes = subst (λ l. Comes c.in-Ok.receiver l c.hold.result (held_in c.hold.new.self)) c.reserve.ensures.same
+    c.hold.ensures in
+    let was = c.args.self.now.transmitter.held in
+    sum_comes _ _ _ _ _ _ _ comes (search (rules, was)) (ap (λ (v : View). v.shares) c.in-Ok.ensures.transmitter)
+    c.args.self.now.shares
+
+pub returns-in-Ok-clause-made : goal.returns-in-Ok-clause-made
+returns-in-Ok-clause-made c =
+    let made = c.in-Ok.ensures in
+    let comes = subst (λ l. Comes c.in-Ok.receiver l c.hold.result (held_in c.hold.new.self)) c.reserve.ensures.same
+    c.hold.ensures in
+    record { receiver = c.in-Ok.receiver; knows = made.receiver.1; share = made.transmitter; comes = comes }

@@ -1,0 +1,22 @@
+use Rattle.std.proofs.Common.{refl, subst, sym}
+use Rattle.ring_ends.specs.Claiming.{AreAllOpen}
+use Rattle.ring_ends.proofs.ClaimLemmas.{all_less, numbered_open}
+use Rattle.ring_ends.proofs.EndLemmas.{open_of}
+use Rattle.ring_ends.proofs.claiming.NumberedEnd.abort.Goals as goal
+
+pub abort-requires : goal.abort-requires
+abort-requires g c = let v = c.self.inside.end.view in
+    numbered_open _ v v _ _ _ c.in-Some.ensures.takes.claim c.self.invariant.are
+
+pub invariant_of-self-2 : goal.invariant_of-self-2
+invariant_of-self-2 g c =
+    let p = c.self.inside.end in
+    let q = c.abort.new.self in
+    let t = c.in-Some.ensures.takes in
+    let does = c.abort.ensures.does in
+    open_of p q _ does.0
+    (subst (AreAllOpen p.capacity q.view) (sym t.rest)
+    (all_less _ p.view q.view _ _ _ _ refl t.claim c.abort.ensures.others does.1 c.self.invariant))
+
+pub take-requires : goal.take-requires
+take-requires g c = c.self.invariant.are.apart

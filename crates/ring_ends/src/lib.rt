@@ -1,0 +1,34 @@
+//! Ends of rings, which own what they belong to: a producer or a consumer together with its ring.
+//!
+//! - `producer`: the calls of producers. `many_to_one` has the calls of one of many producers, and `batch` those that
+//!   write batches.
+//! - `consumer`: the calls of the consumer. `opening` makes the ends of a ring, and `last` takes a ring apart.
+//! - `claiming`: a producer whose calls name its claims by number. `open_claims` keeps these claims.
+//! - `numbered`: things that are kept by number. `board`: a broadcast buffer with its receivers.
+//! - `receiving`, `received`: a numbered receiver that asks for a message, and the result.
+#![tactic(auto)]
+
+mod batch;
+mod board;
+mod claiming;
+mod consumer;
+mod last;
+mod many_to_one;
+mod numbered;
+mod open_claims;
+mod opening;
+mod producer;
+mod received;
+mod receiving;
+
+pub use board::StandaloneBoard;
+pub use claiming::{ClaimRefused, Claimed, NumberFault, NumberedEnd};
+pub use consumer::ConsumerEnd;
+pub use last::{CloseRefused, LastEnd};
+pub use many_to_one::SplitFault;
+pub use numbered::Numbered;
+pub use open_claims::OpenClaims;
+pub use opening::open;
+pub use producer::ProducerEnd;
+pub use received::Received;
+pub use receiving::receive_at;

@@ -1,5 +1,0 @@
-use Rattle.ring_handles.proofs.SlotLemmas.{none_noted}
-use Rattle.ring_handles.proofs.open_claims.OpenClaims.pop.Goals as goal
-
-pub invariant_of-self : goal.invariant_of-self
-invariant_of-self c = none_noted _ _

@@ -1,5 +1,0 @@
-pub mod HeldLemmas
-mod ClaimsLemmas
-pub mod TryLemmas
-mod StandaloneLemmas
-mod LeavingLemmas

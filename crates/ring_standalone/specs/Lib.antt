@@ -1,4 +1,0 @@
-pub mod Claims
-pub mod Held
-pub mod Standalone
-pub mod Receivers
