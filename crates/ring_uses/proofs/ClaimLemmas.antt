@@ -8,9 +8,8 @@ use Rattle.ring_layout.specs.History.{overwritten}
 use Rattle.ring_words.specs.Open.{ClaimAt}
 use Rattle.ring_table.specs.declared.claim.StagedClaim.{StagedClaim}
 use Rattle.ring_table.specs.Staged.{AreAbove, AreRising}
-use Rattle.ring_rings.specs.declared.ring.Producer.{Producer}
-use Rattle.ring_rings.specs.Ring.{sent, SendsClaimed, HasMessage}
-use Rattle.ring_rings.specs.Seats.{claims_of}
+use Rattle.ring_rings.specs.Ring.{SendsClaimedAt}
+use Rattle.ring_ends.specs.End.{sent, End, HasMessage}
 
 -- two claims at one place are one, if places rise
 above_at : (q : ℕ) (cs : List StagedClaim) (k : ℕ) (c : StagedClaim) → AreAbove q cs → get_elem? cs k ≡ some c
@@ -34,13 +33,13 @@ one_at (e ∷ es) (suc k) zero c d rising at at' same =
 one_at (e ∷ es) (suc k) (suc j) c d rising at at' same = one_at es k j c d rising.1 at at' same
 
 -- what a claim that is committed sends is the message that it has
-pub commit_sends : (old new : Producer) (t : ClaimAt) (m : Message) → AreRising (claims_of old) → HasMessage old t.place m
-    → SendsClaimed t.place old new → sent old ≡ [] → sent new ≡ m ∷ []
+pub commit_sends : (old new : End) (t : ClaimAt) (m : Message) → AreRising old.view.producer.claims
+    → HasMessage old t.place m → SendsClaimedAt t.place old.view new.view → sent old ≡ [] → sent new ≡ m ∷ []
 commit_sends old new t m rising has sends none = by sends.before sends.after (sym sends.was ∙ none) sends.is
   where
     same : sends.message ≡ m
     same =
-        let one = one_at (claims_of old) sends.claimed.nth has.nth sends.claimed.claim has.claim rising
+        let one = one_at old.view.producer.claims sends.claimed.nth has.nth sends.claimed.claim has.claim rising
         sends.claimed.there has.there (sends.claimed.at_place ∙ sym has.at_place) in
         sym sends.claimed.holds ∙ ap (λ (c : StagedClaim). c.message) one ∙ has.holds
 

@@ -1,12 +1,11 @@
--- What a ring that was closed says of its endpoints.
+-- What a ring that was closed says of its ends.
 use Rattle.std.proofs.Common.{subst, sym}
-use Rattle.ring_rings.specs.declared.ring.Consumer.{Consumer}
-use Rattle.ring_rings.specs.declared.ring.Producer.{Producer}
-use Rattle.ring_rings.specs.Ring.{IsWhole, received, sent}
+use Rattle.ring_rings.specs.Ring.{IsWhole}
+use Rattle.ring_ends.specs.End.{received, sent, End}
+use Rattle.ring_ends.specs.Ending.{Last}
 use Rattle.ring_uses.specs.declared.closing.Closed.{Closed}
-use Rattle.ring_uses.specs.Closing.{IsClosedWith, IsWholeIn, sent_in}
+use Rattle.ring_uses.specs.Closing.{IsClosedWith, IsWholeIn}
 
-pub whole_in : (p : Producer) (q : Consumer) (closed : Closed) → IsClosedWith p q closed → IsWholeIn closed
+pub whole_in : (p q : End) (closed : Closed Last) → IsClosedWith p q closed → IsWholeIn closed
 whole_in p q closed it =
-    subst (λ (x : Consumer). IsWhole (sent_in closed) (received x) closed.rest) (sym it.by_consumer)
-    (subst (λ (x : Producer). IsWhole (sent x) (received q) closed.rest) (sym it.by_producer) it.whole)
+    subst (λ (x : Last). IsWhole (sent x.producer) (received x.consumer) closed.rest) (sym it.ends) it.whole

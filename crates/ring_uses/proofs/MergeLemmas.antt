@@ -3,9 +3,9 @@ use Rattle.std.proofs.Common.{◌≡◌, ◌∙◌, ◌+◌, ◌*◌, ◌≤◌,
 use Rattle.std.proofs.lemmas.List.Elements.{filter-append}
 use Rattle.std.specs.Ordering.{int_eq}
 use Rattle.ring_layout.specs.declared.message.Message.{Message}
-use Rattle.ring_rings.specs.declared.ring.Consumer.{Consumer}
-use Rattle.ring_rings.specs.declared.ring.Producer.{Producer}
-use Rattle.ring_rings.specs.Ring.{AreMerged, received, sent}
+use Rattle.ring_rings.specs.Ring.{AreMerged}
+use Rattle.ring_ends.specs.End.{received, sent, End}
+use Rattle.ring_ends.specs.Ending.{Last}
 use Rattle.ring_uses.specs.declared.numbers.Summed.{Summed}
 use Rattle.ring_uses.specs.Closing.{IsClosedWith}
 use Rattle.ring_uses.specs.Numbers.{numbered, numbers, sum_of}
@@ -94,7 +94,7 @@ module _ (first second : ℤ) (last : ℕ) (ms : List Message) (h : AreOfTwo fir
       ∙ (λ i. length-numbers first h.n i + length-numbers second h.m i)
 
 -- as many messages were received as four producers were to send
-pub in_order : (last : ℕ) (s : Summed) (p : Producer) (q : Consumer) → IsClosedWith p q s.closed
+pub in_order : (last : ℕ) (s : Summed Last) (p q : End) → IsClosedWith p q s.closed
     → AreOfFour last (sent p) → 4 * last ≤ length (received q) → s.sum ≡ sum_of (received q) → AreInOrder last s
 in_order last s p q closed four enough is =
     let whole = closed.whole in
@@ -119,10 +119,10 @@ in_order last s p q closed four enough is =
     ∙ of_first (λ (m : Message). int_eq m.type_id k) four.left four.right (sent p) four.merged none in
     let right = λ (k : ℤ). λ (none : of_type k four.left ≡ []). ap (of_type k) all
     ∙ of_second (λ (m : Message). int_eq m.type_id k) four.left four.right (sent p) four.merged none in
-    let same_received = ap received closed.by_consumer in
+    let same_received = ap (λ (x : Last). received x.consumer) closed.ends in
     record {
       whole = whole_in p q s.closed closed;
-      all = same_received ∙ (all ∙ sym (ap sent closed.by_producer));
+      all = same_received ∙ (all ∙ sym (ap (λ (x : Last). sent x.producer) closed.ends));
       first = ap (of_type (pos 1)) same_received ∙ left (pos 1) (none_of (pos 3) (pos 4) last four.right b (pos 1) refl refl)
           ∙ first_of (pos 1) (pos 2) last four.left a refl refl ∙ ap (numbers (pos 1)) one;
       second = ap (of_type (pos 2)) same_received ∙ left (pos 2) (none_of (pos 3) (pos 4) last four.right b (pos 2) refl refl)

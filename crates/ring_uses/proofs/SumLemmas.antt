@@ -5,9 +5,8 @@ use Rattle.std.proofs.lemmas.List.Sums.{sum_by-append}
 use Rattle.ring_layout.specs.declared.message.Message.{Message}
 use Rattle.ring_layout.specs.Handles.{Handles}
 use Rattle.ring_words.specs.declared.read.action.Action.{Action}
-use Rattle.ring_rings.specs.declared.ring.Consumer.{Consumer}
-use Rattle.ring_rings.specs.declared.ring.Producer.{Producer}
-use Rattle.ring_rings.specs.Ring.{received, sent}
+use Rattle.ring_ends.specs.End.{received, sent, End}
+use Rattle.ring_ends.specs.Ending.{Last}
 use Rattle.ring_uses.specs.declared.numbers.Sum.{Sum}
 use Rattle.ring_uses.specs.declared.numbers.Summed.{Summed}
 use Rattle.ring_uses.specs.Closing.{IsClosedWith}
@@ -45,7 +44,7 @@ none_unread received (m ∷ unread) sent all le =
     let lengths = ap length all in
     absurd (omega (arith, length-append received (m ∷ unread)))
 
-pub summed : (last n : ℕ) (s : Summed) (p : Producer) (q : Consumer) → IsClosedWith p q s.closed → n ≤ last
+pub summed : (last n : ℕ) (s : Summed Last) (p q : End) → IsClosedWith p q s.closed → n ≤ last
     → sent p ≡ numbers (pos 1) n → last ≤ length (received q) → s.sum ≡ sum_of (received q) → IsSummed last s
 summed last n s p q closed few are enough is =
     let count = ap length are ∙ length-numbers (pos 1) n in
@@ -54,8 +53,8 @@ summed last n s p q closed few are enough is =
     let same : n ≡ last = (let l = ap length all in omega arith) in
     let sent_is = are ∙ ap (numbers (pos 1)) same in
     record {
-      sends = ap sent closed.by_producer ∙ sent_is;
-      receives = ap received closed.by_consumer ∙ (all ∙ sent_is);
+      sends = ap (λ (x : Last). sent x.producer) closed.ends ∙ sent_is;
+      receives = ap (λ (x : Last). received x.consumer) closed.ends ∙ (all ∙ sent_is);
       whole = whole_in p q s.closed closed;
-      sum = is ∙ ap sum_of (sym (ap received closed.by_consumer));
+      sum = is ∙ ap sum_of (sym (ap (λ (x : Last). received x.consumer) closed.ends));
     }

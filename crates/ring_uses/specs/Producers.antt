@@ -3,6 +3,7 @@ use Rattle.std.specs.Prelude.{◌≡◌, ℕ, ◌*◌, ◌≤◌, ℤ, pos, List
 use Rattle.std.specs.Ordering.{int_eq}
 use Rattle.ring_layout.specs.declared.message.Message.{Message}
 use Rattle.ring_rings.specs.Ring.{AreMerged}
+use Rattle.ring_ends.specs.Ending.{Last}
 use Rattle.ring_uses.specs.declared.numbers.Summed.{Summed}
 use Rattle.ring_uses.specs.Closing.{IsWholeIn, received_in, sent_in}
 use Rattle.ring_uses.specs.Numbers.{numbers, sum_of}
@@ -29,7 +30,7 @@ pub record AreOfFour (last : ℕ) (ms : List Message) : Type 0 where
 
 -- All that was sent was received. The messages have the numbers from 1 to `last` with each of four type ids, in order,
 -- and no others. The sum is that of the received numbers.
-pub record AreInOrder (last : ℕ) (s : Summed) : Type 0 where
+pub record AreInOrder (last : ℕ) (s : Summed Last) : Type 0 where
   pub whole : IsWholeIn s.closed
   pub all : received_in s.closed ≡ sent_in s.closed
   pub first : of_type (pos 1) (received_in s.closed) ≡ numbers (pos 1) last

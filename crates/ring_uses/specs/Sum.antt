@@ -1,12 +1,13 @@
 -- Two threads and a sum.
 use Rattle.std.specs.Prelude.{◌≡◌, ℕ, pos}
+use Rattle.ring_ends.specs.Ending.{Last}
 use Rattle.ring_uses.specs.declared.numbers.Summed.{Summed}
 use Rattle.ring_uses.specs.Closing.{IsWholeIn, received_in, sent_in}
 use Rattle.ring_uses.specs.Numbers.{numbers, sum_of}
 
 -- The numbers from 1 to `last` were sent, and all of them were received, in order. The sum is that of the received
 -- numbers.
-pub record IsSummed (last : ℕ) (s : Summed) : Type 0 where
+pub record IsSummed (last : ℕ) (s : Summed Last) : Type 0 where
   pub sends : sent_in s.closed ≡ numbers (pos 1) last
   pub receives : received_in s.closed ≡ numbers (pos 1) last
   pub whole : IsWholeIn s.closed

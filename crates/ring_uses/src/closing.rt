@@ -1,40 +1,44 @@
 //! The end of each use.
 ghost use Rattle.std.specs.Prelude.{IfOk};
-ghost use Rattle.ring_rings.specs.Seats.{IsConsumerOf, IsProducerOf};
+ghost use Rattle.ring_ends.specs.End.{AreOfOneRing};
 ghost use Rattle.ring_uses.specs.Closing.{IsClosedWith};
 
-use ring_rings::{CloseFault, Consumer, PlainRing, Producer};
+use ring_ends::{ConsumerEnd, LastEnd, ProducerEnd};
+use ring_rings::{InSlots, Kind};
 use ring_words::SoloRing;
 use std::snapshot::Snapshot;
+use thiserror::Error;
+
+/// The error of a ring that another end still owns.
+#[derive(Clone, Copy, Debug, Error)]
+#[error("another end owns the ring")]
+pub struct RingInUse;
 
 /// A ring that was closed.
 #[derive(Drop)]
-pub struct Closed {
+pub struct Closed<Ends> {
     /// The messages that are still in the ring.
     pub rest: SoloRing,
-    /// The producer that was given to the call. This field is for contracts, and has no bytes. Contracts read in it
-    /// what was sent.
-    pub producer: Snapshot<Producer>,
-    /// The consumer that was given to the call, for contracts. Contracts read in it what was received.
-    pub consumer: Snapshot<Consumer>,
+    /// The ends that were given to the call. This field is for contracts, and has no bytes. Contracts read in it what
+    /// was sent and what was received.
+    pub ends: Snapshot<Ends>,
 }
 
 /// Closes a ring, and gives up if it cannot be closed.
-pub fn close<K>(
-    ring: PlainRing<K>,
-    producer: Producer,
-    consumer: Consumer,
-) -> Result<Closed, CloseFault>
-    requires { IsProducerOf ring producer × IsConsumerOf ring consumer }
+pub fn close<K: Kind>(
+    producer: ProducerEnd<K, InSlots>,
+    consumer: ConsumerEnd<K, InSlots>,
+) -> anyhow::Result<Closed<LastEnd<K, InSlots>>>
+    requires { AreOfOneRing consumer producer }
     ensures { IfOk result (IsClosedWith producer consumer) }
 {
-    let named = (Snapshot::of(&producer), Snapshot::of(&consumer));
-    match ring.close(producer, consumer) {
-        Ok(rest) => Ok(Closed {
-            rest,
-            producer: named.0,
-            consumer: named.1,
-        }),
-        Err(refused) => Err(refused.reason),
+    let last = match consumer.close(producer) {
+        Ok(last) => last,
+        Err(refused) => return Err(refused.reason.into()),
+    };
+    let ends = Snapshot::of(&last);
+    match last.finish() {
+        Ok(rest) => Ok(Closed { rest, ends }),
+        Err(_last) => Err(RingInUse.into()),
     }
 }

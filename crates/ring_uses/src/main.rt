@@ -18,7 +18,7 @@ use std::io;
 use sum::add_up;
 
 /// Prints a sum, and the bytes that are left in the ring.
-fn print_sum(rt: &impl Print, what: &str, summed: &Summed) -> io::Result<()> {
+fn print_sum<Ends>(rt: &impl Print, what: &str, summed: &Summed<Ends>) -> io::Result<()> {
     let left = summed.closed.rest.positions().used();
     println!(rt; "{what}: sum {} left {left}", summed.sum)
 }

@@ -1,12 +1,12 @@
 //! A consumer that reads numbers and adds them up.
 ghost use Rattle.std.specs.Prelude.{◌≡◌, ◌≤◌, [], length};
-ghost use Rattle.ring_rings.specs.Ring.{received};
-ghost use Rattle.ring_rings.specs.Seats.{IsConsumerOf};
+ghost use Rattle.ring_ends.specs.End.{received, AreOfOneRing};
 ghost use Rattle.ring_uses.specs.Numbers.{number_of, sum_of, Adds};
 
 use crate::closing::Closed;
 use crossbeam_utils::Backoff;
-use ring_rings::{Action, Consumer, Handler, PlainRing};
+use ring_ends::ConsumerEnd;
+use ring_rings::{Action, Handler, InSlots, Kind};
 use std::sync::Wait;
 
 /// Adds up the numbers that the handler is shown.
@@ -17,9 +17,9 @@ pub struct Sum {
 
 /// A sum, and the ring that was closed.
 #[derive(Drop)]
-pub struct Summed {
+pub struct Summed<Ends> {
     pub sum: u64,
-    pub closed: Closed,
+    pub closed: Closed<Ends>,
 }
 
 /// Returns the number in a body. This is its first eight bytes, or 0 if it has fewer bytes.
@@ -43,15 +43,13 @@ impl Handler for Sum {
 }
 
 /// Reads until this many messages have come.
-pub fn read_numbers<K, R: Wait>(
+pub fn read_numbers<K: Kind, R: Wait>(
     rt: &R,
-    ring: &PlainRing<K>,
-    mut consumer: Consumer,
+    mut consumer: ConsumerEnd<K, InSlots>,
     messages: u64,
-) -> (Consumer, Sum)
-    requires consumer { IsConsumerOf ring.now consumer }
-    requires new { received consumer ≡ [] }
-    ensures consumer { IsConsumerOf ring.now result.0 }
+) -> (ConsumerEnd<K, InSlots>, Sum)
+    requires { received consumer ≡ [] }
+    ensures ring { AreOfOneRing consumer result.0 }
     ensures all { messages ≤ length (received result.0) }
     ensures sum { result.1.sum ≡ sum_of (received result.0) }
 {
@@ -62,7 +60,7 @@ pub fn read_numbers<K, R: Wait>(
         if count >= messages {
             return (consumer, sum);
         }
-        let end = ring.read(&mut consumer, u32::MAX, &mut sum);
+        let end = consumer.read(u32::MAX, &mut sum);
         count = count.saturating_add(u64::from(end.messages));
         // If no byte was read, no settled record was at the head. A read that only reaches the end of the buffer moves
         // the head too.

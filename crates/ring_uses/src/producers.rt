@@ -1,32 +1,35 @@
 //! Four producers send numbers into one ring, each on a thread of its own.
 ghost use Rattle.std.specs.Prelude.{◌≡◌, ◌≤◌, pos, [], length, IfOk};
-ghost use Rattle.ring_rings.specs.Ring.{received, sent};
-ghost use Rattle.ring_rings.specs.Seats.{IsConsumerOf, IsProducerOf};
+ghost use Rattle.ring_ends.specs.End.{received, sent, AreOfOneRing};
 ghost use Rattle.ring_uses.specs.Numbers.{sum_of, AreUpTo};
 ghost use Rattle.ring_uses.specs.Producers.{AreInOrder, AreOfFour, AreOfTwo};
 
 use crate::closing::close;
 use crate::numbers::{Sum, Summed, read_numbers};
+use anyhow::anyhow;
 use crossbeam_utils::Backoff;
-use ring_rings::{ClaimFault, Consumer, PlainManyToOneRing, Producer};
+use ring_ends::{ConsumerEnd, LastEnd, ProducerEnd, open};
+use ring_rings::{ClaimFault, InSlots, ManyToOne};
 use std::alloc::Global;
 use std::sync::Wait;
 use std::thread::{Threads, join};
+
+/// A producer of the ring, which is one of several. The ring is a plain one.
+type Producer = ProducerEnd<ManyToOne, InSlots>;
+
+/// The consumer of the ring.
+type Consumer = ConsumerEnd<ManyToOne, InSlots>;
+
+/// Both ends of the ring, after it was closed.
+type Ends = LastEnd<ManyToOne, InSlots>;
 
 /// Two producers.
 type Pair = (Producer, Producer);
 
 /// Writes the numbers from 1 to `last` with this type id, and waits while the ring is full.
-fn write_numbers<R: Wait>(
-    rt: &R,
-    ring: &PlainManyToOneRing,
-    mut producer: Producer,
-    type_id: i32,
-    last: u32,
-) -> Producer
-    requires producer { IsProducerOf ring.now producer }
-    requires new { sent producer ≡ [] }
-    ensures producer { IsProducerOf ring.now result }
+fn write_numbers<R: Wait>(rt: &R, mut producer: Producer, type_id: i32, last: u32) -> Producer
+    requires { sent producer ≡ [] }
+    ensures ring { AreOfOneRing producer result }
     ensures sent { AreUpTo type_id last (sent result) }
 {
     let backoff = Backoff::new();
@@ -37,7 +40,7 @@ fn write_numbers<R: Wait>(
         }
         let number: u32 = written + 1;
         let body = u64::from(number).to_le_bytes();
-        match ring.write(rt, &mut producer, type_id, &body) {
+        match producer.write(rt, type_id, &body) {
             Ok(()) => {
                 written = number;
                 backoff.reset();
@@ -52,90 +55,84 @@ fn write_numbers<R: Wait>(
 /// Writes the numbers from 1 to `last` by two producers on two threads, and joins the producers.
 fn write_both<R: Threads + Wait + Sync>(
     rt: &R,
-    ring: &PlainManyToOneRing,
     pair: Pair,
     first: i32,
     second: i32,
     last: u32,
 ) -> Producer
-    requires producers { IsProducerOf ring.now pair.0 × IsProducerOf ring.now pair.1 }
+    requires ring { AreOfOneRing pair.0 pair.1 }
     requires new { (sent pair.0 ≡ []) × (sent pair.1 ≡ []) }
-    ensures producer { IsProducerOf ring.now result }
+    ensures ring { AreOfOneRing pair.0 result }
     ensures sent { AreOfTwo first second last (sent result) }
 {
     let (one, two) = pair;
     let (mut one, two) = join(
         rt,
         move || -> Producer
-            requires { IsProducerOf ring.now one × (sent one ≡ []) }
-            ensures { IsProducerOf ring.entry.now result × AreUpTo first last (sent result) }
-        { write_numbers(rt, ring, one, first, last) },
+            requires { sent one ≡ [] }
+            ensures { AreOfOneRing one result × AreUpTo first last (sent result) }
+        { write_numbers(rt, one, first, last) },
         move || -> Producer
-            requires { IsProducerOf ring.now two × (sent two ≡ []) }
-            ensures { IsProducerOf ring.entry.now result × AreUpTo second last (sent result) }
-        { write_numbers(rt, ring, two, second, last) },
+            requires { sent two ≡ [] }
+            ensures { AreOfOneRing two result × AreUpTo second last (sent result) }
+        { write_numbers(rt, two, second, last) },
     );
-    ring.join(&mut one, two);
+    one.join(two);
     one
 }
 
 /// Writes the numbers from 1 to `last` by four producers on four threads, with the type ids 1 to 4, and joins the
 /// producers.
-fn write_all<R: Threads + Wait + Sync>(
-    rt: &R,
-    ring: &PlainManyToOneRing,
-    left: Pair,
-    right: Pair,
-    last: u32,
-) -> Producer
-    requires left { IsProducerOf ring.now left.0 × IsProducerOf ring.now left.1 }
-    requires right { IsProducerOf ring.now right.0 × IsProducerOf ring.now right.1 }
+fn write_all<R: Threads + Wait + Sync>(rt: &R, left: Pair, right: Pair, last: u32) -> Producer
+    requires left { AreOfOneRing left.0 left.1 }
+    requires right { AreOfOneRing left.0 right.0 × AreOfOneRing right.0 right.1 }
     requires new { (sent left.0 ≡ []) × (sent left.1 ≡ []) × (sent right.0 ≡ []) × (sent right.1 ≡ []) }
-    ensures producer { IsProducerOf ring.now result }
+    ensures ring { AreOfOneRing left.0 result }
     ensures sent { AreOfFour last (sent result) }
 {
     let (mut producer, other) = join(
         rt,
         move || -> Producer
-            requires { IsProducerOf ring.now left.0 × IsProducerOf ring.now left.1
-                × (sent left.0 ≡ []) × (sent left.1 ≡ []) }
-            ensures { IsProducerOf ring.entry.now result × AreOfTwo (pos 1) (pos 2) last (sent result) }
-        { write_both(rt, ring, left, 1, 2, last) },
+            requires { AreOfOneRing left.0 left.1 × (sent left.0 ≡ []) × (sent left.1 ≡ []) }
+            ensures { AreOfOneRing left.0 result × AreOfTwo (pos 1) (pos 2) last (sent result) }
+        { write_both(rt, left, 1, 2, last) },
         move || -> Producer
-            requires { IsProducerOf ring.now right.0 × IsProducerOf ring.now right.1
-                × (sent right.0 ≡ []) × (sent right.1 ≡ []) }
-            ensures { IsProducerOf ring.entry.now result × AreOfTwo (pos 3) (pos 4) last (sent result) }
-        { write_both(rt, ring, right, 3, 4, last) },
+            requires { AreOfOneRing right.0 right.1 × (sent right.0 ≡ []) × (sent right.1 ≡ []) }
+            ensures { AreOfOneRing right.0 result × AreOfTwo (pos 3) (pos 4) last (sent result) }
+        { write_both(rt, right, 3, 4, last) },
     );
-    ring.join(&mut producer, other);
+    producer.join(other);
     producer
 }
 
 /// Sends the numbers from 1 to `last` by each of four producers, and adds up all numbers that come.
-pub fn gather<R: Threads + Wait + Sync>(rt: &R, alloc: Global, last: u32) -> anyhow::Result<Summed>
+pub fn gather<R: Threads + Wait + Sync>(
+    rt: &R,
+    alloc: Global,
+    last: u32,
+) -> anyhow::Result<Summed<Ends>>
     ensures { IfOk result (λ s. AreInOrder last s) }
 {
-    let (ring, mut one, consumer) = PlainManyToOneRing::new(alloc, 256)?;
-    let two = ring.split(&mut one)?;
-    let three = ring.split(&mut one)?;
-    let four = ring.split(&mut one)?;
-    let (shared, left, right) = (&ring, (one, two), (three, four));
+    let (mut one, consumer) = open(alloc, 256, 0)?;
+    let (Ok(two), Ok(three), Ok(four)) = (one.split(), one.split(), one.split()) else {
+        return Err(anyhow!("a producer was not split"));
+    };
+    let (left, right) = ((one, two), (three, four));
     let all = 4 * u64::from(last);
     let (producer, (consumer, sum)) = join(
         rt,
         move || -> Producer
-            requires { IsProducerOf shared.now left.0 × IsProducerOf shared.now left.1
-                × IsProducerOf shared.now right.0 × IsProducerOf shared.now right.1
+            requires { AreOfOneRing left.0 left.1 × AreOfOneRing left.0 right.0 × AreOfOneRing right.0 right.1
                 × (sent left.0 ≡ []) × (sent left.1 ≡ []) × (sent right.0 ≡ []) × (sent right.1 ≡ []) }
-            ensures { IsProducerOf shared.entry.now result × AreOfFour last (sent result) }
-        { write_all(rt, shared, left, right, last) },
+            ensures { AreOfOneRing left.0 result × AreOfFour last (sent result) }
+        { write_all(rt, left, right, last) },
         move || -> (Consumer, Sum)
-            requires { IsConsumerOf shared.now consumer × (received consumer ≡ []) }
-            ensures { IsConsumerOf shared.entry.now result.0 × (all ≤ length (received result.0))
+            requires { received consumer ≡ [] }
+            ensures { AreOfOneRing consumer result.0 × (all ≤ length (received result.0))
                 × (result.1.sum ≡ sum_of (received result.0)) }
-        { read_numbers(rt, shared, consumer, all) },
+        { read_numbers(rt, consumer, all) },
     );
-    let closed = close(ring, producer, consumer)?;
+    let closed = close(producer, consumer)?;
     Ok(Summed {
         sum: sum.sum,
         closed,

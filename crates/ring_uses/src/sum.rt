@@ -1,14 +1,14 @@
 //! One thread writes the numbers from 1 on into a ring. Another thread reads them and adds them up.
 ghost use Rattle.std.specs.Prelude.{◌≡◌, ◌≤◌, pos, [], length, IfOk};
-ghost use Rattle.ring_rings.specs.Ring.{received, sent};
-ghost use Rattle.ring_rings.specs.Seats.{all_shares, shares_of, IsConsumerOf, IsProducerOf};
+ghost use Rattle.ring_ends.specs.End.{received, sent, AreOfOneRing};
 ghost use Rattle.ring_uses.specs.Numbers.{sum_of, AreUpTo};
 ghost use Rattle.ring_uses.specs.Sum.{IsSummed};
 
 use crate::closing::close;
 use crate::numbers::{Sum, Summed, read_numbers};
 use crossbeam_utils::Backoff;
-use ring_rings::{ClaimFault, Consumer, PlainOneToOneRing, Producer};
+use ring_ends::{ConsumerEnd, LastEnd, ProducerEnd, open};
+use ring_rings::{ClaimFault, InSlots, OneToOne, TryFault};
 use std::alloc::Global;
 use std::sync::Wait;
 use std::thread::{Threads, join};
@@ -16,19 +16,20 @@ use std::thread::{Threads, join};
 /// The type id of the messages.
 const NUMBER: i32 = 1;
 
+/// The producer of the ring, which is its only one. The ring is a plain one.
+type Producer = ProducerEnd<OneToOne, InSlots>;
+
+/// The consumer of the ring.
+type Consumer = ConsumerEnd<OneToOne, InSlots>;
+
+/// Both ends of the ring, after it was closed.
+type Ends = LastEnd<OneToOne, InSlots>;
+
 /// Writes the numbers from 1 to `last`, and waits while the ring is full. The producer comes back, so that the ring can
 /// be closed.
-fn write_numbers<R: Wait>(
-    rt: &R,
-    ring: &PlainOneToOneRing,
-    mut producer: Producer,
-    last: u64,
-) -> Producer
-    // The producer is one of this ring, and the only one.
-    requires producer { IsProducerOf ring.now producer }
-    requires sole { shares_of producer ≡ all_shares }
-    requires new { sent producer ≡ [] }
-    ensures producer { IsProducerOf ring.now result }
+fn write_numbers<R: Wait>(rt: &R, mut producer: Producer, last: u64) -> Producer
+    requires { sent producer ≡ [] }
+    ensures ring { AreOfOneRing producer result }
     ensures sent { AreUpTo (pos 1) last (sent result) }
 {
     let backoff = Backoff::new();
@@ -38,13 +39,13 @@ fn write_numbers<R: Wait>(
             return producer;
         }
         let number: u64 = written + 1;
-        match ring.write(&mut producer, NUMBER, &number.to_le_bytes()) {
+        match producer.try_write(NUMBER, &number.to_le_bytes()) {
             Ok(()) => {
                 written = number;
                 backoff.reset();
             }
-            Err(ClaimFault::InsufficientCapacity { .. }) => backoff.snooze(),
-            // The type id is valid, and 8 bytes are at most an eighth of the ring.
+            Err(TryFault::Refused(ClaimFault::InsufficientCapacity { .. })) => backoff.snooze(),
+            // The type id is valid, and 8 bytes are at most an eighth of the ring. No other producer can be faster.
             Err(_) => return producer,
         }
     }
@@ -52,25 +53,28 @@ fn write_numbers<R: Wait>(
 }
 
 /// Adds up the numbers from 1 to `last`, which come through a ring.
-pub fn add_up<R: Threads + Wait + Sync>(rt: &R, alloc: Global, last: u64) -> anyhow::Result<Summed>
+pub fn add_up<R: Threads + Wait + Sync>(
+    rt: &R,
+    alloc: Global,
+    last: u64,
+) -> anyhow::Result<Summed<Ends>>
     ensures { IfOk result (λ s. IsSummed last s) }
 {
-    let (ring, producer, consumer) = PlainOneToOneRing::new(alloc, 128)?;
-    let shared = &ring;
+    let (producer, consumer) = open(alloc, 128, 0)?;
     let (producer, (consumer, sum)) = join(
         rt,
         // A closure's clauses say what goes into its thread and what comes out of it.
         move || -> Producer
-            requires { IsProducerOf shared.now producer × (shares_of producer ≡ all_shares) × (sent producer ≡ []) }
-            ensures { IsProducerOf shared.entry.now result × AreUpTo (pos 1) last (sent result) }
-        { write_numbers(rt, shared, producer, last) },
+            requires { sent producer ≡ [] }
+            ensures { AreOfOneRing producer result × AreUpTo (pos 1) last (sent result) }
+        { write_numbers(rt, producer, last) },
         move || -> (Consumer, Sum)
-            requires { IsConsumerOf shared.now consumer × (received consumer ≡ []) }
-            ensures { IsConsumerOf shared.entry.now result.0 × (last ≤ length (received result.0))
+            requires { received consumer ≡ [] }
+            ensures { AreOfOneRing consumer result.0 × (last ≤ length (received result.0))
                 × (result.1.sum ≡ sum_of (received result.0)) }
-        { read_numbers(rt, shared, consumer, last) },
+        { read_numbers(rt, consumer, last) },
     );
-    let closed = close(ring, producer, consumer)?;
+    let closed = close(producer, consumer)?;
     Ok(Summed {
         sum: sum.sum,
         closed,

@@ -1,5 +1,6 @@
 use Rattle.std.proofs.Common.{◌∙◌, length, length-append, ap, sym, arith}
-use Rattle.ring_rings.specs.Ring.{received}
+use Rattle.ring_ends.specs.End.{received}
+use Rattle.ring_ends.proofs.EndLemmas.{one_ring}
 use Rattle.ring_uses.proofs.SumLemmas.{sums}
 use Rattle.ring_uses.specs.Numbers.{sum_of}
 use Rattle.ring_uses.proofs.numbers.read_numbers.Goals as goal
@@ -12,7 +13,7 @@ loop-preserved-then-end-eq0 g c =
     let counted = r.counted in
     let sum = c.saturating_add-count.ensures in
     let from = c.from.ensures in (
-      c.read-end.ensures.consumer,
+      one_ring c.args.consumer c.loop.consumer c.read-end.new.self c.loop.invariant.0 c.read-end.ensures.does.0,
       omega (arith, more, counted, sum, from, le),
       sums c.loop.sum c.read-end.new.handler (received c.loop.consumer) r.messages r.actions r.handled c.loop.invariant.2
           ∙ sym (ap sum_of r.more),
@@ -26,7 +27,7 @@ loop-preserved g c =
     let counted = r.counted in
     let sum = c.saturating_add-count.ensures in
     let from = c.from.ensures in (
-      c.read-end.ensures.consumer,
+      one_ring c.args.consumer c.loop.consumer c.read-end.new.self c.loop.invariant.0 c.read-end.ensures.does.0,
       omega (arith, more, counted, sum, from, le),
       sums c.loop.sum c.read-end.new.handler (received c.loop.consumer) r.messages r.actions r.handled c.loop.invariant.2
           ∙ sym (ap sum_of r.more),
