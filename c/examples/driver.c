@@ -1,5 +1,6 @@
-/* A conductor, two clients and a monitor, each on a thread of its own. The program does the same and prints the same as
- * crates/ring_example. To compile it: cc -pthread -o driver c/examples/driver.c -Ic/out c/out/libfelter.a */
+/* A conductor, two clients and a monitor, each on a thread of its own. The program prints c/examples/driver.out, as the
+ * same program in Rust and crates/ring_uses/src/driver.rt do. To compile it:
+ * cc -pthread -o driver c/examples/driver.c -Ic/out c/out/libfelter.a */
 #include "felter.h"
 
 #include <inttypes.h>

@@ -1,8 +1,9 @@
-//! Five small uses of rings. Each has a contract that says what became of the data.
+//! Six small uses of rings. The contracts of five of them say what became of the data.
 #![tactic(auto)]
 
 mod claims;
 mod closing;
+mod driver;
 mod laps;
 mod numbers;
 mod producers;
@@ -10,6 +11,7 @@ mod reply;
 mod sum;
 
 use claims::abort_first;
+use driver::{drive, print_driven};
 use laps::overtake;
 use numbers::Summed;
 use producers::gather;
@@ -33,5 +35,5 @@ fn main(rt: HostRuntime) -> anyhow::Result<()> {
         overtaken.sum, overtaken.laps
     )?;
     println!(rt; "a request: {:?}", ask(rt.alloc())?.reply)?;
-    Ok(())
+    print_driven(&rt, &drive(&rt, rt.alloc())?)
 }

@@ -1,5 +1,5 @@
-//! A conductor, two clients and a monitor, each on a thread of its own. The program does the same and prints the same
-//! as `crates/ring_example`.
+//! A conductor, two clients and a monitor, each on a thread of its own. The program prints `c/examples/driver.out`, as
+//! the same program in C and `crates/ring_uses/src/driver.rt` do.
 #![forbid(unsafe_code)]
 
 use felter::{Client, Conductor, Error, Polled, Reader, Reply, WorkStop};

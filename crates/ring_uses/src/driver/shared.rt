@@ -1,4 +1,4 @@
-//! The objects that all threads of the example share.
+//! The objects that the four threads share.
 use ring_board::Board;
 use ring_counters::CounterValues;
 use ring_rings::PlainManyToOneRing;

@@ -1,24 +1,24 @@
 //! A conductor, two clients and a monitor of its counters, each on a thread of its own.
-#![tactic(auto)]
-
-mod client;
-mod service;
-mod shared;
-
 ghost use Rattle.std.specs.Prelude.{◌≡◌, IfOk};
 ghost use Rattle.ring_rings.specs.Seats.{IsProducerOf};
 ghost use Rattle.ring_counters.specs.Seats.{IsReaderOf};
-ghost use Rattle.ring_example.specs.Seats.{AreCallersOf, IsConductorAt, IsCallerOf};
+ghost use Rattle.ring_uses.specs.Driver.{AreCallersOf, IsConductorAt, IsCallerOf};
+
+mod client;
+mod printing;
+mod service;
+mod shared;
 
 use client::Caller;
+use printing::Totals;
+pub use printing::print_driven;
 use ring_board::Board;
-use ring_counters::{CounterInfo, CountersManager, ValueReader};
+use ring_counters::{CountersManager, ValueReader};
 use ring_rings::{PlainManyToOneRing, Producer};
 use ring_service::{Client, Conductor, Finished, finish};
 use service::{COUNTERS, conduct, watch};
 use shared::Shared;
 use std::alloc::Global;
-use std::io;
 use std::sync::Wait;
 use std::sync::atomic::AtomicBool;
 use std::sync::atomic::Ordering::SeqCst;
@@ -40,6 +40,13 @@ struct Opened {
     shared: Shared,
     conductor: Conductor,
     producer: Producer,
+}
+
+/// The results of the conductor, the clients and the monitor.
+#[derive(Drop)]
+pub struct Driven {
+    pub finished: Finished,
+    pub totals: Totals,
 }
 
 /// Makes the ring, the broadcast buffer and the counters, and the conductor.
@@ -202,64 +209,10 @@ fn finish_all(
     Ok(finished)
 }
 
-/// Prints the client's counter by its label, with its last value.
-fn print_counter(rt: &impl Print, label: &str, counters: &[CounterInfo]) -> io::Result<()> {
-    let found = counters
-        .iter()
-        .find(|info| info.label.as_slice() == label.as_bytes());
-    match found {
-        Some(info) => println!(rt; "counter {label} {}", info.value),
-        None => println!(rt; "counter {label} missing"),
-    }
-}
-
-/// How many replies the callers received, and how often they were lapped.
-#[derive(Clone, Copy)]
-struct Totals {
-    replies: u32,
-    laps: u32,
-    saw_fall: bool,
-}
-
-/// Prints the counters of both clients.
-fn print_counters<R: AllocGlobal + Print>(
-    rt: &R,
-    counters: &CountersManager,
-) -> anyhow::Result<()> {
-    let live = counters.live(rt.alloc())?;
-    print_counter(rt, "requests", live.as_slice())?;
-    print_counter(rt, "errors", live.as_slice())?;
-    Ok(())
-}
-
-/// Prints how many messages came, and whether a value fell.
-fn print_totals(rt: &impl Print, received: u64, totals: Totals) -> io::Result<()> {
-    let Totals {
-        replies,
-        laps,
-        saw_fall,
-    } = totals;
-    println!(rt; "commands {received} replies {replies} laps {laps}")?;
-    println!(rt; "values {}", if saw_fall { "fell" } else { "never fell" })
-}
-
-/// Prints the results. (The function borrows what it prints, so that no `?` drops it.)
-fn print_all<R: AllocGlobal + Print>(
-    rt: &R,
-    finished: &Finished,
-    totals: Totals,
-) -> anyhow::Result<()> {
-    print_counters(rt, &finished.counters)?;
-    print_totals(rt, finished.received, totals)?;
-    let left = finished.rest.positions().used();
-    println!(rt; "left {left}")?;
-    Ok(())
-}
-
-fn main(rt: HostRuntime) -> anyhow::Result<()> {
+/// Runs a conductor, two clients that count up, and a monitor, each on a thread of its own.
+pub fn drive<R: Threads + Wait + Sync>(rt: &R, alloc: Global) -> anyhow::Result<Driven> {
     // All objects are made, and every producer and receiver is split off, before a thread starts. After that the
     // conductor belongs to its thread, and no other thread can subscribe.
-    let alloc = rt.alloc();
     let Opened {
         shared,
         mut conductor,
@@ -268,7 +221,7 @@ fn main(rt: HostRuntime) -> anyhow::Result<()> {
     let (callers, reader) = seat_all(alloc, &shared, &mut conductor, &mut producer)?;
 
     let ((one, two), (mut conductor, (reader, saw_fall))) = run_all(
-        &rt, &shared, callers, conductor, reader,
+        rt, &shared, callers, conductor, reader,
     );
 
     // All producers and receivers are taken back, so the conductor can finish.
@@ -280,5 +233,5 @@ fn main(rt: HostRuntime) -> anyhow::Result<()> {
     take_back(&shared, &mut conductor, &mut producer, one);
     take_back(&shared, &mut conductor, &mut producer, two);
     let finished = finish_all(shared, conductor, producer, reader)?;
-    print_all(&rt, &finished, totals)
+    Ok(Driven { finished, totals })
 }

@@ -36,10 +36,10 @@ impl From<ring_counters::MakeFault> for Failure {
     }
 }
 
-impl From<ring_storm::StormFault> for Failure {
-    fn from(fault: ring_storm::StormFault) -> Failure {
+impl From<ring_conductor::StormFault> for Failure {
+    fn from(fault: ring_conductor::StormFault) -> Failure {
         match fault {
-            ring_storm::StormFault::OutOfMemory => Failure::Refused,
+            ring_conductor::StormFault::OutOfMemory => Failure::Refused,
             _ => Failure::Wrong,
         }
     }

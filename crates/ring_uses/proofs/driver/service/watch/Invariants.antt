@@ -1,5 +1,5 @@
 use Rattle.ring_counters.specs.Seats.{IsReaderOf}
-use Rattle.ring_example.proofs.service.watch.Given as goal
+use Rattle.ring_uses.proofs.driver.service.watch.Given as goal
 
 abbrev pub invariant-loop : goal.invariant-loop
 invariant-loop g l = IsReaderOf l.on.values l.reader

@@ -1,5 +1,5 @@
-use Rattle.ring_example.specs.Seats.{IsCallerOf}
-use Rattle.ring_example.proofs.client.Caller.set_batch.Given as goal
+use Rattle.ring_uses.specs.Driver.{IsCallerOf}
+use Rattle.ring_uses.proofs.driver.client.Caller.set_batch.Given as goal
 
 abbrev pub invariant-loop-value : goal.invariant-loop-value
 invariant-loop-value g l = IsCallerOf l.on l.self

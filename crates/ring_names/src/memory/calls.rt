@@ -1,10 +1,9 @@
 //! The calls that take memory.
-use crate::failure::{Failure, where_kept};
+use super::failure::{Failure, where_kept};
 use ring_board::Board;
+use ring_conductor::{Conductor, OpenGate, StormPlan, finish, storm};
 use ring_counters::CountersManager;
 use ring_rings::{ManyToOneRing, OneToOneRing};
-use ring_service::{Conductor, finish};
-use ring_storm::{OpenGate, StormPlan, storm};
 use ring_words::SoloRing;
 use std::alloc::Global;
 use std::sync::Wait;

@@ -1,8 +1,8 @@
 //! The conductor at work, and the monitor of its counters.
 ghost use Rattle.ring_counters.specs.Seats.{IsReaderOf};
-ghost use Rattle.ring_example.specs.Seats.{IsConductorAt};
+ghost use Rattle.ring_uses.specs.Driver.{IsConductorAt};
 
-use crate::shared::Shared;
+use crate::driver::shared::Shared;
 use crossbeam_utils::Backoff;
 use ring_counters::ValueReader;
 use ring_service::{Conductor, WorkStop};

@@ -1,8 +1,8 @@
-//! A client of the example. It sends commands into the ring, and receives their replies from the broadcast buffer.
+//! A client of the conductor. It sends commands into the ring, and receives their replies from the broadcast buffer.
 ghost use Rattle.std.specs.Prelude.{◌≡◌};
-ghost use Rattle.ring_example.specs.Seats.{IsCallerOf};
+ghost use Rattle.ring_uses.specs.Driver.{IsCallerOf};
 
-use crate::shared::Shared;
+use crate::driver::shared::Shared;
 use crossbeam_utils::Backoff;
 use ring_rings::{ClaimFault, TryFault};
 use ring_service::{Client, Polled, Reply, Request, SendFault};

@@ -1,9 +1,8 @@
-//! Makes each call that takes memory twice, and prints how many of these tries were refused and which results were
-//! wrong.
+//! Makes each of nine calls that take memory twice, and prints how many of these tries were refused and which results
+//! were wrong.
 //!
-//! Without a refused request it prints `refused 0`, and with one, whichever it is, `refused 1`: that try returned
-//! `OutOfMemory` and left everything unchanged, and the other went well.
-#![tactic(auto)]
+//! If no request for memory is refused, this prints `refused 0`. If one request is refused, this prints `refused 1`:
+//! one try returned `OutOfMemory` and left everything unchanged, and the other tries went well.
 
 mod calls;
 mod failure;
@@ -14,8 +13,11 @@ use calls::{
 };
 use failure::Failure;
 use std::io;
+use std::sync::Wait;
+use std::thread::Threads;
 
-fn main(rt: HostRuntime) -> io::Result<()> {
+/// Makes the calls, and prints the results.
+pub fn print_refusals<R: AllocGlobal + Print + Threads + Wait>(rt: &R) -> io::Result<()> {
     let alloc = rt.alloc();
     let mut refused = 0u32;
     for turn in 0..2u32 {
@@ -28,7 +30,7 @@ fn main(rt: HostRuntime) -> io::Result<()> {
             ("counters", counters(alloc)),
             ("list of counters", live(alloc)),
             ("receiver of replies", conductor_subscribe(alloc)),
-            ("storm", storm_of_two(&rt, alloc)),
+            ("storm", storm_of_two(rt, alloc)),
         ];
         for (name, answer) in answers {
             match answer {
