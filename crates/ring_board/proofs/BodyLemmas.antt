@@ -1,9 +1,7 @@
 -- Bodies that a raw receiver loads, and validates.
 use Rattle.std.proofs.Common.{◌≡◌, ℕ, true, ◌+◌, ◌-◌, ◌*◌, ◌<◌, ◌≤◌, List, [], ◌∷◌, ◌++◌, length, take, get_or, refl, sym, ap, ◌∙◌, subst, ⊎_elim, inl, inr, ◌⊎◌, arith, length-append, append_assoc, w64, ext_get_or, get_or-take, length-take-le, take_all}
-use Rattle.std.specs.Int.{to_le_bytes}
+use Rattle.std.{specs.Int.to_le_bytes, proofs.Math.Option.some, proofs.Math.ListN.get_elem?}
 use Rattle.std.proofs.lemmas.{Bool.cases_lt, List.get_or_append_left, List.get_or-append_right, List.get_or_push}
-use mathlib.Core.Option.{some}
-use lib.ListN.{get_elem?}
 use Rattle.atomic_table.{specs.Table.keeps, specs.Table.Allows, proofs.Lists.at_longer, proofs.Lists.at_last}
 use Rattle.ring_layout.specs.{Places.index, History.overwritten, History.span}
 use Rattle.ring_layout.proofs.WordBytes.{overwritten_before, overwritten_inside}

@@ -1,8 +1,7 @@
 -- What a receiver's steps put together.
 use Rattle.std.proofs.Common.{◌≡◌, ℕ, ℤ, ◌+◌, ◌*◌, ◌/◌, ◌%◌, ◌^◌, ◌<◌, ◌≤◌, arith, length, length-append, take, drop, cond, Bool, true, List, [], ◌∷◌, ◌++◌, refl, sym, ap, ◌∙◌, subst, inl, inr, ⊎_elim, append_assoc, lt-ltb, w32, w64, length-take-le}
-use mathlib.Core.Option.{some}
+use Rattle.std.{proofs.Math.Option.some, specs.Int.cast_signed, specs.Int.to_le_bytes, proofs.Math.Seq.take-append_seam}
 use Rattle.atomic_table.proofs.Lists.{at_longer}
-use Rattle.std.{specs.Int.cast_signed, specs.Int.to_le_bytes, proofs.Math.Seq.take-append_seam}
 use Rattle.ring_layout.specs.{History.overwritten, History.span, Places.index, Places.max_position}
 use Rattle.ring_board.specs.declared.shared.view.{View.View, Stage.Stage}
 use Rattle.ring_board.specs.declared.shared.view.Load.{Load, TheVariants.Word, TheVariants.Intent, TheVariants.Tail}

@@ -1,9 +1,7 @@
 -- What a receiver loads is right, or the intent has passed its place.
 use Rattle.std.proofs.Common.{◌≡◌, ◌≢◌, ℕ, zero, suc, ◌+◌, ◌-◌, ◌*◌, ◌<◌, ◌≤◌, ◌⊎◌, cond, ltb, Bool, List, [], ◌∷◌, ◌++◌, take, length, get_or, set, refl, sym, ap, ◌∙◌, subst, inl, inr, ⊎_elim, arith, length-append, ltb-true, lt-ltb}
 use Rattle.std.proofs.lemmas.Bool.{cases_lt, cond_both}
-use mathlib.Core.Option.{some, some-injective, some-ne-none}
-use lib.ListN.{get_elem?}
-use lib.Seq.{set-get_or}
+use Rattle.std.proofs.Math.{Option.some, Option.some-injective, Option.some-ne-none, ListN.get_elem?, Seq.set-get_or}
 use Rattle.atomic_table.specs.Table.{keeps, stepped}
 use Rattle.atomic_table.proofs.Lists.{at_longer, at_last, at_snoc, set_else}
 use Rattle.ring_layout.specs.{Places.index, Headers.padding_header}

@@ -1,8 +1,7 @@
 -- A new broadcast buffer keeps the rule.
 use Rattle.std.proofs.Common.{◌≡◌, ◌≢◌, ℕ, ◌+◌, zero, suc, ◌/◌, ◌%◌, ◌^◌, ◌<◌, ◌≤◌, List, [], ◌∷◌, length, get_or, set, refl, sym, ap, ◌∙◌, subst, arith, replicate, length-set, get_or-set_other, get_or-set_same}
-use Rattle.std.proofs.{lemmas.List.length-replicate, lemmas.Nat.Gcd.dvd_of_mod-eq-zero, Math.Nat.mod-mod_of_dvd}
-use mathlib.Core.Option.{some, some-injective, some-ne-none}
-use lib.ListN.{get_elem?}
+use Rattle.std.proofs.{lemmas.List.length-replicate, lemmas.Nat.Gcd.dvd_of_mod-eq-zero, Math.ListN.get_elem?}
+use Rattle.std.proofs.Math.{Nat.mod-mod_of_dvd, Option.some, Option.some-injective, Option.some-ne-none}
 use Rattle.atomic_table.specs.Table.{opening}
 use Rattle.ring_layout.{specs.Places.max_position, specs.Places.IsBoardCapacity, proofs.CapacityLemmas.capacity_blocks}
 use Rattle.ring_board.specs.declared.shared.view.{Record.Record, View.View, Stage.Stage, Stage.TheVariants.Idle}

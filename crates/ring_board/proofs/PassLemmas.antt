@@ -1,8 +1,6 @@
 -- A receiver comes, and goes.
 use Rattle.std.proofs.Common.{◌≡◌, ℕ, ◌-◌, ◌%◌, ◌<◌, ◌≤◌, List, [], ◌∷◌, length, get_or, set, refl, sym, ap, ◌∙◌, subst, inl, inr, ⊎_elim, arith, le_refl}
-use mathlib.Core.Option.{some, some-ne-none}
-use lib.ListN.{get_elem?}
-use lib.Seq.{set-get_or}
+use Rattle.std.proofs.Math.{Option.some, Option.some-ne-none, ListN.get_elem?, Seq.set-get_or}
 use Rattle.atomic_table.specs.Table.{keeps, stepped, Allows, Splits, Joins}
 use Rattle.atomic_table.proofs.Lists.{set_here, set_again, at_longer, at_snoc, set_else}
 use Rattle.ring_board.specs.declared.shared.view.{Record.Record, View.View, Joined.Joined}

@@ -1,9 +1,7 @@
 -- The word at an index is that of the greatest position stored there.
 use Rattle.std.proofs.Common.{◌≡◌, ◌≢◌, ℕ, zero, suc, ◌+◌, ◌%◌, ◌<◌, ◌≤◌, ◌⊎◌, eqb, cond, Bool, List, [], ◌∷◌, ◌++◌, get_or, refl, sym, ap, ◌∙◌, subst, inl, inr, ⊎_elim, arith, eq-eqb, ne_eqb}
 use Rattle.std.proofs.lemmas.Bool.{cases_lt}
-use native.Mathlib.Decide.{ℕ_discrete}
-use mathlib.Core.Option.{some, some-injective, some-ne-none}
-use lib.ListN.{get_elem?}
+use Rattle.std.proofs.Math.{Decide.ℕ_discrete, Option.some, Option.some-injective, Option.some-ne-none, ListN.get_elem?}
 use Rattle.atomic_table.specs.Table.{Final, Seen}
 use Rattle.ring_layout.specs.Places.{index}
 use Rattle.ring_board.specs.declared.shared.view.{Record.Record, View.View, Stage.Stage, Stage.TheVariants.Idle}

@@ -1,7 +1,6 @@
 -- Each step of a receiver keeps the rule.
 use Rattle.std.proofs.Common.{◌≡◌, ℕ, ◌+◌, ◌*◌, ◌<◌, List, [], ◌∷◌, ◌++◌, length, get_or, refl, sym, ap, ◌∙◌, subst, ⊎_elim, arith}
-use mathlib.Core.Option.{some}
-use lib.ListN.{get_elem?}
+use Rattle.std.proofs.Math.{Option.some, ListN.get_elem?}
 use Rattle.atomic_table.specs.Table.{keeps, stepped, Allows}
 use Rattle.ring_layout.specs.Places.{index}
 use Rattle.ring_board.specs.declared.shared.view.{View.View, Stage.Stage}

@@ -1,7 +1,6 @@
 -- What stays for the other seats, when one of them steps.
 use Rattle.std.proofs.Common.{◌≡◌, ℕ, suc, ◌%◌, ◌≤◌, List, [], ◌∷◌, ◌++◌, length, set, refl, sym, ap, ◌∙◌, subst, inl, inr, ⊎_elim, arith}
-use mathlib.Core.Option.{some, some-injective}
-use lib.ListN.{get_elem?}
+use Rattle.std.proofs.Math.{Option.some, Option.some-injective, ListN.get_elem?}
 use Rattle.atomic_table.specs.Table.{State}
 use Rattle.atomic_table.proofs.Lists.{set_here, at_longer, at_last, at_snoc}
 use Rattle.ring_layout.specs.Places.{room}

@@ -1,9 +1,7 @@
 -- What a transmission stores, and where.
 use Rattle.std.proofs.Common.{◌≡◌, ℕ, zero, suc, ◌+◌, ◌-◌, ◌*◌, ◌/◌, ◌%◌, ◌<◌, ◌≤◌, ◌⊎◌, eqb, ltb, cond, Bool, List, [], ◌∷◌, ◌++◌, length, get_or, set, refl, sym, ap, ◌∙◌, inl, inr, ⊎_elim, arith, append_assoc, eq-eqb, ne_eqb, get_or-set_other, get_or-set_same, ltb-true}
-use Rattle.std.proofs.lemmas.Bool.{cond_both}
-use mathlib.Core.{Logic.dite, Option.some, Option.some-injective, Option.some-ne-none}
-use native.Mathlib.Decide.{ℕ_discrete}
-use lib.ListN.{get_elem?}
+use Rattle.std.proofs.{lemmas.Bool.cond_both, Math.Logic.dite}
+use Rattle.std.proofs.Math.{Option.some, Option.some-injective, Option.some-ne-none, Decide.ℕ_discrete, ListN.get_elem?}
 use Rattle.atomic_table.proofs.Lists.{at_snoc}
 use Rattle.ring_layout.specs.{Places.index, Headers.padding_header}
 use Rattle.ring_board.{specs.declared.shared.view.Record.Record, proofs.PlaceLemmas.index_below}

@@ -1,8 +1,6 @@
 -- What each store of the transmitter leaves of the rule.
 use Rattle.std.proofs.Common.{◌⊎◌, ◌≡◌, ◌≢◌, ℕ, ◌+◌, ◌-◌, ◌*◌, ◌/◌, ◌%◌, ◌^◌, ◌<◌, ◌≤◌, cond, ltb, Bool, List, [], ◌∷◌, ◌++◌, length, get_or, set, refl, sym, ap, ◌∙◌, subst, ⊎_elim, arith, length-set, length-append, get_or-set_other, get_or-set_same, append_assoc, inl, inr, ltb-true, lt-ltb}
-use Rattle.std.proofs.lemmas.Bool.{cond_both}
-use mathlib.Core.Option.{some, some-ne-none}
-use lib.ListN.{get_elem?}
+use Rattle.std.proofs.{lemmas.Bool.cond_both, Math.Option.some, Math.Option.some-ne-none, Math.ListN.get_elem?}
 use Rattle.atomic_table.{specs.Table.keeps, specs.Table.stepped, proofs.Lists.at_longer, proofs.Lists.at_snoc}
 use Rattle.ring_layout.specs.{declared.message.Message.Message, Places.index, Places.max_position}
 use Rattle.ring_layout.specs.{History.IsMessage, History.span, Headers.padding_header}

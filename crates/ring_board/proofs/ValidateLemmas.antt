@@ -1,8 +1,7 @@
 -- What a receiver knows once it has validated: a sound header, a whole copy, or that it was lapped.
 use Rattle.std.proofs.Common.{◌≡◌, ◌≢◌, ℕ, zero, suc, ◌+◌, ◌-◌, ◌/◌, ◌%◌, ◌^◌, ◌<◌, ◌≤◌, ◌⊎◌, cond, ltb, true, false, List, [], ◌∷◌, ◌++◌, take, length, get_or, refl, sym, ap, ◌∙◌, subst, inl, inr, ⊎_elim, arith, length-append, ltb-true, ltb-false, eqb-true}
 use Rattle.std.proofs.lemmas.Bool.{cond_both, eqb-false}
-use mathlib.Core.Option.{some, some-injective, some-ne-none}
-use lib.ListN.{get_elem?}
+use Rattle.std.proofs.Math.{Option.some, Option.some-injective, Option.some-ne-none, ListN.get_elem?}
 use Rattle.atomic_table.{specs.Table.keeps, specs.Table.stepped, proofs.Lists.at_last}
 use Rattle.ring_layout.specs.{declared.message.Message.Message, Places.max_position, Headers.padding_header}
 use Rattle.ring_layout.{specs.History.span, proofs.ListLemmas.at_below}
