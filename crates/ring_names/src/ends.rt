@@ -1,7 +1,7 @@
 //! `ring_ends`: ends, which own their ring.
 
 use crate::solo::returning;
-use ring_rings::Action;
+use ring_rings::{Action, Bodies, Kind};
 use std::alloc::Global;
 use std::sync::{Arc, Wait};
 
@@ -12,6 +12,24 @@ pub struct Came {
     shown: [u32; 3],
     positions: ring_rings::Positions,
     rest: ring_rings::Positions,
+}
+
+impl Came {
+    /// Takes the ring apart, and puts its positions to the other results. Returns `None` if another end owns the ring.
+    fn with<K: Kind, B: Bodies>(
+        numbers: [u64; 7],
+        shown: [u32; 3],
+        positions: ring_rings::Positions,
+        last: ring_ends::LastEnd<K, B>,
+    ) -> Option<Came> {
+        let rest = last.finish().ok()?.positions();
+        Some(Came {
+            numbers,
+            shown,
+            positions,
+            rest,
+        })
+    }
 }
 
 /// A plain ring of one producer: writes, a claim that is committed, one that is aborted, a batch, each read, and its
@@ -54,16 +72,7 @@ pub fn one_to_one(alloc: Global) -> anyhow::Result<Option<Came>> {
         Ok(last) => last,
         Err(_refused) => return Ok(None),
     };
-    let rest = match last.finish() {
-        Ok(rest) => rest.positions(),
-        Err(_last) => return Ok(None),
-    };
-    Ok(Some(Came {
-        numbers,
-        shown,
-        positions,
-        rest,
-    }))
+    Ok(Came::with(numbers, shown, positions, last))
 }
 
 /// A producer of a ring of many producers, with bodies in words.
@@ -100,16 +109,7 @@ pub fn many_to_one<R: Wait>(rt: &R, alloc: Global) -> anyhow::Result<Option<Came
     let Ok(last) = consumer.close(producer) else {
         return Ok(None);
     };
-    let rest = match last.finish() {
-        Ok(rest) => rest.positions(),
-        Err(_last) => return Ok(None),
-    };
-    Ok(Some(Came {
-        numbers,
-        shown,
-        positions,
-        rest,
-    }))
+    Ok(Came::with(numbers, shown, positions, last))
 }
 
 /// The code with which a ring is not closed that has a producer more.
