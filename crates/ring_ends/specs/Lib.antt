@@ -2,6 +2,8 @@ pub mod Claiming
 pub mod Claims
 pub mod End
 pub mod Ending
+pub mod Handlers
 pub mod Held
+pub mod Next
 pub mod Receivers
 pub mod Slots

@@ -1,9 +1,10 @@
 //! A consumer with its ring.
-ghost use Rattle.std.specs.Prelude.{◌≡◌, ◌⊎◌};
+ghost use Rattle.std.specs.Prelude.{◌≡◌, ◌⊎◌, IfErr, IfOk};
 ghost use Rattle.ring_words.specs.Across.{ReadsAcross};
 ghost use Rattle.ring_table.specs.Views.{with_beat};
 ghost use Rattle.ring_rings.specs.Reading.{Controls, EndsAt, ReadsTo};
 ghost use Rattle.ring_rings.specs.Ring.{LeavesIn, ReceivesIn};
+ghost use Rattle.ring_rings.specs.Seats.{capacity_of, consumer_view, start_of, IsConsumerOf};
 ghost use Rattle.ring_ends.specs.End.{received, Does};
 
 use ring_rings::{Bodies, Consumer, Handler, Kind, ReadEnd, Ring};
@@ -78,5 +79,25 @@ impl<K: Kind, B: Bodies> ConsumerEnd<K, B> {
         ensures does { Does (λ v r w. w ≡ with_beat value v) self.old result self.new }
     {
         self.ring.set_heartbeat(&mut self.consumer, value);
+    }
+    /// Returns the bytes of the ring's buffer.
+    pub fn capacity(&self) -> u32
+        ensures { result ≡ self.now.capacity }
+    {
+        self.ring.capacity()
+    }
+
+    /// Returns the ring and the consumer without each other. If another end has the ring, this end comes back.
+    pub fn into_ring(self) -> Result<(Ring<K, B>, Consumer), Self>
+        ensures consumer { IfOk result (λ parts. IsConsumerOf parts.0 parts.1 × (consumer_view parts.1 ≡ self.view)) }
+        ensures ring { IfOk result (λ parts. (parts.0.table.shared.table_id ≡ self.table)
+            × (capacity_of parts.0 ≡ self.capacity) × (start_of parts.0 ≡ self.start)) }
+        ensures in_use { IfErr result (λ end. end ≡ self) }
+    {
+        let ConsumerEnd { ring, consumer } = self;
+        match Arc::try_unwrap(ring) {
+            Ok(ring) => Ok((ring, consumer)),
+            Err(ring) => Err(ConsumerEnd { ring, consumer }),
+        }
     }
 }

@@ -2,7 +2,8 @@
 //!
 //! - `producer`: the calls of producers. `many_to_one` has the calls of one of many producers, and `batch` those that
 //!   write batches.
-//! - `consumer`: the calls of the consumer. `opening` makes the ends of a ring, and `last` takes a ring apart.
+//! - `consumer`: the calls of the consumer. `copying` copies the next message into a buffer, and `taking` takes it without
+//!   a copy. `opening` makes the ends of a ring, and `last` takes a ring apart.
 //! - `claiming`: a producer whose calls name its claims by number. `open_claims` keeps these claims.
 //! - `numbered`: things that are kept by number. `board`: a broadcast buffer with its receivers.
 //! - `receiving`, `received`: a numbered receiver that asks for a message, and the result.
@@ -12,6 +13,7 @@ mod batch;
 mod board;
 mod claiming;
 mod consumer;
+mod copying;
 mod last;
 mod many_to_one;
 mod numbered;
@@ -20,10 +22,12 @@ mod opening;
 mod producer;
 mod received;
 mod receiving;
+mod taking;
 
 pub use board::StandaloneBoard;
 pub use claiming::{ClaimRefused, Claimed, NumberFault, NumberedEnd};
 pub use consumer::ConsumerEnd;
+pub use copying::NextMessage;
 pub use last::{CloseRefused, LastEnd};
 pub use many_to_one::SplitFault;
 pub use numbered::Numbered;

@@ -14,10 +14,14 @@ use Rattle.ring_table.specs.declared.claim.PlacedMessage.{PlacedMessage}
 use Rattle.ring_table.specs.declared.view.View.{View}
 use Rattle.ring_rings.specs.Reading.{Controls, EndsAt, FoundUnsettled, Reads, messages_of}
 use Rattle.ring_handles.specs.declared.batch.Laying.{Laying}
-use Rattle.ring_handles.specs.Batch.{Batch, HasNoRoomAt, IsShort, LaidNone, LaysIn, Lays, LeavesOut, NoMoreCame, ReadBatch, ReadsBatch, TookBatch, TookSome, batch, laid, laid_end, span_in}
-use Rattle.ring_handles.specs.Consuming.{CameToEnd, RanOut, TookNone}
-use Rattle.ring_handles.specs.Side.{Reading, having_read}
-use Rattle.ring_handles.proofs.EndLemmas.{blocked_on, both, had_none, in_words, next_on, none_twice, over, ran_out}
+use Rattle.ring_rings.proofs.ReceivedLemmas.{lengths}
+use Rattle.ring_rings.proofs.SentLemmas.{messages_of-append}
+use Rattle.ring_ends.specs.Next.{CameToEnd, HadNone, RanOut, TookNone}
+use Rattle.ring_ends.proofs.EndLemmas.{one_ring}
+use Rattle.ring_ends.proofs.StopLemmas.{blocked_on, both, next_on, none_twice, over, ran_out}
+use Rattle.ring_handles.specs.Batch.{Batch, HasNoRoomAt, IsShort, LaidNone, LaysIn, Lays, LeavesOut, NoMoreCame, ReadBatch, ReadsBatch, ReceivesBatch, TookBatch, TookSome, batch, laid, laid_end, span_in}
+use Rattle.ring_handles.specs.Side.{Reading}
+use Rattle.ring_handles.proofs.ConsumerLemmas.{not_zero, same_digits}
 
 -- these messages were laid after what was used
 record WereLaid (s : Laying) (ms : List PlacedMessage) (t : Laying) : Type 0 where
@@ -232,48 +236,82 @@ laid_none limit v w s t end fresh ends controls none =
 
 -- Two reads as one -----------------------------------------------------------------
 
+-- the code says that nothing was there
+none_of : {A N S M : Type 0} (code : ℤ) → code ≡ pos 105
+    → ((code ≡ pos 0) × A) ⊎ (((code ≡ pos 105) × N × M) ⊎ ((code ≡ pos 106) × S × M)) → N × M
+none_of code is (inl (done, a)) = absurd (not_zero code 105 (omega arith) is done)
+none_of code is (inr (inl (same, none, outs))) = (none, outs)
+none_of code is (inr (inr (short, s, outs))) = absurd (other (same_digits 105 106 (sym is ∙ short)))
+  where
+    other : ◌≡◌ {A = ℕ} 105 106 → ⊥
+    other e = omega arith
+
 -- one read that came to the end of the buffer and took none, and another
 pub batch_twice : (limit : ℕ) (one two : Stop) (o o' o'' : Batch) (r s t : Reading) (first code : ℤ) → first ≡ pos 105
     → one ≡ Block → ReadsBatch (RanOut limit one) limit o o' r s first
     → ReadsBatch (RanOut limit two) limit o' o'' s t code → ReadBatch limit o o'' r t code
-batch_twice limit one two o o' o'' r s t first code is ended (same, on, took) (same', on', took') = (
-  same' ∙ ap (having_read t.view) same,
-  both r.view s.view t.view on on',
-  in_words code takes (λ _ again. none_twice limit one two r.view s.view t.view o o' o'' on on' ended none again) short
-      (subst (λ (x : Batch). TookBatch (RanOut limit two) limit s.view t.view x o'' code) none.outs took'),
+batch_twice limit one two o o' o'' r s t first code is ended (same, ring, on, took) (same', ring', on', took') = (
+  same' ∙ ap (λ (x : Reading). record x { end = t.end }) same,
+  one_ring r.end s.end t.end ring ring',
+  both v u w on on',
+  again (subst (λ (x : Batch). TookBatch (RanOut limit two) limit u w x o'' code) none.1 took'),
 )
   where
-    none : TookNone (RanOut limit one) r.view s.view o o'
-    none = had_none first is took
+    v : View
+    v = r.end.view
 
-    no_room : {used : ℕ} {bytes : List ℕ} → HasNoRoomAt used bytes s.view t.view → HasNoRoomAt used bytes r.view t.view
+    u : View
+    u = s.end.view
+
+    w : View
+    w = t.end.view
+
+    none : TookNone (RanOut limit one) v u × (o' ≡ o)
+    none = none_of first is took
+
+    no_room : {used : ℕ} {bytes : List ℕ} → HasNoRoomAt used bytes u w → HasNoRoomAt used bytes v w
     no_room full = record {
       message = full.message;
-      next = next_on r.view s.view t.view on full.message full.next;
+      next = next_on v u w on full.message full.next;
       short = full.short;
     }
 
-    stops : {bytes : List ℕ} (ms : List PlacedMessage) → NoMoreCame limit s.view t.view bytes ms
-        → NoMoreCame limit r.view t.view bytes ms
+    stops : {bytes : List ℕ} (ms : List PlacedMessage) → NoMoreCame limit u w bytes ms → NoMoreCame limit v w bytes ms
     stops ms (inl all) = inl all
     stops ms (inr (inl full)) = inr (inl (no_room full))
-    stops ms (inr (inr (inl found))) = inr (inr (inl (blocked_on r.view s.view t.view on found)))
+    stops ms (inr (inr (inl found))) = inr (inr (inl (blocked_on v u w on found)))
     stops ms (inr (inr (inr came))) = inr (inr (inr (record { on = omega (arith, on.on, came.on); end = came.end })))
 
-    takes : TookSome limit s.view t.view o.buffer o'' → TookSome limit r.view t.view o.buffer o''
+    takes : TookSome limit u w o.buffer o'' → TookSome limit v w o.buffer o''
     takes k = record {
       messages = k.messages;
       some = k.some;
-      taken = k.taken ∙ ap (λ (ms : List PlacedMessage). ms ++ k.messages) none.taken;
+      taken = k.taken ∙ ap (λ (ms : List PlacedMessage). ms ++ k.messages) none.0.taken;
       within = k.within;
       room = k.room;
       stops = stops k.messages k.stops;
       outs = k.outs;
     }
 
-    short : TookNone (IsShort o.buffer) s.view t.view o o'' → TookNone (IsShort o.buffer) r.view t.view o o''
-    short k = record {
-      taken = k.taken ∙ none.taken;
-      why = no_room k.why;
-      outs = k.outs;
-    }
+    again : TookBatch (RanOut limit two) limit u w o o'' code → TookBatch (HadNone limit) limit v w o o'' code
+    again (inl (done, k)) = inl (done, takes k)
+    again (inr (inl (code_is, k, outs))) =
+        inr (inl (code_is, none_twice limit one two v u w on on' ended none.0 k, outs))
+    again (inr (inr (code_is, k, outs))) =
+        inr (inr (code_is, record { taken = k.taken ∙ none.0.taken; why = no_room k.why }, outs))
+
+-- what was received
+pub received_batch : (Why : View → View → Type 0) (limit : ℕ) (o o' : Batch) (r s : Reading) (code : ℤ)
+    → TookBatch Why limit r.end.view s.end.view o o' code → ReceivesBatch o o' r s code
+received_batch Why limit o o' r s code (inl (done, k)) = inl (
+  done,
+  (
+    messages_of k.messages,
+    (ap (λ (b : Batch). b.count) k.outs ∙ sym (lengths k.messages), ap (λ (b : Batch). b.buffer) k.outs),
+    ap messages_of k.taken ∙ messages_of-append r.end.view.consumer.taken k.messages,
+  ),
+)
+received_batch Why limit o o' r s code (inr (inl (is, k, outs))) =
+    inr (not_zero code 105 (omega arith) is, ap messages_of k.taken)
+received_batch Why limit o o' r s code (inr (inr (is, k, outs))) =
+    inr (not_zero code 106 (omega arith) is, ap messages_of k.taken)

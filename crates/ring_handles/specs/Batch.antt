@@ -1,5 +1,5 @@
 -- How messages are laid one after another into a buffer.
-use Rattle.std.specs.Prelude.{◌≡◌, ◌≢◌, ◌⊎◌, ℕ, ◌+◌, ◌*◌, ◌/◌, ◌<◌, ◌≤◌, ℤ, true, false, List, [], ◌∷◌, ◌++◌, length}
+use Rattle.std.specs.Prelude.{◌≡◌, ◌≢◌, ◌⊎◌, ℕ, ◌+◌, ◌*◌, ◌/◌, ◌<◌, ◌≤◌, ℤ, pos, true, false, List, [], ◌∷◌, ◌++◌, length}
 use Rattle.std.specs.Int.{cast_unsigned, to_le_bytes, w64}
 use Rattle.ring_layout.specs.declared.message.Message.{Message}
 use Rattle.ring_layout.specs.History.{overwritten}
@@ -9,8 +9,10 @@ use Rattle.ring_words.specs.declared.read.action.Action.{Action}
 use Rattle.ring_words.specs.declared.read.action.Action.TheVariants.{Abort, Continue}
 use Rattle.ring_words.specs.declared.read.end.Stop.{Stop}
 use Rattle.ring_rings.specs.Reading.{FoundUnsettled, IsNext, messages_of}
-use Rattle.ring_handles.specs.Consuming.{CameToEnd, HadNone, RanOut, ReadCode, ReadsOn, TookNone}
-use Rattle.ring_handles.specs.Side.{Reading, having_read}
+use Rattle.ring_ends.specs.End.{AreOfOneRing}
+use Rattle.ring_ends.specs.Next.{CameToEnd, HadNone, RanOut, ReadsOn, TookNone}
+use Rattle.ring_handles.specs.Consuming.{ReceivesThose}
+use Rattle.ring_handles.specs.Side.{Reading}
 use Rattle.ring_handles.specs.declared.batch.Laying.{Laying}
 
 -- the bytes that a message of n bytes takes: two words, and its own, rounded up to 8
@@ -106,15 +108,22 @@ pub record LaidNone (limit : ℕ) (stopped : Stop) (v w : View) (s t : Laying) :
   pub full : t.is_full ≡ true → IsShort s.buffer.now v w
   pub out : t.is_full ≡ false → RanOut limit stopped v w
 
--- messages were taken, none was there, or the buffer is too short for the first one, which stays
+-- messages were taken and are put out; or none was taken, for a reason, and nothing is put out: the code is 105 if none
+-- was there, and 106 if the buffer is too short for the first one, which stays
 abbrev pub TookBatch : (View → View → Type 0) → ℕ → View → View → Batch → Batch → ℤ → Type 0
-TookBatch Why limit v w before after code = ReadCode (TookSome limit v w before.buffer after)
-    (TookNone Why v w before after) (TookNone (IsShort before.buffer) v w before after) code
+TookBatch Why limit v w before after code = ((code ≡ pos 0) × TookSome limit v w before.buffer after)
+    ⊎ (((code ≡ pos 105) × TookNone Why v w × (after ≡ before))
+    ⊎ ((code ≡ pos 106) × TookNone (IsShort before.buffer) v w × (after ≡ before)))
 
 -- messages were read, or none was
 abbrev pub ReadsBatch : (View → View → Type 0) → ℕ → Batch → Batch → Reading → Reading → ℤ → Type 0
-ReadsBatch Why limit before after r s code = (s ≡ having_read s.view r) × ReadsOn r.view s.view
-    × TookBatch Why limit r.view s.view before after code
+ReadsBatch Why limit before after r s code = (s ≡ record r { end = s.end }) × AreOfOneRing r.end s.end
+    × ReadsOn r.end.view s.end.view × TookBatch Why limit r.end.view s.end.view before after code
 
 abbrev pub ReadBatch : ℕ → Batch → Batch → Reading → Reading → ℤ → Type 0
 ReadBatch limit = ReadsBatch (HadNone limit) limit
+
+-- after code 0 the messages that are put out were received
+abbrev pub ReceivesBatch : Batch → Batch → Reading → Reading → ℤ → Type 0
+ReceivesBatch before after =
+    ReceivesThose (λ ms. (after.count ≡ length ms) × (after.buffer ≡ laid 0 ms before.buffer))

@@ -1,60 +1,24 @@
 -- What a consumer's calls do: r is the consumer before, s after, and the code is what is returned.
-use Rattle.std.specs.Prelude.{◌≡◌, ◌⊎◌, ℕ, ◌<◌, ◌≤◌, ◌%◌, ℤ, pos, List, [], ◌∷◌, ◌++◌, length, Bool, true, false}
+use Rattle.std.specs.Prelude.{◌≡◌, ◌≢◌, ◌⊎◌, ℕ, ℤ, pos, List, [], ◌∷◌, ◌++◌, length, take, Bool, true, false}
 use Rattle.ring_layout.specs.declared.message.Message.{Message}
-use Rattle.ring_layout.specs.History.{overwritten}
-use Rattle.ring_words.specs.declared.read.end.Stop.{Stop}
-use Rattle.ring_words.specs.declared.read.end.Stop.TheVariants.{Block, Unpublished}
-use Rattle.ring_table.specs.declared.claim.PlacedMessage.{PlacedMessage}
-use Rattle.ring_table.specs.declared.view.View.{View}
-use Rattle.ring_table.specs.Views.{beaten, with_consumer}
-use Rattle.ring_rings.specs.Reading.{IsAtRest, FoundUnsettled, IsNext}
-use Rattle.ring_handles.specs.Side.{Reading, having_read}
+use Rattle.ring_table.specs.Views.{with_beat}
+use Rattle.ring_rings.specs.Ring.{message}
+use Rattle.ring_ends.specs.declared.copying.NextMessage.{NextMessage}
+use Rattle.ring_ends.specs.declared.copying.NextMessage.TheVariants.{Copied, Nothing, TooLong}
+use Rattle.ring_ends.specs.End.{received}
+use Rattle.ring_ends.specs.Next.{CopiesNext, HadNone, TakesNext}
+use Rattle.ring_handles.specs.Side.{ByEnd, Reading}
 
--- Of what the consumer knows only the log, which is longer by these loads, and its own part change. The head does not
--- go back, the heartbeats stay, and nothing is left of a running read
-pub record ReadsOn (v w : View) : Type 0 where
-  pub loads : List (ℕ × ℕ)
-  pub view : w ≡ record v { log = v.log ++ loads; consumer = w.consumer }
-  pub on : v.consumer.head ≤ w.consumer.head
-  pub heartbeats : w.consumer.heartbeats ≡ v.consumer.heartbeats
-  pub cleared : w.consumer.cleared ≡ w.consumer.head
-  pub rest : IsAtRest w
+-- What was received ----------------------------------------------------------------
 
--- Why nothing was taken -----------------------------------------------------------
+-- after code 0 messages of which P holds were received, and after another code none was
+abbrev pub ReceivesThose : (List Message → Type 0) → Reading → Reading → ℤ → Type 0
+ReceivesThose P r s code = ((code ≡ pos 0) × ((ms : List Message) × P ms × (received s.end ≡ received r.end ++ ms)))
+    ⊎ ((code ≢ pos 0) × (received s.end ≡ received r.end))
 
--- the read came to the end of the buffer
-pub record CameToEnd (v w : View) : Type 0 where
-  pub on : v.consumer.head < w.consumer.head
-  pub end : w.consumer.head % w.capacity ≡ 0
-
--- one read of up to this many messages that stopped so: none was asked for, no settled record was at the new head, or
--- it came to the end of the buffer
-abbrev pub RanOut : ℕ → Stop → View → View → Type 0
-RanOut limit stopped v w =
-    (limit ≡ 0) ⊎ (((stopped ≡ Unpublished) × FoundUnsettled v w) ⊎ ((stopped ≡ Block) × CameToEnd v w))
-
--- two reads, each of which came to the end of the buffer
-pub record CameTwice (v w : View) : Type 0 where
-  pub between : ℕ
-  pub on : v.consumer.head < between
-  pub end : between % v.capacity ≡ 0
-  pub further : between < w.consumer.head
-  pub last : w.consumer.head % v.capacity ≡ 0
-
--- none was asked for, no settled record was at the new head, or from one end of the buffer to the next was no message
-abbrev pub HadNone : ℕ → View → View → Type 0
-HadNone limit v w = (limit ≡ 0) ⊎ (FoundUnsettled v w ⊎ CameTwice v w)
-
--- none was taken, for this reason, and nothing is put out
-pub record TookNone {O : Type 0} (Why : View → View → Type 0) (v w : View) (before after : O) : Type 0 where
-  pub taken : w.consumer.taken ≡ v.consumer.taken
-  pub why : Why v w
-  pub outs : after ≡ before
-
--- the code of a read: 0 if something was taken, 105 if nothing was, 106 if the buffer is too short
-abbrev pub ReadCode : Type 0 → Type 0 → Type 0 → ℤ → Type 0
-ReadCode Taken None Short code =
-    ((code ≡ pos 0) × Taken) ⊎ (((code ≡ pos 105) × None) ⊎ ((code ≡ pos 106) × Short))
+-- nothing was received
+abbrev pub ReceivesNone : Reading → Reading → Type 0
+ReceivesNone r s = received s.end ≡ received r.end
 
 -- One message ---------------------------------------------------------------------
 
@@ -67,51 +31,51 @@ pub record Out : Type 0 where
 abbrev pub out : ℤ → ℕ → List ℕ → Out
 out type_id len buffer = record { type_id = type_id; len = len; buffer = buffer }
 
--- one message more was taken, and is at the front of the buffer
-pub record Took (v w : View) (before after : Out) : Type 0 where
-  pub message : PlacedMessage
-  pub taken : w.consumer.taken ≡ v.consumer.taken ++ message ∷ []
-  pub room : length message.message.body ≤ length before.buffer
-  pub outs : after ≡ out message.message.type_id (length message.message.body)
-      (overwritten 0 message.message.body before.buffer)
+-- what is put out of what was found, with this buffer
+abbrev pub next_out : NextMessage → Out → List ℕ → Out
+next_out (Copied type_id len) before buffer = out type_id len buffer
+next_out (TooLong type_id len) before buffer = out type_id len buffer
+next_out Nothing before buffer = out before.type_id before.len buffer
 
--- the message at the head is longer than the buffer, and stays: its type id and length are put out
-pub record LeavesAtHead (v w : View) (before after : Out) : Type 0 where
-  pub taken : w.consumer.taken ≡ v.consumer.taken
-  pub message : Message
-  pub next : IsNext v w message
-  pub short : length before.buffer < length message.body
-  pub outs : after ≡ out message.type_id (length message.body) before.buffer
-
--- the message at the new head is at the front of the buffer, and stays
-pub record Shows (v w : View) (before after : Out) : Type 0 where
-  pub taken : w.consumer.taken ≡ v.consumer.taken
-  pub message : Message
-  pub next : IsNext v w message
-  pub room : length message.body ≤ length before.buffer
-  pub outs : after ≡ out message.type_id (length message.body) (overwritten 0 message.body before.buffer)
+-- its code: 0 if a message was copied, 105 if there was none, 106 if the buffer is too short
+abbrev pub next_code : NextMessage → ℤ
+next_code (Copied type_id len) = pos 0
+next_code (TooLong type_id len) = pos 106
+next_code Nothing = pos 105
 
 -- a message was copied, and taken, or stays
-abbrev pub Copied : Bool → View → View → Out → Out → Type 0
-Copied true = Took
-Copied false = Shows
-
-abbrev pub CopiedOne : Bool → (View → View → Type 0) → View → View → Out → Out → ℤ → Type 0
-CopiedOne takes Why v w before after code =
-    ReadCode (Copied takes v w before after) (TookNone Why v w before after) (LeavesAtHead v w before after) code
-
--- a message was copied, or not
-abbrev pub CopiesOne : Bool → (View → View → Type 0) → Out → Out → Reading → Reading → ℤ → Type 0
-CopiesOne takes Why before after r s code = (s ≡ having_read s.view r) × ReadsOn r.view s.view
-    × CopiedOne takes Why r.view s.view before after code
+abbrev pub CopiesOut : Bool → Out → Out → Reading → Reading → ℤ → Type 0
+CopiesOut takes before after r s code =
+    ByEnd (λ next. (code ≡ next_code next) × (after ≡ next_out next before after.buffer))
+    (CopiesNext takes (HadNone 1) before.buffer after.buffer) r s
 
 -- a message was read, or seen
 abbrev pub ReadOne : Out → Out → Reading → Reading → ℤ → Type 0
-ReadOne = CopiesOne true (HadNone 1)
+ReadOne = CopiesOut true
 
 abbrev pub PeekOne : Out → Out → Reading → Reading → ℤ → Type 0
-PeekOne = CopiesOne false (HadNone 1)
+PeekOne = CopiesOut false
+
+-- after code 0 the message that is put out was received
+abbrev pub ReceivesOut : Out → Reading → Reading → ℤ → Type 0
+ReceivesOut after = ReceivesThose (λ ms. ms ≡ message after.type_id (take after.len after.buffer) ∷ [])
+
+-- Without a copy --------------------------------------------------------------------
+
+-- the code of a take: 0 if a message was taken, 105 if there was none
+abbrev pub taken_code : Bool → ℤ
+taken_code true = pos 0
+taken_code false = pos 105
+
+abbrev pub TakeOne : Reading → Reading → ℤ → Type 0
+TakeOne r s code = ByEnd (λ took. code ≡ taken_code took) (TakesNext (HadNone 1)) r s
+
+-- after code 0 one message was received
+abbrev pub ReceivesOne : Reading → Reading → ℤ → Type 0
+ReceivesOne = ReceivesThose (λ ms. length ms ≡ 1)
+
+-- The heartbeat --------------------------------------------------------------------
 
 -- the heartbeat was stored
 abbrev pub Beat : ℕ → Reading → Reading → ℤ → Type 0
-Beat value r s code = (code ≡ pos 0) × (s ≡ having_read (with_consumer (beaten value r.view.consumer) r.view) r)
+Beat value r s code = ByEnd {R = Unit {0}} (λ _. code ≡ pos 0) (λ v _ w. w ≡ with_beat value v) r s

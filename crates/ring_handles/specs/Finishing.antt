@@ -18,7 +18,7 @@ use Rattle.ring_handles.specs.Side.{Reading, Side, close_refusal}
 -- The producer of the same number was taken in, which has no open claim. No clause can count handles: that no other
 -- producer is in a handle is tested if this one does not have all shares
 pub record TakesLast (r : Reading) (p : Side) (s : Reading) : Type 0 where
-  pub kind : r.many ≡ p.many
+  pub kind : r.end.many ≡ p.many
   pub identity : r.identity ≡ p.identity
   pub ready : open_count p.view.producer.claims ≡ 0
   pub first : r.last ≡ None
@@ -27,8 +27,8 @@ pub record TakesLast (r : Reading) (p : Side) (s : Reading) : Type 0 where
 -- why it was not: the consumer has its ring's producer already, or the kinds or the numbers differ; otherwise it is the
 -- library's refusal
 abbrev pub IsNotLast : Reading → Side → ℤ → Type 0
-IsNotLast r p code = ((code ≡ pos 108) × (IsSome r.last ⊎ ((r.many ≢ p.many) ⊎ (r.identity ≢ p.identity))))
-    ⊎ ((r.last ≡ None) × (r.many ≡ p.many) × (r.identity ≡ p.identity)
+IsNotLast r p code = ((code ≡ pos 108) × (IsSome r.last ⊎ ((r.end.many ≢ p.many) ⊎ (r.identity ≢ p.identity))))
+    ⊎ ((r.last ≡ None) × (r.end.many ≡ p.many) × (r.identity ≡ p.identity)
     × MatchOption (close_refusal p.view) ⊥ (λ fault. code ≡ close_code fault))
 
 -- Finishing ----------------------------------------------------------------------
@@ -53,10 +53,10 @@ pub record LeavesCommitted (capacity start : ℕ) (v : View) (left : ℕ) : Type
 -- The claims are those of the producer that was taken in, if it has all shares. Otherwise producers are lost, and its
 -- claims, if there is one, are its part of a history
 abbrev pub Finishes : Reading → ℕ → Type 0
-Finishes r left = MatchOption r.last (LeavesCommitted r.capacity r.start r.view left)
+Finishes r left = MatchOption r.last (LeavesCommitted r.end.capacity r.end.start r.end.view left)
     (λ v. MatchOption (close_refusal v)
-    (LeavesUnread r.capacity r.start v.producer.claims r.view.consumer.taken left)
-    (λ _. LeavesCommitted r.capacity r.start (with_consumer_of v r.view) left))
+    (LeavesUnread r.end.capacity r.end.start v.producer.claims r.end.view.consumer.taken left)
+    (λ _. LeavesCommitted r.end.capacity r.end.start (with_consumer_of v r.end.view) left))
 
 -- another handle holds the ring: that of a producer, if none was taken in
 abbrev pub IsUnfinished : Reading → ℤ → Type 0

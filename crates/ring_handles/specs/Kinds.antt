@@ -60,7 +60,7 @@ HoldsOne kind P held = MatchOption held ⊥ (λ h. MatchOption (kind h) ⊥ P)
 -- the bytes of the ring's or the board's buffer
 abbrev pub capacity_held : Held → Option ℕ
 capacity_held (Producer p) = Some p.capacity
-capacity_held (Consumer c) = Some c.capacity
+capacity_held (Consumer c) = Some c.end.capacity
 capacity_held (Transmitter t) = Some t.capacity
 capacity_held (Receiver r) = Some r.capacity
 capacity_held (RawReceiver r) = Some r.capacity

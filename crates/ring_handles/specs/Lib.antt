@@ -5,7 +5,6 @@ pub mod Calling
 pub mod Closing
 pub mod Conducting
 pub mod Consuming
-pub mod Copying
 pub mod Counting
 pub mod Finishing
 pub mod Kinds
@@ -19,5 +18,4 @@ pub mod Returning
 pub mod Seating
 pub mod Serving
 pub mod Side
-pub mod Taking
 pub mod WritingBatch

@@ -39,12 +39,8 @@ pub record ArePaired (many : Bool) (i : Identity) (C start : ℕ) (v w : View) (
     claims = [];
   }
   pub consumer : c ≡ record {
-    many = many;
-    table = p.table;
+    end = record { many = many; table = p.table; capacity = C; start = start; view = w };
     identity = i;
-    capacity = C;
-    start = start;
-    view = w;
     last = None;
   }
 

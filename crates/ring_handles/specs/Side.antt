@@ -1,53 +1,20 @@
 -- A producer or a consumer with its ring, of either kind.
 use Rattle.std.specs.Prelude.{◌≡◌, ℕ, List, Bool, true, false, Option, None, Some}
-use Rattle.std.specs.Arc.{arc_value}
 use Rattle.atomic_table.specs.Seated.{TableId}
-use Rattle.ring_layout.specs.Refusals.{all_shares}
 use Rattle.ring_table.specs.OpenClaims.{open_count}
 use Rattle.ring_table.specs.declared.view.View.{View}
 use Rattle.ring_words.specs.Open.{ClaimAt}
 use Rattle.ring_rings.specs.Closing.{close_refusal_of}
 use Rattle.ring_rings.specs.declared.fault.CloseFault.{CloseFault}
 use Rattle.ring_rings.specs.declared.ring.Producer.{Producer}
-use Rattle.ring_rings.specs.declared.ring.Consumer.{Consumer}
-use Rattle.ring_rings.specs.Seats.{capacity_of, shares_of, start_of, IsConsumerOf, IsProducerOf}
+use Rattle.ring_rings.specs.Seats.{view_of}
 use Rattle.ring_handles.specs.declared.identity.Identity.{Identity}
 use Rattle.ring_ends.specs.Claiming.{NumberedClaims}
+use Rattle.ring_ends.specs.End.{Does, End, IsOfEnd}
 use Rattle.ring_handles.specs.declared.ring.AnyProducer.{AnyProducer}
 use Rattle.ring_handles.specs.declared.ring.AnyProducer.TheVariants as any
-use Rattle.ring_handles.specs.declared.ring.AnyRing.{AnyRing}
-use Rattle.ring_handles.specs.declared.ring.AnyRing.TheVariants.{Many, One}
-
--- Rings of either kind -----------------------------------------------------------
-
--- any number of producers write it
-abbrev pub is_many : AnyRing → Bool
-is_many (Many ring) = true
-is_many (One ring) = false
-
--- which ring it is
-abbrev pub table_in : AnyRing → TableId
-table_in (Many ring) = (arc_value ring).table.shared.table_id
-table_in (One ring) = (arc_value ring).table.shared.table_id
-
--- the bytes of its buffer
-abbrev pub capacity_in : AnyRing → ℕ
-capacity_in (Many ring) = capacity_of (arc_value ring)
-capacity_in (One ring) = capacity_of (arc_value ring)
-
--- the position of its first claim
-abbrev pub start_in : AnyRing → ℕ
-start_in (Many ring) = start_of (arc_value ring)
-start_in (One ring) = start_of (arc_value ring)
-
--- a producer of it, which holds all shares if the ring has no other
-abbrev pub IsProducerIn : AnyRing → Producer → Type 0
-IsProducerIn (Many ring) p = IsProducerOf (arc_value ring) p
-IsProducerIn (One ring) p = IsProducerOf (arc_value ring) p × (shares_of p ≡ all_shares)
-
-abbrev pub IsConsumerIn : AnyRing → Consumer → Type 0
-IsConsumerIn (Many ring) c = IsConsumerOf (arc_value ring) c
-IsConsumerIn (One ring) c = IsConsumerOf (arc_value ring) c
+use Rattle.ring_handles.specs.declared.ring.AnyConsumer.{AnyConsumer}
+use Rattle.ring_handles.specs.declared.ring.AnyConsumer.TheVariants as reader
 
 -- Numbers --------------------------------------------------------------------------
 
@@ -109,27 +76,33 @@ AreOfOneRing p other = p.identity ≡ other.identity → (p.table ≡ other.tabl
 abbrev pub close_refusal : View → Option CloseFault
 close_refusal v = close_refusal_of (open_count v.producer.claims) v.producer.shares
 
--- a producer that was taken in is the ring's
-abbrev pub IsLastIn : AnyRing → Option Producer → Type 0
-IsLastIn ring None = Unit {0}
-IsLastIn ring (Some p) = IsProducerIn ring p
+-- the end of a consumer of a ring of either kind
+abbrev pub consumer_in : AnyConsumer → End
+consumer_in (reader.Many c) = c
+consumer_in (reader.One c) = c
+
+-- the consumer is of its kind
+abbrev pub IsReaderOfKind : AnyConsumer → Type 0
+IsReaderOfKind (reader.Many c) = c.many ≡ true
+IsReaderOfKind (reader.One c) = c.many ≡ false
+
+-- a producer that was taken in is of the consumer's ring
+abbrev pub IsLastOf : End → Option Producer → Type 0
+IsLastOf c None = Unit {0}
+IsLastOf c (Some p) = IsOfEnd (record c { view = view_of p }) p
 
 pub record Reading : Type 0 where
-  pub many : Bool
-  pub table : TableId
+  -- the consumer with its ring
+  pub end : End
+  -- the ring's number
   pub identity : Identity
-  pub capacity : ℕ
-  -- the position of the ring's first claim
-  pub start : ℕ
-  -- what the consumer knows
-  pub view : View
   -- what the ring's producer knows, if it was taken in
   pub last : Option View
 
--- the consumer that knows this
-abbrev pub having_read : View → Reading → Reading
-having_read v r = record r { view = v }
+-- The call did this to the end, and P holds of what it returned. The rest of the consumer stays.
+abbrev pub ByEnd : {R : Type 0} → (R → Type 0) → (View → R → View → Type 0) → Reading → Reading → Type 0
+ByEnd {R} P Call r s = (x : R) × P x × (s ≡ record r { end = s.end }) × Does Call r.end x s.end
 
--- where their numbers are the same, the producer is of the consumer's ring
+-- if their numbers are the same, the producer is of the consumer's ring
 abbrev pub IsOfThisRing : Reading → Side → Type 0
-IsOfThisRing r p = r.identity ≡ p.identity → (r.table ≡ p.table) × (r.capacity ≡ p.capacity)
+IsOfThisRing r p = r.identity ≡ p.identity → (r.end.table ≡ p.table) × (r.end.capacity ≡ p.capacity)

@@ -1,15 +1,16 @@
 //! Messages laid one after another into a buffer.
 ghost use Rattle.std.specs.Prelude.{◌≡◌, ◌≢◌, ◌+◌, ◌^◌, ◌<◌, ◌≤◌, true, false, length};
 ghost use Rattle.ring_layout.specs.declared.message.Message.{Message};
-ghost use Rattle.ring_rings.specs.Seats.{consumer_view, IsConsumerOf};
-ghost use Rattle.ring_handles.specs.Batch.{batch, headed, placed, span_in, LaidNone, Lays, ReadBatch, ReadsBatch, TookBatch, TookSome};
-ghost use Rattle.ring_handles.specs.Consuming.{RanOut, ReadsOn};
+ghost use Rattle.ring_handles.specs.Batch.{batch, headed, placed, span_in, LaidNone, Lays, ReadBatch, ReadsBatch, ReceivesBatch, TookBatch, TookSome};
+ghost use Rattle.ring_ends.specs.End.{AreOfOneRing};
+ghost use Rattle.ring_ends.specs.Next.{RanOut, ReadsOn};
 
 use crate::code::{DONE, NO_MESSAGE, SHORT_BUFFER};
 use crate::consumer::ConsumerSide;
 use crate::copying::copy_at;
-use crate::ring::on_ring;
-use ring_rings::{Action, Consumer, Handler, PlainRing, ReadEnd, Stop};
+use crate::ring::on_consumer;
+use ring_ends::ConsumerEnd;
+use ring_rings::{Action, Handler, InSlots, Kind, ReadEnd, Stop};
 
 /// Lays messages into a buffer, as long as there is room.
 #[derive(Drop)]
@@ -89,38 +90,34 @@ impl Handler for Laying<'_> {
 }
 
 /// Lays up to `limit` messages, as far as the end of the ring's buffer.
-fn lay_some<K>(
-    ring: &PlainRing<K>,
-    consumer: &mut Consumer,
+fn lay_some<K: Kind>(
+    end: &mut ConsumerEnd<K, InSlots>,
     limit: u32,
     laying: &mut Laying<'_>,
 ) -> ReadEnd
-    requires consumer { IsConsumerOf ring.now consumer.old }
     requires fresh { (laying.old.used ≡ 0) × (laying.old.is_full ≡ false) }
-    ensures consumer { IsConsumerOf ring.now consumer.new }
+    ensures same { AreOfOneRing end.old end.new }
     ensures borrow { laying.new.buffer.ghost_name ≡ laying.old.buffer.ghost_name }
-    ensures reads { ReadsOn (consumer_view consumer.old) (consumer_view consumer.new) }
-    ensures some { result.messages ≢ 0 → TookSome limit (consumer_view consumer.old) (consumer_view consumer.new)
-        laying.old.buffer.now (batch result.messages laying.new.used laying.new.buffer.now) }
-    ensures none { result.messages ≡ 0 → LaidNone limit result.stopped (consumer_view consumer.old)
-        (consumer_view consumer.new) laying.old laying.new }
+    ensures reads { ReadsOn end.old.view end.new.view }
+    ensures some { result.messages ≢ 0 → TookSome limit end.old.view end.new.view laying.old.buffer.now
+        (batch result.messages laying.new.used laying.new.buffer.now) }
+    ensures none { result.messages ≡ 0 → LaidNone limit result.stopped end.old.view end.new.view
+        laying.old laying.new }
 {
-    ring.controlled_read(consumer, limit, laying)
+    end.controlled_read(limit, laying)
 }
 
 /// Lays up to `limit` messages into a buffer, and reports how many and the bytes that they take, and why it stopped.
-fn lay_into<K>(
-    ring: &PlainRing<K>,
-    consumer: &mut Consumer,
+fn lay_into<K: Kind>(
+    end: &mut ConsumerEnd<K, InSlots>,
     limit: u32,
     count: &mut u32,
     used: &mut usize,
     buffer: &mut [u8],
 ) -> (i32, Stop)
-    requires { IsConsumerOf ring.now consumer.old }
-    ensures consumer { IsConsumerOf ring.now consumer.new }
-    ensures reads { ReadsOn (consumer_view consumer.old) (consumer_view consumer.new) }
-    ensures took { TookBatch (RanOut limit result.1) limit (consumer_view consumer.old) (consumer_view consumer.new)
+    ensures same { AreOfOneRing end.old end.new }
+    ensures reads { ReadsOn end.old.view end.new.view }
+    ensures took { TookBatch (RanOut limit result.1) limit end.old.view end.new.view
         (batch count.old used.old buffer.old) (batch count.new used.new buffer.new) result.0 }
 {
     let mut laying = Laying {
@@ -128,18 +125,18 @@ fn lay_into<K>(
         used: 0,
         is_full: false,
     };
-    let end = lay_some(ring, consumer, limit, &mut laying);
-    if end.messages == 0 {
+    let read = lay_some(end, limit, &mut laying);
+    if read.messages == 0 {
         let code = if laying.is_full {
             SHORT_BUFFER
         } else {
             NO_MESSAGE
         };
-        return (code, end.stopped);
+        return (code, read.stopped);
     }
-    *count = end.messages;
+    *count = read.messages;
     *used = laying.used;
-    (DONE, end.stopped)
+    (DONE, read.stopped)
 }
 
 impl ConsumerSide {
@@ -154,7 +151,7 @@ impl ConsumerSide {
         ensures { ReadsBatch (RanOut limit result.1) limit (batch count.old used.old buffer.old)
             (batch count.new used.new buffer.new) self.old self.new result.0 }
     {
-        on_ring!(self.ring, ring => lay_into(ring, &mut self.consumer, limit, count, used, buffer))
+        on_consumer!(&mut self.end, end => lay_into(end, limit, count, used, buffer))
     }
 
     /// Lays up to `limit` messages into a buffer, and reports how many and the bytes that they take.
@@ -165,8 +162,10 @@ impl ConsumerSide {
         used: &mut usize,
         buffer: &mut [u8],
     ) -> i32
-        ensures { ReadBatch limit (batch count.old used.old buffer.old) (batch count.new used.new buffer.new) self.old
-            self.new result }
+        ensures received { ReceivesBatch (batch count.old used.old buffer.old) (batch count.new used.new buffer.new)
+            self.old self.new result }
+        ensures does { ReadBatch limit (batch count.old used.old buffer.old) (batch count.new used.new buffer.new)
+            self.old self.new result }
     {
         let (code, stopped) = self.try_read_batch(limit, count, used, buffer);
         if code == NO_MESSAGE && stopped == Stop::Block {

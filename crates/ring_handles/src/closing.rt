@@ -12,10 +12,9 @@ ghost use Rattle.ring_handles.specs.Side.{close_refusal, IsOfThisRing};
 use crate::code::{CLAIMS_OPEN, IN_USE, OTHER_RING, PRODUCERS_OUT};
 use crate::consumer::ConsumerSide;
 use crate::producer::ProducerSide;
-use crate::ring::{AnyRing, on_end};
+use crate::ring::{AnyConsumer, on_end};
 use ring_layout::ALL_SHARES;
 use ring_rings::{Consumer, PlainRing, Producer};
-use std::sync::Arc;
 
 /// Tests whether a producer has all shares and no open claim.
 fn test_last(producer: &Producer) -> Result<(), i32>
@@ -111,7 +110,7 @@ impl ConsumerSide {
             × IsNotLast self.old producer r.0) }
     {
         if self.last.is_some()
-            || !self.ring.is_like(&producer)
+            || !self.end.is_like(&producer)
             || !self.identity.is(producer.identity)
         {
             return Err((OTHER_RING, producer));
@@ -131,19 +130,18 @@ impl ConsumerSide {
         ensures refused { IfErr result (λ r. (r.1 ≡ self) × IsUnfinished self r.0) }
     {
         let ConsumerSide {
-            ring,
+            end,
             identity,
-            consumer,
             last,
         } = self;
-        let ring = match ring {
-            AnyRing::Many(shared) => match Arc::try_unwrap(shared) {
-                Ok(ring) => return Ok(conclude(ring, last, consumer)),
-                Err(shared) => AnyRing::Many(shared),
+        let end = match end {
+            AnyConsumer::Many(end) => match end.into_ring() {
+                Ok((ring, consumer)) => return Ok(conclude(ring, last, consumer)),
+                Err(end) => AnyConsumer::Many(end),
             },
-            AnyRing::One(shared) => match Arc::try_unwrap(shared) {
-                Ok(ring) => return Ok(conclude(ring, last, consumer)),
-                Err(shared) => AnyRing::One(shared),
+            AnyConsumer::One(end) => match end.into_ring() {
+                Ok((ring, consumer)) => return Ok(conclude(ring, last, consumer)),
+                Err(end) => AnyConsumer::One(end),
             },
         };
         let code = if last.is_some() {
@@ -152,9 +150,8 @@ impl ConsumerSide {
             PRODUCERS_OUT
         };
         let kept = ConsumerSide {
-            ring,
+            end,
             identity,
-            consumer,
             last,
         };
         Err((code, kept))

@@ -3,8 +3,8 @@
 //!
 //! - `handle`, `held`, `loose`: what such a program keeps, and what it can be. `identity`: what distinguishes two
 //!   rings. `code`: what calls return. `opening`: what is made for handles.
-//! - `producer`, `claims`, `writing_batch`, `consumer`, `copying`, `taking`, `batch`, `closing`, `ring`: handles of a
-//!   ring.
+//! - `producer`, `claims`, `writing_batch`, `consumer`, `batch`, `closing`, `ring`: handles of a ring. `copying` copies
+//!   bytes into a buffer.
 //! - `boards`, `raw`, `board_ending`: handles of a broadcast buffer. `counters`, `counting`, `reading`: of counters and
 //!   their readers. `adders`, `adding`: of shared counters.
 //! - `conductor`, `client`, `lending`, `finishing`: a conductor, its clients, and what it lends.
@@ -39,7 +39,6 @@ mod raw;
 mod reading;
 mod recovering;
 mod ring;
-mod taking;
 mod writing_batch;
 
 pub use adders::AdderSide;

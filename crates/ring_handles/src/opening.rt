@@ -1,13 +1,12 @@
 //! What is made for handles: rings, broadcast buffers, counters, shared counters and conductors, each in a box.
 ghost use Rattle.std.specs.Prelude.{◌≡◌, ◌≢◌, [], pos, true, false, IfErr, IfOk, MatchResult};
-ghost use Rattle.std.specs.Arc.{arc_value};
 ghost use Rattle.std.specs.declared.option.Option.TheVariants.{Some};
-ghost use Rattle.ring_rings.specs.Seats.{consumer_view};
+ghost use Rattle.ring_ends.specs.End.{AreOfOneRing};
 ghost use Rattle.ring_handles.specs.Conducting.{IsConductorCode};
 ghost use Rattle.ring_handles.specs.Opening.{HoldFirstAdder, HoldFresh, HoldFreshCounters, HoldNewBoard};
 ghost use Rattle.ring_handles.specs.Opening.{HoldNewConductor, HoldPair, IsAdderCode, IsBoardCode, IsCountersCode};
 ghost use Rattle.ring_handles.specs.Opening.{IsMakeCode};
-ghost use Rattle.ring_handles.specs.Side.{capacity_in, is_many, side_in, start_in, table_in, IsConsumerIn, IsOfKind};
+ghost use Rattle.ring_handles.specs.Side.{consumer_in, numbered_in, IsOfKind, IsReaderOfKind};
 
 use crate::adders::AdderSide;
 use crate::boards::TransmitterSide;
@@ -19,31 +18,17 @@ use crate::counters::CountersSide;
 use crate::held::Held;
 use crate::identity::Identity;
 use crate::producer::ProducerSide;
-use crate::ring::{AnyProducer, AnyRing};
+use crate::ring::{AnyConsumer, AnyProducer};
 use ring_adders::SharedCounter;
 use ring_board::Board;
 use ring_counters::CountersManager;
-use ring_ends::{NumberedEnd, ProducerEnd};
-use ring_rings::{Consumer, PlainManyToOneRing, PlainOneToOneRing};
+use ring_ends::{NumberedEnd, open};
+use ring_rings::{InSlots, ManyToOne, OneToOne};
 use std::alloc::Global;
 use std::sync::Arc;
 
 /// What two handles are filled with: a producer, and the consumer of its ring.
 pub type Pair = (Box<Held>, Box<Held>);
-
-/// Two references to one value. 3 if there is no memory.
-fn share<T: Drop>(alloc: Global, value: T) -> Result<(Arc<T>, Arc<T>), i32>
-    ensures shared { IfOk result (λ both. (arc_value both.0 ≡ value) × (arc_value both.1 ≡ value)) }
-    ensures refused { IfErr result (λ code. code ≡ pos 3) }
-{
-    let Ok(one) = Arc::new(alloc, value) else {
-        return Err(OUT_OF_MEMORY);
-    };
-    let Ok(two) = Arc::try_clone(&one) else {
-        return Err(OUT_OF_MEMORY);
-    };
-    Ok((one, two))
-}
 
 /// Puts a value into a box. 3 if there is no memory.
 fn boxed<T: Drop>(alloc: Global, held: T) -> Result<Box<T>, i32>
@@ -77,23 +62,24 @@ pub fn room(alloc: Global) -> Result<Box<Held>, i32>
 fn box_both(
     alloc: Global,
     identity: Identity,
-    end: AnyProducer,
-    ring: AnyRing,
-    consumer: Consumer,
+    producer: AnyProducer,
+    consumer: AnyConsumer,
 ) -> Result<Pair, i32>
-    requires kind { IsOfKind end }
-    requires same { ((side_in identity end).many ≡ is_many ring) × ((side_in identity end).table ≡ table_in ring)
-        × ((side_in identity end).capacity ≡ capacity_in ring) × ((side_in identity end).claims ≡ []) }
-    requires consumer { IsConsumerIn ring consumer }
-    ensures made { IfOk result (λ made. HoldPair (is_many ring) identity (capacity_in ring) (start_in ring)
-        (side_in identity end).view (consumer_view consumer) (Some made.0.value) (Some made.1.value)) }
+    requires kinds { IsOfKind producer × IsReaderOfKind consumer }
+    requires ring { AreOfOneRing (consumer_in consumer) (numbered_in producer).end }
+    requires none { (numbered_in producer).claims ≡ [] }
+    ensures made { IfOk result (λ made. HoldPair (consumer_in consumer).many identity (consumer_in consumer).capacity
+        (consumer_in consumer).start (numbered_in producer).end.view (consumer_in consumer).view
+        (Some made.0.value) (Some made.1.value)) }
     ensures refused { IfErr result (λ code. code ≡ pos 3) }
 {
-    let one = Held::Producer(ProducerSide { end, identity });
-    let two = Held::Consumer(ConsumerSide {
-        ring,
+    let one = Held::Producer(ProducerSide {
+        end: producer,
         identity,
-        consumer,
+    });
+    let two = Held::Consumer(ConsumerSide {
+        end: consumer,
+        identity,
         last: None,
     });
     both_boxed(alloc, one, two)
@@ -114,13 +100,12 @@ pub fn open_many_to_one(
     ensures code { MatchResult result (λ _. IsMakeCode capacity start (pos 0))
         (λ code. IsMakeCode capacity start code × (code ≢ pos 0)) }
 {
-    let (ring, producer, consumer) = match PlainManyToOneRing::new_at(alloc, capacity, start) {
+    let (producer, consumer) = match open::<ManyToOne, InSlots>(alloc, capacity, start) {
         Ok(made) => made,
         Err(fault) => return Err(fault.code()),
     };
-    let (ring, same) = share(alloc, ring)?;
-    let end = AnyProducer::Many(NumberedEnd::of(alloc, ProducerEnd::of(ring, producer)));
-    box_both(alloc, identity, end, AnyRing::Many(same), consumer)
+    let producer = AnyProducer::Many(NumberedEnd::of(alloc, producer));
+    box_both(alloc, identity, producer, AnyConsumer::Many(consumer))
 }
 
 /// Makes a ring of one producer, which holds all shares, with its consumer. It refuses as `open_many_to_one`.
@@ -135,13 +120,12 @@ pub fn open_one_to_one(
     ensures code { MatchResult result (λ _. IsMakeCode capacity start (pos 0))
         (λ code. IsMakeCode capacity start code × (code ≢ pos 0)) }
 {
-    let (ring, producer, consumer) = match PlainOneToOneRing::new_at(alloc, capacity, start) {
+    let (producer, consumer) = match open::<OneToOne, InSlots>(alloc, capacity, start) {
         Ok(made) => made,
         Err(fault) => return Err(fault.code()),
     };
-    let (ring, same) = share(alloc, ring)?;
-    let end = AnyProducer::One(NumberedEnd::of(alloc, ProducerEnd::of(ring, producer)));
-    box_both(alloc, identity, end, AnyRing::One(same), consumer)
+    let producer = AnyProducer::One(NumberedEnd::of(alloc, producer));
+    box_both(alloc, identity, producer, AnyConsumer::One(consumer))
 }
 
 /// Makes a broadcast buffer, with a transmitter that holds all shares. The errors are those of `open_many_to_one`.

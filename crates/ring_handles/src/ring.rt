@@ -1,47 +1,10 @@
-//! Rings of either kind, and their producers.
+//! The ends of rings of either kind.
 ghost use Rattle.std.specs.Prelude.{◌≡◌, ◌≢◌, false, true};
-ghost use Rattle.ring_handles.specs.Side.{is_many};
+ghost use Rattle.ring_handles.specs.Side.{consumer_in, IsReaderOfKind};
 
 use crate::producer::ProducerSide;
-use ring_ends::NumberedEnd;
-use ring_rings::{InSlots, ManyToOne, OneToOne, PlainManyToOneRing, PlainOneToOneRing};
-use std::sync::Arc;
-
-/// A ring that handles share.
-#[derive(Drop)]
-pub enum AnyRing {
-    /// Any number of producers write it.
-    Many(Arc<PlainManyToOneRing>),
-    /// One producer writes it.
-    One(Arc<PlainOneToOneRing>),
-}
-
-impl AnyRing {
-    /// Tests whether a producer is of a ring of the same kind.
-    pub(crate) fn is_like(&self, other: &ProducerSide) -> bool
-        ensures same { result ≡ true → is_many self.now ≡ other.now.many }
-        ensures others { result ≡ false → is_many self.now ≢ other.now.many }
-    {
-        match (self, &other.end) {
-            (AnyRing::Many(_), AnyProducer::Many(_)) => true,
-            (AnyRing::Many(_), AnyProducer::One(_)) => false,
-            (AnyRing::One(_), AnyProducer::Many(_)) => false,
-            (AnyRing::One(_), AnyProducer::One(_)) => true,
-        }
-    }
-}
-
-/// Works on a ring of either kind, which the work names.
-macro_rules! on_ring {
-    ($any:expr, $ring:ident => $work:expr) => {
-        match &$any {
-            $crate::ring::AnyRing::Many($ring) => $work,
-            $crate::ring::AnyRing::One($ring) => $work,
-        }
-    };
-}
-
-pub(crate) use on_ring;
+use ring_ends::{ConsumerEnd, NumberedEnd};
+use ring_rings::{InSlots, ManyToOne, OneToOne};
 
 /// A producer of a ring of either kind, with its ring and its open claims.
 #[derive(Drop)]
@@ -63,3 +26,40 @@ macro_rules! on_end {
 }
 
 pub(crate) use on_end;
+
+/// A consumer of a ring of either kind, with its ring.
+#[derive(Drop)]
+pub enum AnyConsumer {
+    /// Any number of producers write its ring.
+    Many(ConsumerEnd<ManyToOne, InSlots>),
+    /// One producer writes its ring.
+    One(ConsumerEnd<OneToOne, InSlots>),
+}
+
+impl AnyConsumer {
+    /// Tests whether a producer is of a ring of the same kind.
+    pub(crate) fn is_like(&self, other: &ProducerSide) -> bool
+        requires { IsReaderOfKind self.now }
+        ensures same { result ≡ true → (consumer_in self.now).many ≡ other.now.many }
+        ensures others { result ≡ false → (consumer_in self.now).many ≢ other.now.many }
+    {
+        match (self, &other.end) {
+            (AnyConsumer::Many(_), AnyProducer::Many(_)) => true,
+            (AnyConsumer::Many(_), AnyProducer::One(_)) => false,
+            (AnyConsumer::One(_), AnyProducer::Many(_)) => false,
+            (AnyConsumer::One(_), AnyProducer::One(_)) => true,
+        }
+    }
+}
+
+/// Works on a consumer of either kind, which the work names.
+macro_rules! on_consumer {
+    ($any:expr, $end:ident => $work:expr) => {
+        match $any {
+            $crate::ring::AnyConsumer::Many($end) => $work,
+            $crate::ring::AnyConsumer::One($end) => $work,
+        }
+    };
+}
+
+pub(crate) use on_consumer;

@@ -1,8 +1,7 @@
 //! What a consumer's handle does.
-ghost use Rattle.ring_handles.specs.Batch.{batch, ReadBatch};
-ghost use Rattle.ring_handles.specs.Consuming.{out, Beat, PeekOne, ReadOne};
+ghost use Rattle.ring_handles.specs.Batch.{batch, ReadBatch, ReceivesBatch};
+ghost use Rattle.ring_handles.specs.Consuming.{out, Beat, PeekOne, ReadOne, ReceivesNone, ReceivesOne, ReceivesOut, TakeOne};
 ghost use Rattle.ring_handles.specs.Kinds.{a_consumer};
-ghost use Rattle.ring_handles.specs.Taking.{TakeOne};
 ghost use Rattle.ring_c.specs.Told.{Uses, Yields};
 
 use crate::work_on::work_on;
@@ -18,7 +17,9 @@ pub extern "C" fn felter_read(
     len: &mut usize,
     buffer: &mut [u8],
 ) -> i32
-    ensures { Yields a_consumer ReadOne (out type_id.old len.old buffer.old) (out type_id.new len.new buffer.new)
+    ensures received { Yields a_consumer (λ _ told. ReceivesOut told) (out type_id.old len.old buffer.old)
+        (out type_id.new len.new buffer.new) consumer.old.held consumer.new.held result }
+    ensures does { Yields a_consumer ReadOne (out type_id.old len.old buffer.old) (out type_id.new len.new buffer.new)
         consumer.old.held consumer.new.held result }
 {
     work_on!(consumer, alloc, Consumer(side) => side.read(type_id, len, buffer))
@@ -33,7 +34,8 @@ pub extern "C" fn felter_peek(
     len: &mut usize,
     buffer: &mut [u8],
 ) -> i32
-    ensures { Yields a_consumer PeekOne (out type_id.old len.old buffer.old) (out type_id.new len.new buffer.new)
+    ensures received { Uses a_consumer (λ r s _. ReceivesNone r s) consumer.old.held consumer.new.held result }
+    ensures does { Yields a_consumer PeekOne (out type_id.old len.old buffer.old) (out type_id.new len.new buffer.new)
         consumer.old.held consumer.new.held result }
 {
     work_on!(consumer, alloc, Consumer(side) => side.peek(type_id, len, buffer))
@@ -42,7 +44,8 @@ pub extern "C" fn felter_peek(
 /// Takes the next message, and copies nothing.
 #[unsafe(no_mangle)]
 pub extern "C" fn felter_take(alloc: Global, consumer: &mut Handle) -> i32
-    ensures { Uses a_consumer TakeOne consumer.old.held consumer.new.held result }
+    ensures received { Uses a_consumer ReceivesOne consumer.old.held consumer.new.held result }
+    ensures does { Uses a_consumer TakeOne consumer.old.held consumer.new.held result }
 {
     work_on!(consumer, alloc, Consumer(side) => side.take())
 }
@@ -57,7 +60,9 @@ pub extern "C" fn felter_read_batch(
     used: &mut usize,
     buffer: &mut [u8],
 ) -> i32
-    ensures { Yields a_consumer (ReadBatch limit) (batch count.old used.old buffer.old)
+    ensures received { Yields a_consumer ReceivesBatch (batch count.old used.old buffer.old)
+        (batch count.new used.new buffer.new) consumer.old.held consumer.new.held result }
+    ensures does { Yields a_consumer (ReadBatch limit) (batch count.old used.old buffer.old)
         (batch count.new used.new buffer.new) consumer.old.held consumer.new.held result }
 {
     work_on!(consumer, alloc, Consumer(side) => side.read_batch(limit, count, used, buffer))
@@ -66,7 +71,8 @@ pub extern "C" fn felter_read_batch(
 /// Stores the heartbeat that producers load.
 #[unsafe(no_mangle)]
 pub extern "C" fn felter_set_heartbeat(alloc: Global, consumer: &mut Handle, value: u64) -> i32
-    ensures { Uses a_consumer (Beat value) consumer.old.held consumer.new.held result }
+    ensures received { Uses a_consumer (λ r s _. ReceivesNone r s) consumer.old.held consumer.new.held result }
+    ensures does { Uses a_consumer (Beat value) consumer.old.held consumer.new.held result }
 {
     work_on!(consumer, alloc, Consumer(side) => side.set_heartbeat(value))
 }

@@ -1,5 +1,5 @@
 -- How a read that its handler controls leaves the consumer, why it took nothing, and two reads as one.
-use Rattle.std.proofs.Common.{◌≡◌, ◌⊎◌, false, inl, inr, ℕ, ◌+◌, ◌%◌, ◌&&◌, ◌==◌, nat_lt, if◌then◌else◌, ℤ, pos, List, ◌++◌, arith, sym, ap, ◌∙◌, subst}
+use Rattle.std.proofs.Common.{◌≡◌, ◌⊎◌, false, inl, inr, ℕ, ◌+◌, ◌%◌, ◌&&◌, ◌==◌, nat_lt, if◌then◌else◌, List, ◌++◌, arith, sym, ap, ◌∙◌, subst}
 use Rattle.std.proofs.lemmas.Bool.{and_parts, cases_Bool, cond-true, cond-false, eqb-true, ltb-true}
 use Rattle.std.proofs.lemmas.List.{append_assoc}
 use Rattle.ring_layout.specs.declared.message.Message.{Message}
@@ -9,7 +9,7 @@ use Rattle.ring_words.specs.declared.read.end.Stop.{Stop}
 use Rattle.ring_words.specs.declared.read.end.Stop.TheVariants.{Limit, Block, Unpublished}
 use Rattle.ring_table.specs.declared.view.View.{View}
 use Rattle.ring_rings.specs.Reading.{Controls, FoundUnsettled, IsNext, MovesHead, WentOn}
-use Rattle.ring_handles.specs.Consuming.{CameToEnd, HadNone, RanOut, ReadCode, ReadsOn, TookNone}
+use Rattle.ring_ends.specs.Next.{CameToEnd, HadNone, RanOut, ReadsOn, TookNone}
 
 -- no settled record was at the new head, or the read came to the end of the buffer
 abbrev Ended : Stop → View → View → Type 0
@@ -142,37 +142,10 @@ twice limit one two v u w first second is (inr (inr ended)) (inr (inr again)) = 
       (capacity_on u w w second ∙ capacity_on v u w first) again.1.end;
 }))
 
--- Codes ----------------------------------------------------------------------------
-
--- what a code says, in other words
-pub in_words : {A B C A' B' C' : Type 0} (code : ℤ) → (A → A') → (code ≡ pos 105 → B → B') → (C → C')
-    → ReadCode A B C code → ReadCode A' B' C' code
-in_words code f g h (inl (is, a)) = inl (is, f a)
-in_words code f g h (inr (inl (is, b))) = inr (inl (is, g is b))
-in_words code f g h (inr (inr (is, c))) = inr (inr (is, h c))
-
-digits : ℤ → ℕ
-digits (pos n) = n
-digits _ = 0
-
--- nothing was taken
-pub had_none : {A B C : Type 0} (code : ℤ) → code ≡ pos 105 → ReadCode A B C code → B
-unfolding digits
-had_none code is (inl (zero, a)) = absurd (other (ap digits (sym is ∙ zero)))
-  where
-    other : ◌≡◌ {A = ℕ} 105 0 → ⊥
-    other e = omega arith
-had_none code is (inr (inl (same, b))) = b
-had_none code is (inr (inr (short, c))) = absurd (other (ap digits (sym is ∙ short)))
-  where
-    other : ◌≡◌ {A = ℕ} 105 106 → ⊥
-    other e = omega arith
-
-pub none_twice : {O : Type 0} (limit : ℕ) (one two : Stop) (v u w : View) (o o' o'' : O) → ReadsOn v u → ReadsOn u w
-    → one ≡ Block → TookNone (RanOut limit one) v u o o' → TookNone (RanOut limit two) u w o o''
-    → TookNone (HadNone limit) v w o o''
-none_twice limit one two v u w o o' o'' first second is none again = record {
+-- nothing was taken by one read, which came to the end of the buffer, and nothing by another
+pub none_twice : (limit : ℕ) (one two : Stop) (v u w : View) → ReadsOn v u → ReadsOn u w → one ≡ Block
+    → TookNone (RanOut limit one) v u → TookNone (RanOut limit two) u w → TookNone (HadNone limit) v w
+none_twice limit one two v u w first second is none again = record {
   taken = again.taken ∙ none.taken;
   why = twice limit one two v u w first second is none.why again.why;
-  outs = again.outs;
 }

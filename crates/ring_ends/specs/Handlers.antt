@@ -1,15 +1,12 @@
--- How a message is copied into a buffer.
-use Rattle.std.specs.Prelude.{◌≡◌, ◌⊎◌, ◌<◌, ◌≤◌, pos, length, Bool, true, false}
+-- The handlers of the calls that ask for the next message.
+use Rattle.std.specs.Prelude.{◌≡◌, ◌⊎◌, ◌<◌, ◌≤◌, length, Bool, true, false}
 use Rattle.ring_layout.specs.declared.message.Message.{Message}
 use Rattle.ring_layout.specs.History.{overwritten}
 use Rattle.ring_words.specs.declared.read.action.Action.{Action}
 use Rattle.ring_words.specs.declared.read.action.Action.TheVariants.{Abort, Break}
-use Rattle.ring_handles.specs.declared.copying.Copying.{Copying}
-
--- the message's type id and length are put out
-pub record Tells (m : Message) (t : Copying) : Type 0 where
-  pub type_id : t.type_id ≡ m.type_id
-  pub len : t.len ≡ length m.body
+use Rattle.ring_ends.specs.declared.copying.Copying.{Copying}
+use Rattle.ring_ends.specs.declared.copying.NextMessage.TheVariants.{Copied, TooLong}
+use Rattle.ring_ends.specs.declared.taking.Taking.{Taking}
 
 -- what becomes of a message that was copied: it is taken, or stays
 abbrev pub after_copy : Bool → Action
@@ -20,9 +17,8 @@ after_copy false = Abort
 pub record CopiesIn (s : Copying) (m : Message) (t : Copying) (a : Action) : Type 0 where
   pub room : length m.body ≤ length s.buffer.now
   pub action : a ≡ after_copy s.takes
-  pub code : t.code ≡ pos 0
+  pub found : t.found ≡ Copied m.type_id (length m.body)
   pub buffer : t.buffer.now ≡ overwritten 0 m.body s.buffer.now
-  pub tells : Tells m t
   -- it is the same buffer
   pub borrow : t.buffer.ghost_name ≡ s.buffer.ghost_name
 
@@ -30,11 +26,15 @@ pub record CopiesIn (s : Copying) (m : Message) (t : Copying) (a : Action) : Typ
 pub record Exceeds (s : Copying) (m : Message) (t : Copying) (a : Action) : Type 0 where
   pub short : length s.buffer.now < length m.body
   pub action : a ≡ Abort
-  pub code : t.code ≡ pos 106
+  pub found : t.found ≡ TooLong m.type_id (length m.body)
   pub buffer : t.buffer.now ≡ s.buffer.now
-  pub tells : Tells m t
   -- it is the same buffer
   pub borrow : t.buffer.ghost_name ≡ s.buffer.ghost_name
 
 abbrev pub Copies : Copying → Message → Copying → Action → Type 0
 Copies s m t a = CopiesIn s m t a ⊎ Exceeds s m t a
+
+-- one message is taken
+pub record Takes (s : Taking) (m : Message) (t : Taking) (a : Action) : Type 0 where
+  pub took : t.took ≡ true
+  pub action : a ≡ Break
