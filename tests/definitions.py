@@ -69,8 +69,9 @@ def imports(text):
     found = {}
     for module, items, alias in re.findall(r"(?m)^(?:ghost |pub )*use ([\w.-]+?)(?:\.\{([^}]*)\})?(?: as (\w+))?;?$", text):
         for item in (items.split(",") if items else ()):
-            name, _, other = item.strip().partition(" as ")
-            found[other or name] = (module, name)
+            path, _, other = item.strip().partition(" as ")
+            below, _, name = path.rpartition(".")
+            found[other or name] = (module + "." * bool(below) + below, name)
         if not items:
             found[alias or module.split(".")[-1]] = (module, None)
     return found
