@@ -1,23 +1,14 @@
 -- Each step on the sum keeps the rule.
-use Rattle.std.proofs.Common.{◌≡◌, ◌≢◌, ℕ, ℤ, zero, suc, ◌+◌, ◌-◌, ◌^◌, ◌%◌, ◌<◌, List, [], ◌∷◌, ◌++◌, set, refl, sym, ap, ◌∙◌, subst, ⊎_elim, arith, slice_index, append-nil, append_assoc, get_or-set_same}
-use Rattle.std.specs.Int.{cast_signed, cast_unsigned, w64}
-use Rattle.std.proofs.Math.ListN.{length-set}
-use Rattle.std.proofs.Math.Nat.{mod-add-mod}
-use Rattle.std.proofs.lemmas.List.{set-get_or}
-use Rattle.std.proofs.lemmas.Int.{of_z-to_z}
-use mathlib.Core.Option.{some, some-ne-none, some-injective}
-use lib.ListN.{get_elem?}
+use Rattle.std.proofs.Common.{◌≡◌, ◌≢◌, ℕ, ℤ, zero, suc, ◌+◌, ◌-◌, ◌^◌, ◌%◌, ◌<◌, List, [], ◌∷◌, ◌++◌, set, refl, sym, ap, ◌∙◌, subst, ⊎_elim, arith, slice_index, append-nil, append_assoc, get_or-set_same, w64, length-set}
+use Rattle.std.specs.Int.{cast_signed, cast_unsigned}
+use Rattle.std.proofs.Math.{Nat.mod-add-mod, Option.some, Option.some-ne-none, Option.some-injective, ListN.get_elem?}
+use Rattle.std.proofs.lemmas.{List.set-get_or, Int.of_z-to_z}
 use Rattle.atomic_table.specs.Table.{State, keeps, Allows, Splits, Joins}
 use Rattle.atomic_table.proofs.Lists.{at_snoc, set_else}
-use Rattle.ring_layout.specs.Lists.{Begins, total}
-use Rattle.ring_layout.specs.Refusals.{all_shares}
-use Rattle.ring_layout.proofs.ListLemmas.{each_set}
+use Rattle.ring_layout.{specs.Lists.Begins, specs.Lists.total, specs.Refusals.all_shares, proofs.ListLemmas.each_set}
 use Rattle.ring_layout.proofs.Sums.{total-set, total-append, total-least, total-sole, total-zero}
-use Rattle.ring_adders.specs.declared.view.AdderView.{AdderView}
-use Rattle.ring_adders.specs.Steps.{Adds, Loads}
-use Rattle.ring_adders.specs.SumRule.{KnowsAdds, SumRule}
-use Rattle.ring_adders.specs.Sums.{patterns, sum_word}
-use Rattle.ring_adders.specs.Views.{adder_view}
+use Rattle.ring_adders.specs.{declared.view.AdderView.AdderView, SumRule.KnowsAdds, SumRule.SumRule, Views.adder_view}
+use Rattle.ring_adders.specs.{Steps.Adds, Steps.Loads, Sums.patterns, Sums.sum_word}
 
 abbrev shares_of : AdderView → ℕ
 shares_of v = v.shares

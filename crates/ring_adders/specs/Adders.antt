@@ -1,8 +1,6 @@
 -- The adders of a shared counter.
 use Rattle.std.specs.Prelude.{◌≡◌, ℕ, ℤ, List, [], ◌∷◌, ◌++◌}
-use Rattle.ring_adders.specs.declared.seats.Adder.{Adder}
-use Rattle.ring_adders.specs.declared.seats.SharedCounter.{SharedCounter}
-use Rattle.ring_adders.specs.Sums.{sum_of}
+use Rattle.ring_adders.specs.{declared.seats.Adder.Adder, declared.seats.SharedCounter.SharedCounter, Sums.sum_of}
 use Rattle.ring_layout.specs.Lists.{Begins}
 
 -- the adder is one of this counter

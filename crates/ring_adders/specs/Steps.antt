@@ -1,11 +1,8 @@
 -- The views that each step on the sum shows its adder.
 use Rattle.std.specs.Prelude.{◌≡◌, ℕ, ◌≤◌, ℤ, List, [], ◌∷◌, ◌++◌}
 use Rattle.std.specs.Int.{cast_signed, w64}
-use Rattle.ring_adders.specs.declared.view.AdderView.{AdderView}
-use Rattle.ring_adders.specs.Sums.{sum_word}
-use Rattle.ring_adders.specs.Views.{adder_view}
-use Rattle.ring_layout.specs.Lists.{Begins}
-use Rattle.ring_layout.specs.Refusals.{all_shares}
+use Rattle.ring_adders.specs.{declared.view.AdderView.AdderView, Sums.sum_word, Views.adder_view}
+use Rattle.ring_layout.specs.{Lists.Begins, Refusals.all_shares}
 
 -- One more amount is added, after all that the adder has seen and perhaps more amounts. The word that was found is the
 -- sum of these.

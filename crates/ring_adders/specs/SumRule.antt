@@ -2,10 +2,8 @@
 use Rattle.std.specs.Prelude.{◌≡◌, ℕ, ℤ, List, [], length, slice_index}
 use mathlib.Core.Option.{some}
 use lib.ListN.{get_elem?}
-use Rattle.ring_adders.specs.declared.view.AdderView.{AdderView}
-use Rattle.ring_adders.specs.Sums.{patterns, sum_word}
-use Rattle.ring_layout.specs.Lists.{Begins, total}
-use Rattle.ring_layout.specs.Refusals.{all_shares}
+use Rattle.ring_adders.specs.{declared.view.AdderView.AdderView, Sums.patterns, Sums.sum_word}
+use Rattle.ring_layout.specs.{Lists.Begins, Lists.total, Refusals.all_shares}
 
 -- An adder has seen a first part of what all adders added. An adder without shares added nothing.
 pub record KnowsAdds (all : List ℤ) (v : AdderView) : Type 0 where

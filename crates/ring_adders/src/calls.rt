@@ -1,7 +1,6 @@
 //! The calls of a shared counter and its adders, with the steps of these calls.
 ghost use Rattle.std.specs.Prelude.{◌≡◌, ◌+◌, ◌<◌, ◌↔◌, [], ◌++◌, IfOk, IsOk, OnErr};
-ghost use Rattle.ring_layout.specs.Lists.{Begins};
-ghost use Rattle.ring_layout.specs.Refusals.{all_shares};
+ghost use Rattle.ring_layout.specs.{Lists.Begins, Refusals.all_shares};
 ghost use Rattle.ring_adders.specs.Adders.{added_by, seen_by, shares_of, AddsAmount, IsAdderOf, IsNewAdderOf, SeesSum};
 ghost use Rattle.ring_adders.specs.Sums.{sum_of};
 

@@ -1,7 +1,6 @@
 //! The types of what each kind of step says. These types are for the proofs alone, and no value of them is made.
 ghost use Rattle.std.specs.Prelude.{◌≡◌, ◌+◌, ◌-◌, ◌++◌, []};
-ghost use Rattle.ring_adders.specs.Views.{adder_view};
-ghost use Rattle.ring_adders.specs.Steps.{Adds, Loads};
+ghost use Rattle.ring_adders.specs.{Views.adder_view, Steps.Adds, Steps.Loads};
 
 use crate::view::AdderView;
 use atomic_table::{Join, Play, Split};

@@ -1,8 +1,7 @@
 //! The rule that holds between any two steps.
 ghost use Rattle.std.specs.Prelude.{[]};
 ghost use Rattle.ring_layout.specs.Refusals.{all_shares};
-ghost use Rattle.ring_adders.specs.Views.{adder_view};
-ghost use Rattle.ring_adders.specs.SumRule.{SumRule};
+ghost use Rattle.ring_adders.specs.{Views.adder_view, SumRule.SumRule};
 
 use crate::view::AdderView;
 use atomic_table::TableRule;

@@ -1,7 +1,6 @@
 //! Counters: set, read, allocated and freed by one thread.
 ghost use Rattle.std.specs.Prelude.{◌≡◌};
-ghost use Rattle.ring_counters.specs.Manager.{IsManagerOf};
-ghost use Rattle.ring_counters.specs.Seats.{IsReaderOf};
+ghost use Rattle.ring_counters.specs.{Manager.IsManagerOf, Seats.IsReaderOf};
 
 use crate::fault::Fault;
 use crate::job::Job;

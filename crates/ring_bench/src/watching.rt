@@ -1,8 +1,7 @@
 //! One counter that is set while two threads read it.
 ghost use Rattle.std.specs.Prelude.{All, IfOk};
 ghost use Rattle.std.specs.Thread.{IsSync};
-ghost use Rattle.ring_counters.specs.Seats.{IsReaderOf};
-ghost use Rattle.ring_counters.specs.Manager.{IsManagerOf};
+ghost use Rattle.ring_counters.specs.{Seats.IsReaderOf, Manager.IsManagerOf};
 
 use crate::fault::Fault;
 use crate::rest::{Rest, TRIES};

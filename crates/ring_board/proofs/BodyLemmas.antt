@@ -1,33 +1,19 @@
 -- Bodies that a raw receiver loads, and validates.
-use Rattle.std.proofs.Common.{◌≡◌, ℕ, true, ◌+◌, ◌-◌, ◌*◌, ◌<◌, ◌≤◌, List, [], ◌∷◌, ◌++◌, length, take, get_or, refl, sym, ap, ◌∙◌, subst, ⊎_elim, inl, inr, ◌⊎◌, arith, length-append, append_assoc}
-use Rattle.std.specs.Int.{to_le_bytes, w64}
-use Rattle.std.proofs.lemmas.Bool.{cases_lt}
-use Rattle.std.proofs.lemmas.List.{ext_get_or, get_or_append_left, get_or-append_right, get_or_push, get_or-take, length-take-le, take_all}
-use mathlib.Core.Option.{some}
-use lib.ListN.{get_elem?}
-use Rattle.atomic_table.specs.Table.{keeps, Allows}
-use Rattle.atomic_table.proofs.Lists.{at_longer, at_last}
-use Rattle.ring_layout.specs.Places.{index}
-use Rattle.ring_layout.specs.History.{overwritten, span}
+use Rattle.std.proofs.Common.{◌≡◌, ℕ, true, ◌+◌, ◌-◌, ◌*◌, ◌<◌, ◌≤◌, List, [], ◌∷◌, ◌++◌, length, take, get_or, refl, sym, ap, ◌∙◌, subst, ⊎_elim, inl, inr, ◌⊎◌, arith, length-append, append_assoc, w64, ext_get_or, get_or-take, length-take-le, take_all}
+use Rattle.std.{specs.Int.to_le_bytes, proofs.Math.Option.some, proofs.Math.ListN.get_elem?}
+use Rattle.std.proofs.lemmas.{Bool.cases_lt, List.get_or_append_left, List.get_or-append_right, List.get_or_push}
+use Rattle.atomic_table.{specs.Table.keeps, specs.Table.Allows, proofs.Lists.at_longer, proofs.Lists.at_last}
+use Rattle.ring_layout.specs.{Places.index, History.overwritten, History.span}
 use Rattle.ring_layout.proofs.WordBytes.{overwritten_before, overwritten_inside}
-use Rattle.ring_board.specs.declared.shared.view.Record.{Record}
-use Rattle.ring_board.specs.declared.shared.view.Taken.{Taken}
-use Rattle.ring_board.specs.declared.shared.view.View.{View}
-use Rattle.ring_board.specs.declared.shared.view.Load.{Load}
-use Rattle.ring_board.specs.declared.shared.view.Load.TheVariants.{Word, Intent}
-use Rattle.ring_board.specs.declared.shared.view.Stage.TheVariants.{Resting}
-use Rattle.ring_board.specs.declared.board.RawRecord.{RawRecord}
-use Rattle.ring_board.specs.Seats.{IsAnsweredRecord}
-use Rattle.ring_board.specs.Layout.{intent_index}
+use Rattle.ring_board.specs.declared.shared.view.{Record.Record, Taken.Taken, Stage.TheVariants.Resting}
+use Rattle.ring_board.specs.declared.shared.view.{View.View, Load.Load, Load.TheVariants.Word, Load.TheVariants.Intent}
+use Rattle.ring_board.specs.{declared.board.RawRecord.RawRecord, Rule.IsBoard, Rule.Holds, Rule.intent}
+use Rattle.ring_board.specs.{Seats.IsAnsweredRecord, Layout.intent_index}
 use Rattle.ring_board.specs.Records.{end, end_of, words_of_body, word_count, bytes_of, gap}
-use Rattle.ring_board.specs.Rule.{IsBoard, Holds, intent}
-use Rattle.ring_board.specs.Views.{Sat, logged}
+use Rattle.ring_board.specs.{Views.Sat, Views.logged, ReceiverSteps.LoadsUnread, ReceiverSteps.ChecksAnswered}
 use Rattle.ring_board.specs.Bodies.{WasLoaded, WereLoaded, IsLoaded, AreRight, IsRight, GaveBody, Validated}
-use Rattle.ring_board.specs.ReceiverSteps.{LoadsUnread, ChecksAnswered}
-use Rattle.ring_board.proofs.StoreLemmas.{append_nil, at_behind, words_long}
-use Rattle.ring_board.proofs.ByteLemmas.{body_back}
-use Rattle.ring_board.proofs.FoundLemmas.{bytes_of_snoc}
-use Rattle.ring_board.proofs.SeatLemmas.{St}
+use Rattle.ring_board.proofs.{StoreLemmas.append_nil, StoreLemmas.at_behind, StoreLemmas.words_long, SeatLemmas.St}
+use Rattle.ring_board.proofs.{ByteLemmas.body_back, FoundLemmas.bytes_of_snoc}
 use Rattle.ring_board.proofs.LookLemmas.{word_at, load_keeps, word_ok, tail_seen, entry, now}
 
 -- What the log says of a body ------------------------------------------------

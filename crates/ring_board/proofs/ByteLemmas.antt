@@ -1,17 +1,12 @@
 -- A message, and the words that hold it.
-use Rattle.std.proofs.Common.{◌≡◌, ℕ, zero, suc, ◌+◌, ◌-◌, ◌*◌, ◌/◌, ◌^◌, ◌<◌, ◌≤◌, List, [], ◌∷◌, ◌++◌, length, take, drop, get_or, refl, sym, ap, ◌∙◌, arith, ⊎_elim, ℤ, pos, negsuc, ◌≤ℤ◌, FitsSigned, replicate, length-append}
-use Rattle.std.specs.Int.{from_le_bytes, to_le_bytes, cast_unsigned, w32, w64}
-use Rattle.std.proofs.lemmas.Bool.{cases_lt}
-use Rattle.std.proofs.lemmas.Nat.{mod_low, shr_high, le_bytes_8}
-use Rattle.std.proofs.lemmas.List.{length-take-le, length-drop, take-append-le, take-append-drop, get_or-drop, get_or-take, get_or-replicate, length-replicate, get_or_append_left, get_or-append_right, get_or_past, drop-drop}
-use Rattle.std.proofs.lemmas.List.Elements.{All-get_or}
-use Rattle.std.proofs.Math.Seq.{take-append_seam, take-append-add}
-use Rattle.std.proofs.lemmas.Int.{ints}
-use Rattle.ring_layout.specs.declared.message.Message.{Message}
+use Rattle.std.proofs.Common.{◌≡◌, ℕ, zero, suc, ◌+◌, ◌-◌, ◌*◌, ◌/◌, ◌^◌, ◌<◌, ◌≤◌, List, [], ◌∷◌, ◌++◌, length, take, drop, get_or, refl, sym, ap, ◌∙◌, arith, ⊎_elim, ℤ, pos, negsuc, ◌≤ℤ◌, FitsSigned, replicate, length-append, w32, w64, length-take-le, length-drop, take-append-drop, get_or-drop, get_or-take, drop-drop}
+use Rattle.std.specs.Int.{from_le_bytes, to_le_bytes, cast_unsigned}
+use Rattle.std.proofs.lemmas.{Bool.cases_lt, Nat.mod_low, Nat.shr_high, Nat.le_bytes_8, List.Elements.All-get_or}
+use Rattle.std.proofs.lemmas.List.{take-append-le, get_or-replicate, length-replicate, get_or_append_left, get_or-append_right, get_or_past}
+use Rattle.std.proofs.{Math.Seq.take-append_seam, Math.Seq.take-append-add, lemmas.Int.ints}
+use Rattle.ring_layout.specs.{declared.message.Message.Message, Headers.padding_header, Headers.padding_type}
 use Rattle.ring_layout.specs.History.{IsMessage}
-use Rattle.ring_layout.specs.Headers.{padding_header, padding_type}
-use Rattle.ring_layout.proofs.HeaderLemmas.{type_of-header, fits_pos}
-use Rattle.ring_layout.proofs.WordBytes.{from_le_bytes-same}
+use Rattle.ring_layout.proofs.{HeaderLemmas.type_of-header, HeaderLemmas.fits_pos, WordBytes.from_le_bytes-same}
 use Rattle.ring_board.specs.Records.{first_words, words_of_body, word_count, bytes_of, announced, body_len, message_in, message_of, header_of}
 
 -- Words --------------------------------------------------------------------

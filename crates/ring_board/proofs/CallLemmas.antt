@@ -1,18 +1,12 @@
 -- What the calls put together.
-use Rattle.std.proofs.Common.{◌≡◌, ℕ, ◌+◌, ◌-◌, ◌/◌, ◌%◌, ◌<◌, ◌≤◌, ℤ, pos, ◌≤ℤ◌, FitsSigned, List, ◌++◌, length, get_or, refl, sym, ap, ◌∙◌, subst, append_assoc, arith}
-use Rattle.std.specs.Int.{w32}
+use Rattle.std.proofs.Common.{◌≡◌, ℕ, ◌+◌, ◌-◌, ◌/◌, ◌%◌, ◌<◌, ◌≤◌, ℤ, pos, ◌≤ℤ◌, FitsSigned, List, ◌++◌, length, get_or, refl, sym, ap, ◌∙◌, subst, append_assoc, arith, w32}
 use Rattle.std.proofs.lemmas.List.Elements.{All-from_get_or}
-use Rattle.ring_layout.specs.History.{IsMessage, span}
-use Rattle.ring_layout.specs.Places.{next_place}
+use Rattle.ring_layout.specs.{History.IsMessage, History.span, Places.next_place}
 use Rattle.ring_layout.proofs.PlaceLemmas.{next_aligned, span_bounds}
-use Rattle.ring_board.specs.declared.shared.view.Draft.{Draft}
-use Rattle.ring_board.specs.declared.shared.view.Record.{Record}
-use Rattle.ring_board.specs.declared.shared.view.Stage.{Stage}
-use Rattle.ring_board.specs.declared.shared.view.Stage.TheVariants.{Storing, Written}
-use Rattle.ring_board.specs.Records.{Lies}
-use Rattle.ring_board.specs.Views.{Sat, at_stage}
+use Rattle.ring_board.specs.{declared.shared.view.Draft.Draft, declared.shared.view.Record.Record, Records.Lies}
+use Rattle.ring_board.specs.declared.shared.view.Stage.{Stage, TheVariants.Storing, TheVariants.Written}
+use Rattle.ring_board.{specs.Views.Sat, specs.Views.at_stage, proofs.PlaceLemmas.lies_before}
 use Rattle.ring_board.specs.TransmitterSteps.{after_intent, sent_on, after_words, place_before}
-use Rattle.ring_board.proofs.PlaceLemmas.{lies_before}
 
 pub more_words : (st : Stage) (d : Draft) (a b : List ℕ) → st ≡ Storing d
     → after_words (after_words st a) b ≡ after_words st (a ++ b)

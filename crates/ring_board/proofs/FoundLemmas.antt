@@ -1,17 +1,10 @@
 -- What a receiver's steps put together.
-use Rattle.std.proofs.Common.{◌≡◌, ℕ, ℤ, ◌+◌, ◌*◌, ◌/◌, ◌%◌, ◌^◌, ◌<◌, ◌≤◌, arith, length, length-append, take, drop, cond, Bool, true, List, [], ◌∷◌, ◌++◌, refl, sym, ap, ◌∙◌, subst, inl, inr, ⊎_elim, append_assoc}
-use Rattle.std.proofs.lemmas.Bool.{lt-ltb}
-use mathlib.Core.Option.{some}
+use Rattle.std.proofs.Common.{◌≡◌, ℕ, ℤ, ◌+◌, ◌*◌, ◌/◌, ◌%◌, ◌^◌, ◌<◌, ◌≤◌, arith, length, length-append, take, drop, cond, Bool, true, List, [], ◌∷◌, ◌++◌, refl, sym, ap, ◌∙◌, subst, inl, inr, ⊎_elim, append_assoc, lt-ltb, w32, w64, length-take-le}
+use Rattle.std.{proofs.Math.Option.some, specs.Int.cast_signed, specs.Int.to_le_bytes, proofs.Math.Seq.take-append_seam}
 use Rattle.atomic_table.proofs.Lists.{at_longer}
-use Rattle.std.specs.Int.{cast_signed, w32, to_le_bytes, w64}
-use Rattle.std.proofs.lemmas.List.{length-take-le}
-use Rattle.std.proofs.Math.Seq.{take-append_seam}
-use Rattle.ring_layout.specs.History.{overwritten, span}
-use Rattle.ring_layout.specs.Places.{index, max_position}
-use Rattle.ring_board.specs.declared.shared.view.View.{View}
-use Rattle.ring_board.specs.declared.shared.view.Load.{Load}
-use Rattle.ring_board.specs.declared.shared.view.Load.TheVariants.{Word, Intent, Tail}
-use Rattle.ring_board.specs.declared.shared.view.Stage.{Stage}
+use Rattle.ring_layout.specs.{History.overwritten, History.span, Places.index, Places.max_position}
+use Rattle.ring_board.specs.declared.shared.view.{View.View, Stage.Stage}
+use Rattle.ring_board.specs.declared.shared.view.Load.{Load, TheVariants.Word, TheVariants.Intent, TheVariants.Tail}
 use Rattle.ring_board.specs.declared.shared.view.Stage.TheVariants.{Resting, Sure, Headed, Padded, Again, Reading, Behind}
 use Rattle.ring_board.specs.declared.receiver.found.Found.TheVariants.{Entry}
 use Rattle.ring_board.specs.Records.{announced, body_len, is_padding, bytes_of, message_of}

@@ -1,32 +1,22 @@
 -- What a receiver loads is right, or the intent has passed its place.
-use Rattle.std.proofs.Common.{◌≡◌, ◌≢◌, ℕ, zero, suc, ◌+◌, ◌-◌, ◌*◌, ◌<◌, ◌≤◌, ◌⊎◌, cond, ltb, Bool, List, [], ◌∷◌, ◌++◌, take, length, get_or, set, refl, sym, ap, ◌∙◌, subst, inl, inr, ⊎_elim, arith, length-append}
-use Rattle.std.proofs.lemmas.Bool.{cases_lt, cond_both, ltb-true, lt-ltb}
-use mathlib.Core.Option.{some, some-injective, some-ne-none}
-use lib.ListN.{get_elem?}
-use lib.Seq.{set-get_or}
+use Rattle.std.proofs.Common.{◌≡◌, ◌≢◌, ℕ, zero, suc, ◌+◌, ◌-◌, ◌*◌, ◌<◌, ◌≤◌, ◌⊎◌, cond, ltb, Bool, List, [], ◌∷◌, ◌++◌, take, length, get_or, set, refl, sym, ap, ◌∙◌, subst, inl, inr, ⊎_elim, arith, length-append, ltb-true, lt-ltb}
+use Rattle.std.proofs.lemmas.Bool.{cases_lt, cond_both}
+use Rattle.std.proofs.Math.{Option.some, Option.some-injective, Option.some-ne-none, ListN.get_elem?, Seq.set-get_or}
 use Rattle.atomic_table.specs.Table.{keeps, stepped}
 use Rattle.atomic_table.proofs.Lists.{at_longer, at_last, at_snoc, set_else}
-use Rattle.ring_layout.specs.Places.{index}
-use Rattle.ring_layout.specs.Headers.{padding_header}
-use Rattle.ring_board.specs.declared.shared.view.Record.{Record}
-use Rattle.ring_board.specs.declared.shared.view.Taken.{Taken}
-use Rattle.ring_board.specs.declared.shared.view.View.{View}
-use Rattle.ring_board.specs.declared.shared.view.Load.{Load}
+use Rattle.ring_layout.specs.{Places.index, Headers.padding_header}
+use Rattle.ring_board.specs.declared.shared.view.{Record.Record, Taken.Taken, View.View, Load.Load, Stage.Stage}
 use Rattle.ring_board.specs.declared.shared.view.Load.TheVariants.{Intent, Tail, Latest, Word}
-use Rattle.ring_board.specs.declared.shared.view.Stage.{Stage}
 use Rattle.ring_board.specs.declared.shared.view.Stage.TheVariants.{Resting, Sure, Padded, Reading}
 use Rattle.ring_board.specs.Records.{end, Follows, end_of, words_of_body, word_count, placed_words, header_of, announced, body_len, gap, filled, stores}
-use Rattle.ring_board.specs.Runs.{AreRuns}
+use Rattle.ring_board.specs.{Runs.AreRuns, Views.logged, Views.word_load, Views.last_tail, Views.view_shares}
 use Rattle.ring_board.specs.Rule.{LoadOk, IsSeat, Logged, intent, with_latest, Running, Before, IsHeader, Next, Knows, IsBoard, Holds}
-use Rattle.ring_board.specs.Views.{logged, word_load, last_tail, view_shares}
 use Rattle.ring_board.specs.ReceiverSteps.{tail_loaded, header_loaded}
-use Rattle.ring_board.proofs.PlaceLemmas.{lies_after, lies_needed, chain_at}
+use Rattle.ring_board.proofs.{PlaceLemmas.lies_after, PlaceLemmas.lies_needed, PlaceLemmas.chain_at, SeatLemmas.St}
 use Rattle.ring_board.proofs.StoreLemmas.{at_behind, placed_at, words_long}
 use Rattle.ring_board.proofs.ByteLemmas.{announced_header, announced_padding}
-use Rattle.ring_layout.proofs.Sums.{total-set}
-use Rattle.ring_board.proofs.SeatLemmas.{St}
+use Rattle.ring_layout.proofs.{Sums.total-set, ListLemmas.each_set}
 use Rattle.ring_board.proofs.ShownLemmas.{shown_at, shown_has, shown_end}
-use Rattle.ring_layout.proofs.ListLemmas.{each_set}
 
 take_next : (l : List ℕ) (k : ℕ) → k < length l → take (suc k) l ≡ take k l ++ get_or l k 0 ∷ []
 take_next [] k h = absurd (omega arith)

@@ -1,20 +1,12 @@
 -- A new broadcast buffer keeps the rule.
 use Rattle.std.proofs.Common.{◌≡◌, ◌≢◌, ℕ, ◌+◌, zero, suc, ◌/◌, ◌%◌, ◌^◌, ◌<◌, ◌≤◌, List, [], ◌∷◌, length, get_or, set, refl, sym, ap, ◌∙◌, subst, arith, replicate, length-set, get_or-set_other, get_or-set_same}
-use Rattle.std.proofs.lemmas.List.{length-replicate}
-use Rattle.std.proofs.lemmas.Nat.Gcd.{dvd_of_mod-eq-zero}
-use Rattle.std.proofs.Math.Nat.{mod-mod_of_dvd}
-use mathlib.Core.Option.{some, some-injective, some-ne-none}
-use lib.ListN.{get_elem?}
+use Rattle.std.proofs.{lemmas.List.length-replicate, lemmas.Nat.Gcd.dvd_of_mod-eq-zero, Math.ListN.get_elem?}
+use Rattle.std.proofs.Math.{Nat.mod-mod_of_dvd, Option.some, Option.some-injective, Option.some-ne-none}
 use Rattle.atomic_table.specs.Table.{opening}
-use Rattle.ring_layout.specs.Places.{max_position, IsBoardCapacity}
-use Rattle.ring_layout.proofs.CapacityLemmas.{capacity_blocks}
-use Rattle.ring_board.specs.declared.shared.view.Record.{Record}
-use Rattle.ring_board.specs.declared.shared.view.View.{View}
-use Rattle.ring_board.specs.declared.shared.view.Stage.{Stage}
-use Rattle.ring_board.specs.declared.shared.view.Stage.TheVariants.{Idle}
+use Rattle.ring_layout.{specs.Places.max_position, specs.Places.IsBoardCapacity, proofs.CapacityLemmas.capacity_blocks}
+use Rattle.ring_board.specs.declared.shared.view.{Record.Record, View.View, Stage.Stage, Stage.TheVariants.Idle}
 use Rattle.ring_board.specs.Layout.{intent_index, tail_index, latest_index, board_words, IsUnnamed}
-use Rattle.ring_board.specs.Runs.{AreRuns}
-use Rattle.ring_board.specs.Rule.{IsSeat, Logged, Holds, opening_view}
+use Rattle.ring_board.specs.{Runs.AreRuns, Rule.IsSeat, Rule.Logged, Rule.Holds, Rule.opening_view}
 
 pub capacity_whole : (C : ℕ) → IsBoardCapacity C → C % 64 ≡ 0
 capacity_whole C h = let low = h.least in let b =

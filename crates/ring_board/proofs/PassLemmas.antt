@@ -1,25 +1,16 @@
 -- A receiver comes, and goes.
 use Rattle.std.proofs.Common.{◌≡◌, ℕ, ◌-◌, ◌%◌, ◌<◌, ◌≤◌, List, [], ◌∷◌, length, get_or, set, refl, sym, ap, ◌∙◌, subst, inl, inr, ⊎_elim, arith, le_refl}
-use mathlib.Core.Option.{some, some-ne-none}
-use lib.ListN.{get_elem?}
-use lib.Seq.{set-get_or}
+use Rattle.std.proofs.Math.{Option.some, Option.some-ne-none, ListN.get_elem?, Seq.set-get_or}
 use Rattle.atomic_table.specs.Table.{keeps, stepped, Allows, Splits, Joins}
 use Rattle.atomic_table.proofs.Lists.{set_here, set_again, at_longer, at_snoc, set_else}
-use Rattle.ring_board.specs.declared.shared.view.Record.{Record}
-use Rattle.ring_board.specs.declared.shared.view.View.{View}
-use Rattle.ring_board.specs.declared.shared.view.Stage.{Stage}
-use Rattle.ring_board.specs.declared.shared.view.Stage.TheVariants.{Idle, Resting}
-use Rattle.ring_board.specs.Layout.{latest_index}
-use Rattle.ring_board.specs.Records.{Chain, last_of}
-use Rattle.ring_board.specs.Runs.{AreRuns}
+use Rattle.ring_board.specs.declared.shared.view.{Record.Record, View.View, Joined.Joined}
+use Rattle.ring_board.specs.declared.shared.view.Stage.{Stage, TheVariants.Idle, TheVariants.Resting}
+use Rattle.ring_board.specs.{Layout.latest_index, Records.Chain, Records.last_of, Runs.AreRuns, TransmitterSteps.Learns}
 use Rattle.ring_layout.proofs.Sums.{total-set, total-append, total-least}
 use Rattle.ring_board.specs.Rule.{IsSeat, intent, latest, with_latest, Before, Fresh, Receives, Knows, Holds}
-use Rattle.ring_board.specs.declared.shared.view.Joined.{Joined}
 use Rattle.ring_board.specs.Views.{Sat, as_joined, fewer, newcomer, joined, spent, view_shares}
-use Rattle.ring_board.specs.TransmitterSteps.{Learns}
 use Rattle.ring_board.proofs.PlaceLemmas.{chain_last, last_low}
-use Rattle.ring_board.proofs.OpeningLemmas.{no_copies, no_log}
-use Rattle.ring_board.proofs.SeatLemmas.{knows_moves, owner}
+use Rattle.ring_board.proofs.{OpeningLemmas.no_copies, OpeningLemmas.no_log, SeatLemmas.knows_moves, SeatLemmas.owner}
 use Rattle.ring_layout.proofs.ListLemmas.{at_below, each_set}
 
 -- the last of a list that is not empty

@@ -1,23 +1,15 @@
 -- The word at an index is that of the greatest position stored there.
 use Rattle.std.proofs.Common.{◌≡◌, ◌≢◌, ℕ, zero, suc, ◌+◌, ◌%◌, ◌<◌, ◌≤◌, ◌⊎◌, eqb, cond, Bool, List, [], ◌∷◌, ◌++◌, get_or, refl, sym, ap, ◌∙◌, subst, inl, inr, ⊎_elim, arith, eq-eqb, ne_eqb}
 use Rattle.std.proofs.lemmas.Bool.{cases_lt}
-use native.Mathlib.Decide.{ℕ_discrete}
-use mathlib.Core.Option.{some, some-injective, some-ne-none}
-use lib.ListN.{get_elem?}
+use Rattle.std.proofs.Math.{Decide.ℕ_discrete, Option.some, Option.some-injective, Option.some-ne-none, ListN.get_elem?}
 use Rattle.atomic_table.specs.Table.{Final, Seen}
 use Rattle.ring_layout.specs.Places.{index}
-use Rattle.ring_board.specs.declared.shared.view.Record.{Record}
-use Rattle.ring_board.specs.declared.shared.view.View.{View}
-use Rattle.ring_board.specs.declared.shared.view.Stage.{Stage}
-use Rattle.ring_board.specs.declared.shared.view.Stage.TheVariants.{Idle}
+use Rattle.ring_board.specs.declared.shared.view.{Record.Record, View.View, Stage.Stage, Stage.TheVariants.Idle}
 use Rattle.ring_board.specs.Layout.{intent_index, tail_index, latest_index, board_words}
 use Rattle.ring_board.specs.Records.{end, Chain, stores, stores_of, last_at, IsNewestAt, IsBoardWord}
-use Rattle.ring_board.specs.Rule.{Holds, intent, latest, so_far}
-use Rattle.ring_board.specs.Runs.{AreAllRuns}
-use Rattle.ring_board.specs.Closing.{IsClosed}
+use Rattle.ring_board.specs.{Rule.Holds, Rule.intent, Rule.latest, Rule.so_far, Runs.AreAllRuns, Closing.IsClosed}
 use Rattle.ring_board.proofs.PlaceLemmas.{board_lap, apart, lies_after, lies_near, lies_whole}
-use Rattle.ring_board.proofs.StoreLemmas.{stores_where, at_joined}
-use Rattle.ring_board.proofs.SeatLemmas.{owner}
+use Rattle.ring_board.proofs.{StoreLemmas.stores_where, StoreLemmas.at_joined, SeatLemmas.owner}
 
 -- of two stores with one index the later one has no lower position
 abbrev Rising : ℕ → List (ℕ × ℕ) → Type 0

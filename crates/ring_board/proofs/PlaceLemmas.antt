@@ -1,15 +1,11 @@
 -- Positions and their indices, and lists of records that are one after the other.
-use Rattle.std.proofs.Common.{◌≡◌, ◌≢◌, ℕ, zero, suc, ◌+◌, ◌-◌, ◌/◌, ◌%◌, ◌<◌, ◌≤◌, ◌⊎◌, List, [], ◌∷◌, ◌++◌, length, refl, sym, ap, ◌∙◌, subst, inl, inr, ⊎_elim, arith}
-use Rattle.std.proofs.lemmas.Bool.{cases_lt, le-leb, lt-leb, cond-true, cond-false}
-use Rattle.std.proofs.lemmas.Nat.{mod_below}
-use mathlib.Core.Option.{some, some-injective, some-ne-none}
-use lib.ListN.{get_elem?}
-use Rattle.ring_layout.specs.Places.{index, room}
-use Rattle.ring_layout.proofs.Laps.{IsLap, same_index}
+use Rattle.std.proofs.Common.{◌≡◌, ◌≢◌, ℕ, zero, suc, ◌+◌, ◌-◌, ◌/◌, ◌%◌, ◌<◌, ◌≤◌, ◌⊎◌, List, [], ◌∷◌, ◌++◌, length, refl, sym, ap, ◌∙◌, subst, inl, inr, ⊎_elim, arith, le-leb}
+use Rattle.std.proofs.lemmas.{Bool.cases_lt, Bool.lt-leb, Bool.cond-true, Bool.cond-false, Nat.mod_below}
+use Rattle.std.proofs.Math.{Option.some, Option.some-injective, Option.some-ne-none, ListN.get_elem?}
+use Rattle.ring_layout.{specs.Places.index, specs.Places.room, proofs.Laps.IsLap, proofs.Laps.same_index}
 use Rattle.ring_layout.proofs.PlaceLemmas.{next_cases, next_le, next_within, next_aligned}
-use Rattle.ring_board.specs.declared.shared.view.Record.{Record}
+use Rattle.ring_board.specs.{declared.shared.view.Record.Record, TransmitterSteps.place_before}
 use Rattle.ring_board.specs.Records.{end, Lies, Follows, Chain, end_of, last_of}
-use Rattle.ring_board.specs.TransmitterSteps.{place_before}
 
 -- the capacity of a broadcast buffer is a lap of whole words
 pub board_lap : (C : ℕ) → 256 ≤ C → C % 64 ≡ 0 → IsLap C

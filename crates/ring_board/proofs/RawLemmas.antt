@@ -2,12 +2,8 @@
 use Rattle.std.proofs.Common.{◌≡◌, ℕ, List, ◌++◌, length, sym, ap, ◌∙◌, subst, refl}
 use lib.ListN.{get_elem?}
 use Rattle.atomic_table.proofs.Lists.{at_longer, at_last}
-use Rattle.ring_board.specs.declared.shared.view.View.{View}
-use Rattle.ring_board.specs.declared.shared.view.Taken.{Taken}
-use Rattle.ring_board.specs.declared.board.RawRecord.{RawRecord}
-use Rattle.ring_board.specs.Receiving.{GotRecord, IsInBuffer}
-use Rattle.ring_board.specs.Seats.{IsAnsweredRecord}
-use Rattle.ring_board.specs.Views.{Sat}
+use Rattle.ring_board.specs.declared.{shared.view.View.View, shared.view.Taken.Taken, board.RawRecord.RawRecord}
+use Rattle.ring_board.specs.{Receiving.GotRecord, Receiving.IsInBuffer, Seats.IsAnsweredRecord, Views.Sat}
 
 -- What was returned ----------------------------------------------------------
 

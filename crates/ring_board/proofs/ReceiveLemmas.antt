@@ -1,19 +1,15 @@
 -- Each step of a receiver keeps the rule.
 use Rattle.std.proofs.Common.{◌≡◌, ℕ, ◌+◌, ◌*◌, ◌<◌, List, [], ◌∷◌, ◌++◌, length, get_or, refl, sym, ap, ◌∙◌, subst, ⊎_elim, arith}
-use mathlib.Core.Option.{some}
-use lib.ListN.{get_elem?}
+use Rattle.std.proofs.Math.{Option.some, ListN.get_elem?}
 use Rattle.atomic_table.specs.Table.{keeps, stepped, Allows}
 use Rattle.ring_layout.specs.Places.{index}
-use Rattle.ring_board.specs.declared.shared.view.View.{View}
-use Rattle.ring_board.specs.declared.shared.view.Stage.{Stage}
+use Rattle.ring_board.specs.declared.shared.view.{View.View, Stage.Stage}
 use Rattle.ring_board.specs.declared.shared.view.Stage.TheVariants.{Resting, Sure, Headed, Padded, Again, Reading, Behind}
-use Rattle.ring_board.specs.Layout.{intent_index, tail_index, latest_index}
+use Rattle.ring_board.specs.{Layout.intent_index, Layout.tail_index, Layout.latest_index, Views.Sat, Views.word_load}
 use Rattle.ring_board.specs.Records.{end_of, word_count, announced, body_len}
 use Rattle.ring_board.specs.Rule.{intent, Knows, Holds}
-use Rattle.ring_board.specs.Views.{Sat, word_load}
 use Rattle.ring_board.specs.ReceiverSteps.{tail_loaded, LoadsTail, header_loaded, LoadsHeader, read_on, word_loaded, LoadsWord, IsSound, IsHeaderPlace, IsComplete, validated, IsUnread, LoadsIntent, header_seen, answered, AnswersEntry, latest_loaded, LoadsLatest}
-use Rattle.ring_board.proofs.SeatLemmas.{St}
-use Rattle.ring_board.proofs.ShownLemmas.{intent_after}
+use Rattle.ring_board.proofs.{SeatLemmas.St, ShownLemmas.intent_after}
 use Rattle.ring_board.proofs.LookLemmas.{knows, tail_keeps, header_keeps, header_behind_keeps, word_keeps}
 use Rattle.ring_board.proofs.ValidateLemmas.{header_intent_keeps, behind_intent_keeps, entry_keeps, copy_intent_keeps, sound_now, latest_keeps}
 

@@ -1,26 +1,18 @@
 -- What stays for the other seats, when one of them steps.
 use Rattle.std.proofs.Common.{◌≡◌, ℕ, suc, ◌%◌, ◌≤◌, List, [], ◌∷◌, ◌++◌, length, set, refl, sym, ap, ◌∙◌, subst, inl, inr, ⊎_elim, arith}
-use mathlib.Core.Option.{some, some-injective}
-use lib.ListN.{get_elem?}
+use Rattle.std.proofs.Math.{Option.some, Option.some-injective, ListN.get_elem?}
 use Rattle.atomic_table.specs.Table.{State}
 use Rattle.atomic_table.proofs.Lists.{set_here, at_longer, at_last, at_snoc}
 use Rattle.ring_layout.specs.Places.{room}
-use Rattle.ring_board.specs.declared.shared.view.Record.{Record}
-use Rattle.ring_board.specs.declared.shared.view.Taken.{Taken}
-use Rattle.ring_board.specs.declared.shared.view.View.{View}
-use Rattle.ring_board.specs.declared.shared.view.Load.{Load}
+use Rattle.ring_board.specs.declared.shared.view.{Record.Record, Taken.Taken, View.View, Load.Load, Stage.Stage}
 use Rattle.ring_board.specs.declared.shared.view.Load.TheVariants.{Word, Intent, Tail, Latest}
-use Rattle.ring_board.specs.declared.shared.view.Stage.{Stage}
 use Rattle.ring_board.specs.declared.shared.view.Stage.TheVariants.{Spent, Idle, Begun, Storing, Written, Shown, Resting, Sure, Headed, Padded, Again, Reading, Behind}
-use Rattle.ring_layout.proofs.Sums.{total-set}
-use Rattle.ring_board.specs.Records.{end, Follows, end_of, stores}
-use Rattle.ring_board.specs.Runs.{Neighbours, AreAllRuns, AreRuns}
+use Rattle.ring_layout.proofs.{Sums.total-set, ListLemmas.at_below, ListLemmas.each_set}
+use Rattle.ring_board.specs.{Records.end, Records.Follows, Records.end_of, Records.stores, TransmitterSteps.sent_on}
+use Rattle.ring_board.specs.{Runs.Neighbours, Runs.AreAllRuns, Runs.AreRuns, Views.at_stage, Views.view_shares}
 use Rattle.ring_board.specs.Rule.{intent, latest, with_latest, Receives, IsSeat, Knows, LoadOk, Logged, IsMemory, IsBoard, Holds}
-use Rattle.ring_board.specs.Views.{at_stage, view_shares}
-use Rattle.ring_board.specs.TransmitterSteps.{sent_on}
 use Rattle.ring_board.proofs.PlaceLemmas.{end_snoc, last_snoc, lies_after, lies_cases, lies_whole}
 use Rattle.ring_board.proofs.StoreLemmas.{stores_where}
-use Rattle.ring_layout.proofs.ListLemmas.{at_below, each_set}
 
 -- Longer lists -------------------------------------------------------------
 

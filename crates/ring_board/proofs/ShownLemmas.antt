@@ -1,11 +1,8 @@
 -- What the running transmission says of the list that latest shows, by cases on how far it has come.
 use Rattle.std.proofs.Common.{◌≡◌, ℕ, suc, ◌+◌, ◌-◌, ◌/◌, ◌%◌, ◌<◌, ◌≤◌, ◌⊎◌, List, [], ◌∷◌, ◌++◌, length, refl, sym, ap, subst, inl, inr, ⊎_elim, arith}
-use Rattle.std.proofs.lemmas.Bool.{cases_lt}
-use mathlib.Core.Option.{some, some-ne-none}
-use lib.ListN.{get_elem?}
+use Rattle.std.proofs.{lemmas.Bool.cases_lt, Math.Option.some, Math.Option.some-ne-none, Math.ListN.get_elem?}
 use Rattle.atomic_table.proofs.Lists.{at_longer, at_last, at_snoc}
-use Rattle.ring_board.specs.declared.shared.view.Record.{Record}
-use Rattle.ring_board.specs.declared.shared.view.Stage.{Stage}
+use Rattle.ring_board.specs.declared.shared.view.{Record.Record, Stage.Stage}
 use Rattle.ring_board.specs.declared.shared.view.Stage.TheVariants.{Spent, Idle, Begun, Storing, Written, Shown, Resting, Sure, Headed, Padded, Again, Reading, Behind}
 use Rattle.ring_board.specs.Records.{end, Lies, Follows, Chain, end_of, last_of}
 use Rattle.ring_board.specs.Rule.{intent, latest, with_latest, Running}

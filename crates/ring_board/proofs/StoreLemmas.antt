@@ -1,16 +1,11 @@
 -- What a transmission stores, and where.
-use Rattle.std.proofs.Common.{◌≡◌, ℕ, zero, suc, ◌+◌, ◌-◌, ◌*◌, ◌/◌, ◌%◌, ◌<◌, ◌≤◌, ◌⊎◌, eqb, ltb, cond, Bool, List, [], ◌∷◌, ◌++◌, length, get_or, set, refl, sym, ap, ◌∙◌, inl, inr, ⊎_elim, arith, append_assoc, eq-eqb, ne_eqb, get_or-set_other, get_or-set_same}
-use Rattle.std.proofs.lemmas.Bool.{cond_both, ltb-true}
-use mathlib.Core.Logic.{dite}
-use native.Mathlib.Decide.{ℕ_discrete}
-use mathlib.Core.Option.{some, some-injective, some-ne-none}
-use lib.ListN.{get_elem?}
+use Rattle.std.proofs.Common.{◌≡◌, ℕ, zero, suc, ◌+◌, ◌-◌, ◌*◌, ◌/◌, ◌%◌, ◌<◌, ◌≤◌, ◌⊎◌, eqb, ltb, cond, Bool, List, [], ◌∷◌, ◌++◌, length, get_or, set, refl, sym, ap, ◌∙◌, inl, inr, ⊎_elim, arith, append_assoc, eq-eqb, ne_eqb, get_or-set_other, get_or-set_same, ltb-true}
+use Rattle.std.proofs.{lemmas.Bool.cond_both, Math.Logic.dite}
+use Rattle.std.proofs.Math.{Decide.ℕ_discrete, Option.some, Option.some-injective, Option.some-ne-none, ListN.get_elem?}
 use Rattle.atomic_table.proofs.Lists.{at_snoc}
-use Rattle.ring_layout.specs.Places.{index}
-use Rattle.ring_layout.specs.Headers.{padding_header}
-use Rattle.ring_board.specs.declared.shared.view.Record.{Record}
+use Rattle.ring_layout.specs.{Places.index, Headers.padding_header}
+use Rattle.ring_board.{specs.declared.shared.view.Record.Record, proofs.PlaceLemmas.index_below}
 use Rattle.ring_board.specs.Records.{end, placed_words, gap, filled, stores, stores_of, last_at, words_of_body, header_of}
-use Rattle.ring_board.proofs.PlaceLemmas.{index_below}
 
 pub append_nil : {A : Type 0} (l : List A) → l ++ [] ≡ l
 append_nil [] = refl

@@ -1,27 +1,17 @@
 -- What each store of the transmitter leaves of the rule.
-use Rattle.std.proofs.Common.{◌⊎◌, ◌≡◌, ◌≢◌, ℕ, ◌+◌, ◌-◌, ◌*◌, ◌/◌, ◌%◌, ◌^◌, ◌<◌, ◌≤◌, cond, ltb, Bool, List, [], ◌∷◌, ◌++◌, length, get_or, set, refl, sym, ap, ◌∙◌, subst, ⊎_elim, arith, length-set, length-append, get_or-set_other, get_or-set_same, append_assoc, inl, inr}
-use Rattle.std.proofs.lemmas.Bool.{cond_both, ltb-true, lt-ltb}
-use mathlib.Core.Option.{some, some-ne-none}
-use lib.ListN.{get_elem?}
-use Rattle.atomic_table.specs.Table.{keeps, stepped}
-use Rattle.atomic_table.proofs.Lists.{at_longer, at_snoc}
-use Rattle.ring_layout.specs.declared.message.Message.{Message}
-use Rattle.ring_layout.specs.History.{IsMessage, span}
-use Rattle.ring_layout.specs.Headers.{padding_header}
-use Rattle.ring_layout.specs.Places.{index, max_position}
-use Rattle.ring_board.specs.declared.shared.view.Record.{Record}
-use Rattle.ring_board.specs.declared.shared.view.Draft.{Draft}
-use Rattle.ring_board.specs.declared.shared.view.View.{View}
-use Rattle.ring_board.specs.declared.shared.view.Stage.{Stage}
+use Rattle.std.proofs.Common.{◌⊎◌, ◌≡◌, ◌≢◌, ℕ, ◌+◌, ◌-◌, ◌*◌, ◌/◌, ◌%◌, ◌^◌, ◌<◌, ◌≤◌, cond, ltb, Bool, List, [], ◌∷◌, ◌++◌, length, get_or, set, refl, sym, ap, ◌∙◌, subst, ⊎_elim, arith, length-set, length-append, get_or-set_other, get_or-set_same, append_assoc, inl, inr, ltb-true, lt-ltb}
+use Rattle.std.proofs.{lemmas.Bool.cond_both, Math.Option.some, Math.Option.some-ne-none, Math.ListN.get_elem?}
+use Rattle.atomic_table.{specs.Table.keeps, specs.Table.stepped, proofs.Lists.at_longer, proofs.Lists.at_snoc}
+use Rattle.ring_layout.specs.{declared.message.Message.Message, Places.index, Places.max_position}
+use Rattle.ring_layout.specs.{History.IsMessage, History.span, Headers.padding_header}
+use Rattle.ring_board.specs.declared.shared.view.{Record.Record, Draft.Draft, View.View, Stage.Stage}
 use Rattle.ring_board.specs.declared.shared.view.Stage.TheVariants.{Idle, Begun, Storing, Written, Shown}
 use Rattle.ring_board.specs.Records.{end, Lies, end_of, last_of, placed_words, gap, filled, stores, stores_of, last_at, words_of_body, header_of, message_in}
-use Rattle.ring_board.specs.Layout.{IsUnnamed}
+use Rattle.ring_board.{specs.Layout.IsUnnamed, specs.Views.at_stage, proofs.ByteLemmas.message_back}
 use Rattle.ring_board.specs.Rule.{LoadOk, intent, latest, with_latest, so_far, Stand, Running, Receives, Knows, IsBoard, Holds}
-use Rattle.ring_board.specs.Views.{at_stage}
 use Rattle.ring_board.specs.TransmitterSteps.{sent_on, place_before, draft, after_intent, with_words, with_entry}
 use Rattle.ring_board.proofs.PlaceLemmas.{board_lap, lies_after, lies_near, lies_whole, a_lap_on, apart, index_below, chain_at, chain_snoc, end_snoc, last_snoc, last_low}
 use Rattle.ring_board.proofs.StoreLemmas.{append_nil, stores_one, placed_snoc, stores_of_snoc, filled_where, stores_where}
-use Rattle.ring_board.proofs.ByteLemmas.{message_back}
 use Rattle.ring_board.proofs.SeatLemmas.{St, runs_more, receives_more, sent_more, loads_rise, loads_sent, knows_moves, staged_alike, sent_alike, rebuilt}
 
 -- one more store, apart from those

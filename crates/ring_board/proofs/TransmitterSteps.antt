@@ -1,20 +1,13 @@
 -- Each step of the transmitter keeps the rule.
 use Rattle.std.proofs.Common.{◌≡◌, ℕ, ◌+◌, ◌-◌, ◌*◌, ◌/◌, ◌<◌, ◌≤◌, [], ◌∷◌, length, refl, sym, ap, ◌∙◌, subst, arith}
 use Rattle.atomic_table.specs.Table.{keeps, Allows}
-use Rattle.ring_layout.specs.declared.message.Message.{Message}
-use Rattle.ring_layout.specs.History.{IsMessage, span}
-use Rattle.ring_layout.specs.Headers.{padding_header}
-use Rattle.ring_layout.specs.Places.{index, max_position}
-use Rattle.ring_board.specs.declared.shared.view.Record.{Record}
-use Rattle.ring_board.specs.declared.shared.view.Draft.{Draft}
-use Rattle.ring_board.specs.declared.shared.view.View.{View}
-use Rattle.ring_board.specs.declared.shared.view.Stage.{Stage}
+use Rattle.ring_layout.specs.{declared.message.Message.Message, Places.index, Places.max_position}
+use Rattle.ring_layout.specs.{History.IsMessage, History.span, Headers.padding_header}
+use Rattle.ring_board.specs.declared.shared.view.{Record.Record, Draft.Draft, View.View, Stage.Stage}
 use Rattle.ring_board.specs.declared.shared.view.Stage.TheVariants.{Idle, Begun, Storing, Written, Shown}
 use Rattle.ring_board.specs.Records.{end, Lies, end_of, filled, words_of_body, header_of}
-use Rattle.ring_board.specs.Rule.{Holds}
-use Rattle.ring_board.specs.Views.{Sat, at_stage}
+use Rattle.ring_board.{specs.Rule.Holds, specs.Views.Sat, specs.Views.at_stage, proofs.SeatLemmas.owner}
 use Rattle.ring_board.specs.TransmitterSteps.{sent_on, place_before, after_intent, with_words, after_padding, after_words, with_entry, after_header, after_latest, after_tail, StoresIntent, StoresPadding, StoresWord, StoresHeader, StoresLatest, StoresTail}
-use Rattle.ring_board.proofs.SeatLemmas.{owner}
 use Rattle.ring_board.proofs.TransmitLemmas.{moved, padding_stored, word_stored, header_stored, intent_stored, latest_stored, tail_stored, written_as}
 
 module _ (C e : ℕ) where

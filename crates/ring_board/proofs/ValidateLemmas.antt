@@ -1,33 +1,22 @@
 -- What a receiver knows once it has validated: a sound header, a whole copy, or that it was lapped.
-use Rattle.std.proofs.Common.{◌≡◌, ◌≢◌, ℕ, zero, suc, ◌+◌, ◌-◌, ◌/◌, ◌%◌, ◌^◌, ◌<◌, ◌≤◌, ◌⊎◌, cond, ltb, true, false, List, [], ◌∷◌, ◌++◌, take, length, get_or, refl, sym, ap, ◌∙◌, subst, inl, inr, ⊎_elim, arith, length-append}
-use Rattle.std.proofs.lemmas.Bool.{cond_both, ltb-true, ltb-false, eqb-true, eqb-false}
-use mathlib.Core.Option.{some, some-injective, some-ne-none}
-use lib.ListN.{get_elem?}
-use Rattle.atomic_table.specs.Table.{keeps, stepped}
-use Rattle.atomic_table.proofs.Lists.{at_last}
-use Rattle.ring_layout.specs.declared.message.Message.{Message}
-use Rattle.ring_layout.specs.Places.{max_position}
-use Rattle.ring_layout.specs.Headers.{padding_header}
-use Rattle.ring_layout.specs.History.{span}
-use Rattle.ring_board.specs.declared.shared.view.Record.{Record}
-use Rattle.ring_board.specs.declared.shared.view.Taken.{Taken}
-use Rattle.ring_board.specs.declared.shared.view.View.{View}
-use Rattle.ring_board.specs.declared.shared.view.Load.{Load}
-use Rattle.ring_board.specs.declared.shared.view.Load.TheVariants.{Intent, Latest}
-use Rattle.ring_board.specs.declared.shared.view.Stage.{Stage}
+use Rattle.std.proofs.Common.{◌≡◌, ◌≢◌, ℕ, zero, suc, ◌+◌, ◌-◌, ◌/◌, ◌%◌, ◌^◌, ◌<◌, ◌≤◌, ◌⊎◌, cond, ltb, true, false, List, [], ◌∷◌, ◌++◌, take, length, get_or, refl, sym, ap, ◌∙◌, subst, inl, inr, ⊎_elim, arith, length-append, ltb-true, ltb-false, eqb-true}
+use Rattle.std.proofs.lemmas.Bool.{cond_both, eqb-false}
+use Rattle.std.proofs.Math.{Option.some, Option.some-injective, Option.some-ne-none, ListN.get_elem?}
+use Rattle.atomic_table.{specs.Table.keeps, specs.Table.stepped, proofs.Lists.at_last}
+use Rattle.ring_layout.specs.{declared.message.Message.Message, Places.max_position, Headers.padding_header}
+use Rattle.ring_layout.{specs.History.span, proofs.ListLemmas.at_below}
+use Rattle.ring_board.specs.declared.shared.view.{Record.Record, Taken.Taken, View.View, Stage.Stage}
+use Rattle.ring_board.specs.declared.shared.view.Load.{Load, TheVariants.Intent, TheVariants.Latest}
 use Rattle.ring_board.specs.declared.shared.view.Stage.TheVariants.{Spent, Idle, Begun, Storing, Written, Shown, Resting, Sure, Headed, Padded, Again, Reading, Behind}
 use Rattle.ring_board.specs.Records.{end, words_of_body, word_count, header_of, announced, body_len, is_padding, message_in, message_of}
-use Rattle.ring_board.specs.Runs.{IsCopy, Neighbours, AreRuns}
+use Rattle.ring_board.specs.{Runs.IsCopy, Runs.Neighbours, Runs.AreRuns, Views.at_stage, Views.logged}
 use Rattle.ring_board.specs.Rule.{Logged, latest, Receives, IsHeader, Knows, IsBoard, Holds}
-use Rattle.ring_board.specs.Views.{at_stage, logged}
 use Rattle.ring_board.specs.ReceiverSteps.{copy_of, after_copy, passed, validated, IsSound, IsSoundAt, IsUnread, answered, latest_loaded}
 use Rattle.ring_board.proofs.PlaceLemmas.{lies_needed, lies_inside, lies_whole, chain_next, chain_last}
-use Rattle.ring_board.proofs.StoreLemmas.{words_long}
+use Rattle.ring_board.proofs.{StoreLemmas.words_long, SeatLemmas.St}
 use Rattle.ring_board.proofs.ByteLemmas.{announced_header, header_not_padding, padding_kind, message_whole, message_back}
-use Rattle.ring_board.proofs.SeatLemmas.{St}
 use Rattle.ring_board.proofs.ShownLemmas.{intent_after, shown_has, shown_chain, latest_shown}
 use Rattle.ring_board.proofs.LookLemmas.{other_seat, looked, log_more, knows, all, now, same_runs, entry, body_announced, padding_announced}
-use Rattle.ring_layout.proofs.ListLemmas.{at_below}
 
 -- Lists --------------------------------------------------------------------
 

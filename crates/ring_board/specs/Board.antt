@@ -1,15 +1,9 @@
 -- A broadcast buffer in a caller's words. These are the records that a transmitter transmitted, and those that a
 -- receiver copied.
 use Rattle.std.specs.Prelude.{◌≡◌, ◌<◌, ℕ, ℤ, suc, List, [], ◌∷◌, ◌++◌, length, Option, Result, MatchOption, MatchResult}
-use Rattle.ring_board.specs.declared.shared.view.Joined.{Joined}
-use Rattle.ring_board.specs.declared.shared.view.Record.{Record}
-use Rattle.ring_board.specs.declared.shared.view.Taken.{Taken}
-use Rattle.ring_board.specs.declared.fault.Lapped.{Lapped}
-use Rattle.ring_board.specs.declared.board.Transmitter.{Transmitter}
-use Rattle.ring_board.specs.declared.board.Receiver.{Receiver}
-use Rattle.ring_board.specs.declared.board.RawRecord.{RawRecord}
-use Rattle.ring_board.specs.declared.board.CopyReceiver.{CopyReceiver}
-use Rattle.ring_board.specs.declared.board.Copied.{Copied}
+use Rattle.ring_board.specs.declared.shared.view.{Joined.Joined, Record.Record, Taken.Taken}
+use Rattle.ring_board.specs.declared.{fault.Lapped.Lapped, board.Receiver.Receiver, board.Copied.Copied}
+use Rattle.ring_board.specs.declared.board.{Transmitter.Transmitter, RawRecord.RawRecord, CopyReceiver.CopyReceiver}
 use Rattle.ring_board.specs.Records.{last_of}
 
 -- the records that were transmitted, the oldest first, each with its place and its message

@@ -3,13 +3,9 @@ use Rattle.std.specs.Prelude.{◌≡◌, ℕ, Bool, ◌+◌, ◌*◌, ◌<◌, n
 use mathlib.Core.Option.{some}
 use lib.ListN.{get_elem?}
 use Rattle.ring_layout.specs.Places.{index}
-use Rattle.ring_board.specs.declared.shared.view.Taken.{Taken}
-use Rattle.ring_board.specs.declared.shared.view.View.{View}
-use Rattle.ring_board.specs.declared.shared.view.Load.{Load}
-use Rattle.ring_board.specs.declared.shared.view.Load.TheVariants.{Word, Intent}
-use Rattle.ring_board.specs.declared.board.RawRecord.{RawRecord}
-use Rattle.ring_board.specs.Records.{word_count, bytes_of}
-use Rattle.ring_board.specs.Views.{Sat, logged}
+use Rattle.ring_board.specs.declared.{shared.view.Taken.Taken, board.RawRecord.RawRecord}
+use Rattle.ring_board.specs.declared.shared.view.{View.View, Load.Load, Load.TheVariants.Word, Load.TheVariants.Intent}
+use Rattle.ring_board.specs.{Records.word_count, Records.bytes_of, Views.Sat, Views.logged}
 
 -- the word w was loaded at the position p, when the tail was beyond it
 abbrev pub WasLoaded : ℕ → List Load → ℕ → ℕ → Type 0

@@ -1,11 +1,8 @@
 -- A closed broadcast buffer.
 use Rattle.std.specs.Prelude.{◌≡◌, ℕ, ◌-◌, ◌/◌, ◌<◌, ◌==◌, List, slice_index, Option, Some, None, if◌then◌else◌}
 use Rattle.ring_board.specs.declared.shared.view.Record.{Record}
-use Rattle.ring_board.specs.declared.fault.ReceiversOut.{ReceiversOut}
-use Rattle.ring_board.specs.declared.board.Board.{Board}
-use Rattle.ring_board.specs.declared.board.Transmitter.{Transmitter}
-use Rattle.ring_board.specs.declared.board.ClosedBoard.{ClosedBoard}
-use Rattle.ring_board.specs.declared.board.BoardCloseRefused.{BoardCloseRefused}
+use Rattle.ring_board.specs.declared.{fault.ReceiversOut.ReceiversOut, board.Transmitter.Transmitter}
+use Rattle.ring_board.specs.declared.board.{Board.Board, ClosedBoard.ClosedBoard, BoardCloseRefused.BoardCloseRefused}
 use Rattle.ring_layout.specs.Refusals.{all_shares}
 use Rattle.ring_board.specs.Layout.{intent_index, tail_index, latest_index, IsUnnamed}
 use Rattle.ring_board.specs.Records.{Chain, end_of, last_of, stores_of, IsBoardWord}

@@ -2,17 +2,12 @@
 use Rattle.std.specs.Prelude.{◌≡◌, ℕ, ◌+◌, ◌/◌, ◌%◌, ◌<◌, ◌≤◌, suc, if◌then◌else◌, nat_lt, List, [], ◌∷◌, ◌++◌, length, true, false, ◌⊎◌}
 use mathlib.Core.Option.{some}
 use lib.ListN.{get_elem?}
-use Rattle.ring_layout.specs.declared.message.Message.{Message}
-use Rattle.ring_layout.specs.History.{span}
-use Rattle.ring_layout.specs.Places.{max_position}
+use Rattle.ring_layout.specs.{declared.message.Message.Message, History.span, Places.max_position}
 use Rattle.ring_board.specs.declared.shared.view.Load.TheVariants.{Word, Intent, Tail, Latest}
 use Rattle.ring_board.specs.declared.shared.view.Stage.TheVariants.{Resting, Sure, Headed, Padded, Again, Reading, Behind}
-use Rattle.ring_board.specs.declared.shared.view.Taken.{Taken}
-use Rattle.ring_board.specs.declared.shared.view.View.{View}
-use Rattle.ring_board.specs.declared.shared.view.Stage.{Stage}
+use Rattle.ring_board.specs.declared.shared.view.{Taken.Taken, View.View, Stage.Stage}
 use Rattle.ring_board.specs.Records.{word_count, announced, body_len, is_padding, message_in, message_of}
-use Rattle.ring_board.specs.Views.{Sat, at_stage, logged, last_tail, word_load}
-use Rattle.ring_board.specs.Bodies.{AreRight}
+use Rattle.ring_board.specs.{Views.Sat, Views.at_stage, Views.logged, Views.last_tail, Views.word_load, Bodies.AreRight}
 
 abbrev pub tail_loaded : View → ℕ → View
 tail_loaded v x = record v { stage = if nat_lt v.at x then Sure else Resting; log = v.log ++ Tail x ∷ [] }

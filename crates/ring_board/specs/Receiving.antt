@@ -2,19 +2,13 @@
 use Rattle.std.specs.Prelude.{◌≡◌, ℕ, ◌+◌, ◌*◌, ◌%◌, ◌<◌, ◌≤◌, suc, ℤ, true, List, [], ◌∷◌, ◌++◌, length, take, ◌⊎◌}
 use mathlib.Core.Option.{some}
 use lib.ListN.{get_elem?}
-use Rattle.ring_layout.specs.History.{span}
-use Rattle.ring_layout.specs.Places.{index, max_position}
-use Rattle.ring_board.specs.declared.fault.Lapped.{Lapped}
-use Rattle.ring_board.specs.declared.shared.view.View.{View}
-use Rattle.ring_board.specs.declared.shared.view.Load.{Load}
+use Rattle.ring_layout.specs.{History.span, Places.index, Places.max_position}
+use Rattle.ring_board.specs.declared.{fault.Lapped.Lapped, board.RawRecord.RawRecord, receiver.found.Found.Found}
+use Rattle.ring_board.specs.declared.shared.view.{View.View, Load.Load, Stage.Stage}
 use Rattle.ring_board.specs.declared.shared.view.Load.TheVariants.{Word, Intent, Tail, Latest}
-use Rattle.ring_board.specs.declared.shared.view.Stage.{Stage}
 use Rattle.ring_board.specs.declared.shared.view.Stage.TheVariants.{Resting, Reading, Behind}
-use Rattle.ring_board.specs.declared.board.RawRecord.{RawRecord}
-use Rattle.ring_board.specs.declared.receiver.found.Found.{Found}
 use Rattle.ring_board.specs.declared.receiver.found.Found.TheVariants.{Nothing, Entry, Missed}
-use Rattle.ring_board.specs.Records.{announced, is_padding, bytes_of, message_of}
-use Rattle.ring_board.specs.Views.{Sat}
+use Rattle.ring_board.specs.{Records.announced, Records.is_padding, Records.bytes_of, Records.message_of, Views.Sat}
 use Rattle.ring_board.specs.ReceiverSteps.{after_copy, IsSound, IsUnread}
 
 -- a receiver of a broadcast buffer of capacity C rests at this place

@@ -4,10 +4,8 @@ use Rattle.std.specs.Prelude.{◌≡◌, ◌≢◌, ℕ, Bool, zero, suc, ◌+�
 use Rattle.std.specs.Int.{from_le_bytes, to_le_bytes, cast_signed, w32, w64}
 use mathlib.Core.Option.{some}
 use lib.ListN.{get_elem?}
-use Rattle.ring_layout.specs.declared.message.Message.{Message}
-use Rattle.ring_layout.specs.History.{IsMessage, span}
-use Rattle.ring_layout.specs.Places.{index, next_place}
-use Rattle.ring_layout.specs.Headers.{header, padding_header}
+use Rattle.ring_layout.specs.{declared.message.Message.Message, Headers.header, Headers.padding_header}
+use Rattle.ring_layout.specs.{History.IsMessage, History.span, Places.index, Places.next_place}
 use Rattle.ring_board.specs.declared.shared.view.Record.{Record}
 
 -- the end of a record

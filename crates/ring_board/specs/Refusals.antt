@@ -2,9 +2,8 @@
 use Rattle.std.specs.Prelude.{ℕ, ℤ, pos, Option, Some, None, Result, if◌then◌else◌, nat_lt}
 use Rattle.ring_layout.specs.Refusals.{place_refusal_or, IsRefusedOr}
 pub use Rattle.ring_layout.specs.Refusals.{IsRefusedAs, IsRefusedBy}
-use Rattle.ring_board.specs.declared.fault.TransmitFault.{TransmitFault}
+use Rattle.ring_board.specs.declared.fault.{TransmitFault.TransmitFault, SubscribeFault.SubscribeFault}
 use Rattle.ring_board.specs.declared.fault.TransmitFault.TheVariants.{BadType, TooLong, PositionLimit}
-use Rattle.ring_board.specs.declared.fault.SubscribeFault.{SubscribeFault}
 use Rattle.ring_board.specs.declared.fault.SubscribeFault.TheVariants as subscribe_fault
 
 -- the reason why a message of this type id and length is not transmitted at this tail, in the order of the tests

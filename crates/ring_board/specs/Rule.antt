@@ -3,21 +3,14 @@ use Rattle.std.specs.Prelude.{◌≡◌, ℕ, ◌+◌, ◌-◌, ◌*◌, ◌/◌
 use mathlib.Core.Option.{some}
 use lib.ListN.{get_elem?}
 use Rattle.atomic_table.specs.Table.{State}
-use Rattle.ring_layout.specs.Places.{index, max_position}
-use Rattle.ring_layout.specs.Headers.{padding_header}
+use Rattle.ring_layout.specs.{Places.index, Places.max_position, Headers.padding_header, Refusals.all_shares}
 use Rattle.ring_layout.specs.Lists.{total}
-use Rattle.ring_layout.specs.Refusals.{all_shares}
 use Rattle.ring_board.specs.Layout.{intent_index, tail_index, latest_index, board_words, IsUnnamed}
-use Rattle.ring_board.specs.declared.shared.view.Record.{Record}
-use Rattle.ring_board.specs.declared.shared.view.Taken.{Taken}
-use Rattle.ring_board.specs.declared.shared.view.View.{View}
-use Rattle.ring_board.specs.declared.shared.view.Load.{Load}
+use Rattle.ring_board.specs.declared.shared.view.{Record.Record, Taken.Taken, View.View, Load.Load, Stage.Stage}
 use Rattle.ring_board.specs.declared.shared.view.Load.TheVariants.{Word, Intent, Tail, Latest}
-use Rattle.ring_board.specs.declared.shared.view.Stage.{Stage}
 use Rattle.ring_board.specs.declared.shared.view.Stage.TheVariants.{Spent, Idle, Begun, Storing, Written, Shown, Resting, Sure, Headed, Padded, Again, Reading, Behind}
 use Rattle.ring_board.specs.Records.{end, Lies, Follows, Chain, end_of, last_of, words_of_body, header_of, filled, stores, stores_of, last_at}
-use Rattle.ring_board.specs.Views.{view_shares}
-use Rattle.ring_board.specs.Runs.{IsCopy, AreAllRuns, AreRuns}
+use Rattle.ring_board.specs.{Views.view_shares, Runs.IsCopy, Runs.AreAllRuns, Runs.AreRuns}
 
 -- The transmitter ----------------------------------------------------------
 

@@ -2,9 +2,7 @@
 use Rattle.std.specs.Prelude.{◌≡◌, ℕ, suc, ◌<◌, ◌≤◌, List}
 use mathlib.Core.Option.{some}
 use lib.ListN.{get_elem?}
-use Rattle.ring_board.specs.declared.shared.view.Record.{Record}
-use Rattle.ring_board.specs.declared.shared.view.Taken.{Taken}
-use Rattle.ring_board.specs.declared.shared.view.Joined.{Joined}
+use Rattle.ring_board.specs.declared.shared.view.{Record.Record, Taken.Taken, Joined.Joined}
 
 -- a copy of this record
 pub record IsCopy (r : Record) (c : Taken) : Type 0 where

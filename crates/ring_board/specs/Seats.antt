@@ -3,25 +3,14 @@ use Rattle.std.specs.Prelude.{◌≡◌, ℕ, ℤ, List, [], length, Option, Res
 use mathlib.Core.Option.{some}
 use lib.ListN.{get_elem?}
 use Rattle.atomic_table.specs.declared.shared.Seat.{Seat}
-use Rattle.ring_layout.specs.History.{span}
-use Rattle.ring_layout.specs.Places.{next_place, end_after}
-use Rattle.ring_board.specs.declared.shared.view.Record.{Record}
-use Rattle.ring_board.specs.declared.shared.view.View.{View}
-use Rattle.ring_board.specs.declared.fault.TransmitFault.{TransmitFault}
-use Rattle.ring_board.specs.declared.board.Board.{Board}
-use Rattle.ring_board.specs.declared.board.Transmitter.{Transmitter}
-use Rattle.ring_board.specs.declared.board.Begun.{Begun}
-use Rattle.ring_board.specs.declared.board.Filled.{Filled}
-use Rattle.ring_board.specs.declared.board.BeginRefused.{BeginRefused}
-use Rattle.ring_board.specs.declared.board.CopyReceiver.{CopyReceiver}
-use Rattle.ring_board.specs.declared.board.Receiver.{Receiver}
-use Rattle.ring_board.specs.declared.board.RawRecord.{RawRecord}
-use Rattle.ring_board.specs.declared.board.Copied.{Copied}
-use Rattle.ring_board.specs.declared.shared.view.Taken.{Taken}
-use Rattle.ring_board.specs.declared.fault.Lapped.{Lapped}
+use Rattle.ring_layout.specs.{History.span, Places.next_place, Places.end_after}
+use Rattle.ring_board.specs.declared.shared.view.{Record.Record, View.View, Taken.Taken}
+use Rattle.ring_board.specs.declared.fault.{TransmitFault.TransmitFault, Lapped.Lapped}
+use Rattle.ring_board.specs.{declared.board.Board.Board, declared.board.Begun.Begun, Views.Sat, Views.at_stage}
+use Rattle.ring_board.specs.declared.board.{Transmitter.Transmitter, Filled.Filled, Receiver.Receiver, Copied.Copied}
+use Rattle.ring_board.specs.declared.board.{BeginRefused.BeginRefused, CopyReceiver.CopyReceiver, RawRecord.RawRecord}
 use Rattle.ring_board.specs.Rule.{opening_view}
 use Rattle.ring_board.specs.Receiving.{GotNothing, GotCopy, GotLapped, GotRecord, IsInBuffer}
-use Rattle.ring_board.specs.Views.{Sat, at_stage}
 use Rattle.ring_board.specs.TransmitterSteps.{draft, drafted, record_at}
 
 -- the seat is one of this broadcast buffer

@@ -1,15 +1,9 @@
 -- The views that each step of the transmitter shows its seat.
 use Rattle.std.specs.Prelude.{◌≡◌, ℕ, ◌+◌, ◌≤◌, if◌then◌else◌, nat_lt, nat_le, List, [], ◌∷◌, ◌++◌, pos}
-use Rattle.ring_layout.specs.Places.{room, max_position}
-use Rattle.ring_layout.specs.Refusals.{all_shares}
+use Rattle.ring_layout.specs.{Places.room, Places.max_position, Refusals.all_shares}
 use Rattle.ring_board.specs.declared.shared.view.Stage.TheVariants.{Idle, Begun, Storing, Written, Shown}
-use Rattle.ring_board.specs.declared.shared.view.Record.{Record}
-use Rattle.ring_board.specs.declared.shared.view.Draft.{Draft}
-use Rattle.ring_board.specs.declared.shared.view.View.{View}
-use Rattle.ring_board.specs.declared.shared.view.Stage.{Stage}
-use Rattle.ring_board.specs.Records.{end, last_of, message_in}
-use Rattle.ring_board.specs.Runs.{AreRuns}
-use Rattle.ring_board.specs.Views.{Sat, at_stage}
+use Rattle.ring_board.specs.declared.shared.view.{Record.Record, Draft.Draft, View.View, Stage.Stage}
+use Rattle.ring_board.specs.{Records.end, Records.last_of, Records.message_in, Runs.AreRuns, Views.Sat, Views.at_stage}
 
 -- the place of the record that comes next after e and ends at z
 abbrev pub place_before : ℕ → ℕ → ℕ → ℕ

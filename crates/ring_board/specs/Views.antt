@@ -2,11 +2,8 @@
 use Rattle.std.specs.Prelude.{ℕ, ◌+◌, ◌-◌, List, [], ◌∷◌, ◌++◌, length}
 use Rattle.atomic_table.specs.Table.{Me}
 use Rattle.ring_board.specs.declared.shared.view.Load.TheVariants.{Word, Intent, Tail, Latest}
-use Rattle.ring_board.specs.declared.shared.view.Stage.TheVariants.{Spent, Resting}
-use Rattle.ring_board.specs.declared.shared.view.Joined.{Joined}
-use Rattle.ring_board.specs.declared.shared.view.View.{View}
-use Rattle.ring_board.specs.declared.shared.view.Load.{Load}
-use Rattle.ring_board.specs.declared.shared.view.Stage.{Stage}
+use Rattle.ring_board.specs.declared.shared.view.Stage.{TheVariants.Spent, TheVariants.Resting, Stage}
+use Rattle.ring_board.specs.declared.shared.view.{Joined.Joined, View.View, Load.Load}
 use Rattle.ring_board.specs.Records.{last_of}
 
 -- a seat's view and its slots (a broadcast buffer has no slots)

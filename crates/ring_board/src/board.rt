@@ -1,9 +1,7 @@
 //! A broadcast buffer, its transmitter and its receivers.
 ghost use Rattle.std.specs.Prelude.{◌≡◌, ◌+◌, ◌/◌, ◌%◌, ◌^◌, ◌<◌, ◌≤◌, pos, ◌≤ℤ◌, [], vec_len, IsTrue};
 ghost use Rattle.std.specs.Int.{is_power_of_two};
-ghost use Rattle.ring_layout.specs.History.{span};
-ghost use Rattle.ring_layout.specs.Places.{max_position, next_place};
-ghost use Rattle.ring_layout.specs.Refusals.{all_shares};
+ghost use Rattle.ring_layout.specs.{History.span, Places.max_position, Places.next_place, Refusals.all_shares};
 ghost use Rattle.ring_board.specs.declared.shared.view.Stage.TheVariants.{Idle, Written, Resting};
 ghost use Rattle.ring_board.specs.Records.{end, end_of};
 ghost use Rattle.ring_board.specs.TransmitterSteps.{draft, drafted, record_at};

@@ -1,10 +1,7 @@
 //! Laws of what stays true while the transmitter or a receiver goes on.
 ghost use Rattle.std.specs.Prelude.{ℕ, List, ◌++◌};
-ghost use Rattle.ring_board.specs.declared.shared.view.Load.{Load};
-ghost use Rattle.ring_board.specs.Bodies.{IsLoaded};
-ghost use Rattle.ring_board.specs.declared.shared.view.Record.{Record};
-ghost use Rattle.ring_board.specs.declared.shared.view.Taken.{Taken};
-ghost use Rattle.ring_board.specs.Runs.{AreRuns};
+ghost use Rattle.ring_board.specs.declared.shared.view.{Load.Load, Record.Record, Taken.Taken};
+ghost use Rattle.ring_board.specs.{Bodies.IsLoaded, Runs.AreRuns};
 
 /// States that runs of a transmitted list are also runs of every longer list that begins with this list. The function
 /// computes nothing.

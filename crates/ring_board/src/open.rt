@@ -3,8 +3,7 @@ ghost use Rattle.std.specs.Prelude.{◌≡◌, ℕ, ◌+◌, ◌/◌, ◌%◌, �
 ghost use Rattle.std.specs.Slots.{slots_items, slots_len, IsFull};
 ghost use Rattle.ring_layout.specs.Places.{is_board_capacity, max_position, IsBoardCapacity};
 ghost use Rattle.ring_layout.specs.Refusals.{make_refusal_of, IsMadeUnless, IsRefusedAs};
-ghost use Rattle.ring_board.specs.Layout.{intent_index, tail_index, latest_index};
-ghost use Rattle.ring_board.specs.Runs.{AreAllRuns};
+ghost use Rattle.ring_board.specs.{Layout.intent_index, Layout.tail_index, Layout.latest_index, Runs.AreAllRuns};
 ghost use Rattle.ring_board.specs.Board.{heard_by, transmitted};
 ghost use Rattle.ring_board.specs.Seats.{capacity_of, start_of, IsNewAt, shares_of, IsTransmitterOf};
 ghost use Rattle.ring_board.specs.Closing.{IsClosed, closed_words, closed_capacity, close_refusal_of, kept_open};

@@ -2,21 +2,16 @@
 //! learns of a receiver.
 ghost use Rattle.std.specs.Prelude.{◌≡◌, ℕ, ◌+◌, ◌-◌, ◌*◌, ◌/◌, ◌%◌, ◌^◌, ◌<◌, ◌≤◌, pos, ◌≤ℤ◌, [], ◌∷◌, ◌++◌, length};
 ghost use Rattle.std.specs.Prelude.{IfOk, OnOk, OnErr};
-ghost use Rattle.ring_layout.specs.declared.message.Message.{Message};
+ghost use Rattle.ring_layout.specs.{declared.message.Message.Message, Headers.header, Headers.padding_header};
 ghost use Rattle.ring_layout.specs.History.{IsMessage, span};
-ghost use Rattle.ring_layout.specs.Headers.{header, padding_header};
 ghost use Rattle.ring_layout.specs.Places.{index, max_position, next_place};
-ghost use Rattle.ring_board.specs.declared.shared.view.Draft.{Draft};
-ghost use Rattle.ring_board.specs.declared.shared.view.Record.{Record};
+ghost use Rattle.ring_board.specs.declared.shared.view.{Draft.Draft, Record.Record, Stage.TheVariants.Shown};
 ghost use Rattle.ring_board.specs.declared.shared.view.Stage.TheVariants.{Idle, Begun as StageBegun, Storing, Written};
-ghost use Rattle.ring_board.specs.declared.shared.view.Stage.TheVariants.{Shown};
 ghost use Rattle.ring_board.specs.Records.{end, end_of, header_of, words_of_body, Lies};
-ghost use Rattle.ring_board.specs.Views.{at_stage};
+ghost use Rattle.ring_board.specs.{Views.at_stage, TransmitterSteps.StoresWord, Board.transmitted};
 ghost use Rattle.ring_board.specs.TransmitterSteps.{after_words, draft, drafted, place_before, sent_on, Learns};
 ghost use Rattle.ring_board.specs.TransmitterSteps.{StoresHeader, StoresIntent, StoresLatest, StoresPadding, StoresTail};
-ghost use Rattle.ring_board.specs.TransmitterSteps.{StoresWord};
 ghost use Rattle.ring_board.specs.Refusals.{transmit_refusal_of, IsRefusedBy, IsRefusedAs};
-ghost use Rattle.ring_board.specs.Board.{transmitted};
 ghost use Rattle.ring_board.specs.Seats.{IsSeatOf, IsSameSeat, capacity_of, view_of, tail_of, shares_of};
 ghost use Rattle.ring_board.specs.Seats.{IsTransmitterOf, next_record, IsBegunOf, IsFilledOf, begun_view, filled_view};
 ghost use Rattle.ring_board.specs.Seats.{filled_record, begun_tail, begun_type_id, begun_len, HasBegun, refused_with};

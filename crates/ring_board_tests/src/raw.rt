@@ -2,8 +2,7 @@
 ghost use Rattle.std.specs.Prelude.{◌≡◌, ◌≤◌, ℕ, true, length, take, IfOk};
 ghost use mathlib.Core.Option.{some};
 ghost use lib.ListN.{get_elem?};
-ghost use Rattle.ring_board.specs.declared.shared.view.Taken.{Taken};
-ghost use Rattle.ring_board.specs.declared.board.RawRecord.{RawRecord};
+ghost use Rattle.ring_board.specs.declared.{shared.view.Taken.Taken, board.RawRecord.RawRecord};
 ghost use Rattle.ring_board.specs.Board.{returned};
 ghost use Rattle.ring_board.specs.Seats.{IsRawOf, IsAnsweredRecord, raw_view, place_of, len_of};
 

@@ -1,16 +1,11 @@
 -- What the return value of an export says of the handles before and after it.
 use Rattle.std.specs.Prelude.{◌≡◌, ◌≢◌, ◌⊎◌, ◌/◌, ℕ, ℤ, pos, MatchOption, Bool}
-use Rattle.std.specs.declared.option.Option.{Option}
-use Rattle.std.specs.declared.option.Option.TheVariants.{None, Some}
-use Rattle.ring_handles.specs.declared.held.Held.{Held}
-use Rattle.ring_handles.specs.declared.lending.Shared.{Shared}
-use Rattle.ring_handles.specs.Closing.{TellsEnd, WhyNotFinished}
-use Rattle.ring_handles.specs.Conducting.{IsConductorCode}
+use Rattle.std.specs.declared.option.Option.{Option, TheVariants.None, TheVariants.Some}
+use Rattle.ring_handles.specs.{declared.held.Held.Held, declared.lending.Shared.Shared, Conducting.IsConductorCode}
+use Rattle.ring_handles.specs.{Closing.TellsEnd, Closing.WhyNotFinished, Producing.closing, Seating.IsOfThisConductor}
 use Rattle.ring_handles.specs.Kinds.{a_conductor, a_producer, capacity_held, HoldsOne}
 use Rattle.ring_handles.specs.Opening.{HoldFirstAdder, HoldFresh, HoldFreshCounters, HoldNewBoard, HoldNewConductor}
 use Rattle.ring_handles.specs.Opening.{IsAdderCode, IsBoardCode, IsCountersCode, IsMakeCode}
-use Rattle.ring_handles.specs.Producing.{closing}
-use Rattle.ring_handles.specs.Seating.{IsOfThisConductor}
 use Rattle.ring_handles.specs.Side.{identity_of}
 
 -- Calls of one handle ------------------------------------------------------------

@@ -1,8 +1,7 @@
 //! A client that talks to a conductor, with all that both need.
 ghost use Rattle.ring_rings.specs.Seats.{IsConsumerOf, IsProducerOf, MayClaim};
 ghost use Rattle.ring_board.specs.Seats.{IsReceiverOf};
-ghost use Rattle.ring_service.specs.Asking.{producer_of, receiver_of};
-ghost use Rattle.ring_service.specs.Conducting.{IsConductorOf};
+ghost use Rattle.ring_service.specs.{Asking.producer_of, Asking.receiver_of, Conducting.IsConductorOf};
 
 use crate::bench::Bench;
 use ring_board::Board;

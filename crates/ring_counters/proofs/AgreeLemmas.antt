@@ -1,17 +1,10 @@
 -- The registry keeps agreeing with the value writes.
-use Rattle.std.proofs.Common.{◌≡◌, ◌≢◌, ℕ, ℤ, zero, suc, ◌+◌, ◌<◌, true, false, cond, eqb, List, [], ◌∷◌, ◌++◌, length, set, fold, refl, sym, ap, subst, ◌∙◌, ⊎_elim, inl, inr, get_or, get_or-set_other, get_or-set_same}
-use Rattle.std.proofs.Math.ListN.{length-set}
-use Rattle.std.specs.Prelude.{Some, None, Result, Ok, Err}
-use Rattle.std.proofs.lemmas.Bool.{cases_lt, le-leb, cond-true}
-use Rattle.std.proofs.lemmas.Bool.Decides.{eqb_tells}
-use Rattle.ring_counters.specs.declared.values.view.ValueWrite.{ValueWrite}
-use Rattle.ring_counters.specs.Counter.{Counter, Reclaimed, unused_counter}
+use Rattle.std.proofs.Common.{◌≡◌, ◌≢◌, ℕ, ℤ, zero, suc, ◌+◌, ◌<◌, true, false, cond, eqb, List, [], ◌∷◌, ◌++◌, length, set, fold, refl, sym, ap, subst, ◌∙◌, ⊎_elim, inl, inr, get_or, get_or-set_other, get_or-set_same, length-set, Some, None, Result, Ok, Err, le-leb}
+use Rattle.std.proofs.lemmas.Bool.{cases_lt, cond-true, Decides.eqb_tells}
+use Rattle.ring_counters.specs.{declared.values.view.ValueWrite.ValueWrite, Views.value_write, Agree.Agree}
+use Rattle.ring_counters.specs.{Counter.Counter, Counter.Reclaimed, Counter.unused_counter, ValueWrites.value_after}
 use Rattle.ring_counters.specs.Registry.{Registry, count_of, counter_at, reclaimed_in, closed_in, owned_ids, status_at, is_allocated, answer, id_refusal_of}
-use Rattle.ring_counters.specs.declared.fault.IdFault.{IdFault}
-use Rattle.ring_counters.specs.declared.fault.IdFault.TheVariants.{BadId, NotAllocated}
-use Rattle.ring_counters.specs.Views.{value_write}
-use Rattle.ring_counters.specs.ValueWrites.{value_after}
-use Rattle.ring_counters.specs.Agree.{Agree}
+use Rattle.ring_counters.specs.declared.fault.IdFault.{IdFault, TheVariants.BadId, TheVariants.NotAllocated}
 use Rattle.ring_counters.proofs.ValueSteps.{value_after-snoc}
 
 abbrev value_at : List Counter → ℕ → ℤ

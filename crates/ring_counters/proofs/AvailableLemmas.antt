@@ -1,9 +1,7 @@
 -- How many ids are due or were never used, and that there is none exactly if an allocation finds none.
-use Rattle.std.proofs.Common.{◌≡◌, ℕ, zero, suc, ◌+◌, ◌<◌, ◌≤◌, ◌↔◌, Bool, true, false, cond, List, [], ◌∷◌, length, refl, sym, ap, ◌∙◌, arith, count_by}
-use Rattle.std.specs.Prelude.{Option, Some, None, find, position, not}
+use Rattle.std.proofs.Common.{◌≡◌, ℕ, zero, suc, ◌+◌, ◌<◌, ◌≤◌, ◌↔◌, Bool, true, false, cond, List, [], ◌∷◌, length, refl, sym, ap, ◌∙◌, arith, count_by, Option, Some, None, find, position, not, le-ltb}
 use Rattle.std.specs.List.{position_or_len}
-use Rattle.std.proofs.lemmas.Bool.{le-ltb, cond-false}
-use Rattle.std.proofs.lemmas.List.Sums.{count_by-le-length, sum_by-cons}
+use Rattle.std.proofs.lemmas.{Bool.cond-false, List.Sums.count_by-le-length, List.Sums.sum_by-cons}
 use Rattle.ring_layout.specs.Lists.{or_else}
 use Rattle.ring_counters.specs.Available.{available_in}
 use Rattle.ring_counters.specs.Counter.{Counter, Metadata, Values, unused_counter}

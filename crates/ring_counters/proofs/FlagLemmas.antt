@@ -1,8 +1,6 @@
 -- The flags that say which counters are in use.
 use Rattle.std.proofs.Common.{◌≡◌, ℕ, zero, suc, Bool, false, List, [], ◌∷◌, length, set, replicate, refl, sym, ap, ◌∙◌, get_or}
-use Rattle.ring_counters.specs.Counter.{Metadata, unused_metadata}
-use Rattle.ring_counters.specs.Registry.{is_allocated}
-use Rattle.ring_counters.specs.Kept.{live_flags}
+use Rattle.ring_counters.specs.{Counter.Metadata, Counter.unused_metadata, Registry.is_allocated, Kept.live_flags}
 
 length-flags : (ms : List Metadata) → length (live_flags ms) ≡ length ms
 length-flags [] = refl

@@ -1,11 +1,7 @@
 -- What calls keep of a registry.
-use Rattle.std.proofs.Common.{◌≡◌, ◌≢◌, ℕ, zero, suc, ◌+◌, ◌-◌, ◌<◌, ◌≤◌, Bool, true, false, true≢false, cond, List, [], ◌∷◌, ◌++◌, length, set, replicate, refl, sym, ap, subst, ◌∙◌, arith, inl, inr, get_or, get_or-set_other, get_or-set_same}
-use Rattle.std.specs.Prelude.{Some, None, remove, nat_lt, count_by}
-use Rattle.std.specs.List.{position_or_len}
-use Rattle.std.proofs.Math.ListN.{length-set}
-use Rattle.std.proofs.lemmas.Bool.{cases_lt, cases_eq}
-use Rattle.std.proofs.lemmas.List.{length-replicate, length_push}
-use Rattle.std.proofs.lemmas.List.Sums.{position_or_len_is}
+use Rattle.std.proofs.Common.{◌≡◌, ◌≢◌, ℕ, zero, suc, ◌+◌, ◌-◌, ◌<◌, ◌≤◌, Bool, true, false, true≢false, cond, List, [], ◌∷◌, ◌++◌, length, set, replicate, refl, sym, ap, subst, ◌∙◌, arith, inl, inr, get_or, get_or-set_other, get_or-set_same, Some, None, remove, nat_lt, count_by, length-set}
+use Rattle.std.{specs.List.position_or_len, proofs.lemmas.Bool.cases_lt, proofs.lemmas.Bool.cases_eq}
+use Rattle.std.proofs.lemmas.List.{length-replicate, length_push, Sums.position_or_len_is}
 use Rattle.ring_counters.specs.Counter.{Allocated, Reclaimed, Counter, unused_counter, deadline_of}
 use Rattle.ring_counters.specs.Registry.{Registry, count_of, counter_at, status_at, is_unused, is_allocated, is_reclaimed, unused_id, reclaimed_in, fresh_registry}
 use Rattle.ring_counters.specs.Kept.{IsAbsent, deadline_at, AreReclaimed, AreDistinct, AreInOrder, IsKept}

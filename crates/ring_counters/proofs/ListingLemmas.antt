@@ -1,13 +1,9 @@
 -- Walks over all counters, by rising id.
-use Rattle.std.proofs.Common.{◌≡◌, ℕ, zero, suc, ◌+◌, ◌-◌, ◌<◌, ◌≤◌, ◌==◌, Bool, true, false, true≢false, cond, List, [], ◌∷◌, ◌++◌, map, length, refl, sym, ap, subst, ◌∙◌, arith, inl, inr, get_or-set_other, append-nil, filter, fold, ◌&&◌}
-use Rattle.std.specs.List.{range_with_len}
-use Rattle.std.proofs.Math.ListN.{length-set}
-use Rattle.std.proofs.lemmas.Bool.{cases_lt}
-use Rattle.std.proofs.lemmas.List.{length_push}
+use Rattle.std.proofs.Common.{◌≡◌, ℕ, zero, suc, ◌+◌, ◌-◌, ◌<◌, ◌≤◌, ◌==◌, Bool, true, false, true≢false, cond, List, [], ◌∷◌, ◌++◌, map, length, refl, sym, ap, subst, ◌∙◌, arith, inl, inr, get_or-set_other, append-nil, filter, fold, ◌&&◌, length-set}
+use Rattle.std.{specs.List.range_with_len, proofs.lemmas.Bool.cases_lt, proofs.lemmas.List.length_push}
 use Rattle.ring_counters.specs.Counter.{Reclaimed, Counter, unused_counter}
 use Rattle.ring_counters.specs.Registry.{Registry, count_of, counter_at, status_at, is_allocated, is_owned, owned_ids, closed_in, reclaimed_in, live_of, live_from}
-use Rattle.ring_counters.specs.declared.info.CounterInfo.{CounterInfo}
-use Rattle.ring_counters.specs.Infos.{IsInfoOf, AreInfos}
+use Rattle.ring_counters.specs.{declared.info.CounterInfo.CounterInfo, Infos.IsInfoOf, Infos.AreInfos}
 
 -- the numbers below n that pass
 abbrev pub passing : (ℕ → Bool) → ℕ → List ℕ

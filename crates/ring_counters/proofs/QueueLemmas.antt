@@ -1,11 +1,8 @@
 -- The records of all ids, and the queue of freed ones.
-use Rattle.std.proofs.Common.{◌≡◌, ◌≢◌, ℕ, zero, suc, ◌+◌, ◌-◌, ◌<◌, ◌≤◌, Bool, true, false, true≢false, cond, List, [], ◌∷◌, ◌++◌, length, set, replicate, refl, sym, ap, subst, ◌∙◌, arith, inl, inr, get_or, get_or-set_other, get_or-set_same}
-use Rattle.std.specs.Prelude.{count_by, Some, None, find, remove, not}
+use Rattle.std.proofs.Common.{◌≡◌, ◌≢◌, ℕ, zero, suc, ◌+◌, ◌-◌, ◌<◌, ◌≤◌, Bool, true, false, true≢false, cond, List, [], ◌∷◌, ◌++◌, length, set, replicate, refl, sym, ap, subst, ◌∙◌, arith, inl, inr, get_or, get_or-set_other, get_or-set_same, count_by, Some, None, find, remove, not, length-set, ne_eqb, eq-eqb}
 use Rattle.std.specs.List.{position_or_len}
-use Rattle.std.proofs.Math.ListN.{length-set}
-use Rattle.std.proofs.lemmas.Bool.{cases_lt, cases_eq, ne_eqb, eq-eqb, cond-true, cond-false}
-use Rattle.std.proofs.lemmas.List.{get_or_past, set-get_or}
-use Rattle.std.proofs.lemmas.List.Sums.{sum_by-set, count_by-le-length}
+use Rattle.std.proofs.lemmas.Bool.{cases_lt, cases_eq, cond-true, cond-false}
+use Rattle.std.proofs.lemmas.List.{get_or_past, set-get_or, Sums.sum_by-set, Sums.count_by-le-length}
 use Rattle.ring_counters.specs.Counter.{Status, Unused, Allocated, Reclaimed, Metadata, Values, Counter, unused_metadata, unused_values, unused_counter, deadline_of}
 use Rattle.ring_counters.specs.Registry.{is_unused, is_allocated, is_reclaimed, without}
 use Rattle.ring_counters.specs.Kept.{counters_of, IsAbsent, AreDistinct, AreReclaimed, deadline_at, AllDueFrom, AreInOrder}

@@ -1,19 +1,15 @@
 -- The words of a record say what the record is.
-use Rattle.std.proofs.Common.{◌≡◌, ℕ, zero, suc, ◌+◌, ◌-◌, ◌*◌, ◌/◌, ◌%◌, ◌^◌, ◌<◌, ◌≤◌, ℤ, pos, negsuc, FitsSigned, List, [], length, drop, set, replicate, slice_index, refl, sym, ap, subst, ◌∙◌, arith, inl, inr, get_or-set_other, get_or-set_same, All}
-use Rattle.std.proofs.Math.ListN.{length-set}
-use Rattle.std.specs.Prelude.{min}
-use Rattle.std.specs.Int.{Width, from_le_bytes, cast_signed, cast_unsigned, w32, w64}
-use Rattle.std.proofs.lemmas.Bool.{cases_lt, lt-ltb, le-ltb, ne_eqb, cond-true, cond-false}
-use Rattle.std.proofs.lemmas.Int.{to_z-of_z}
-use Rattle.std.proofs.lemmas.Nat.{mod_low, shr_high, from_le_bytes-to_le_bytes_4}
-use Rattle.std.proofs.lemmas.List.{ext_get_or, length-append, length-replicate, get_or-drop, get_or_past, get_or_append_left, get_or-append_right}
+use Rattle.std.proofs.Common.{◌≡◌, ℕ, zero, suc, ◌+◌, ◌-◌, ◌*◌, ◌/◌, ◌%◌, ◌^◌, ◌<◌, ◌≤◌, ℤ, pos, negsuc, FitsSigned, List, [], length, drop, set, replicate, slice_index, refl, sym, ap, subst, ◌∙◌, arith, inl, inr, get_or-set_other, get_or-set_same, All, length-set, min, w32, w64, lt-ltb, le-ltb, ne_eqb, ext_get_or, length-append, get_or-drop}
+use Rattle.std.specs.Int.{Width, from_le_bytes, cast_signed, cast_unsigned}
+use Rattle.std.proofs.lemmas.Bool.{cases_lt, cond-true, cond-false}
+use Rattle.std.proofs.lemmas.{Int.to_z-of_z, Nat.mod_low, Nat.shr_high, Nat.from_le_bytes-to_le_bytes_4}
+use Rattle.std.proofs.lemmas.List.{length-replicate, get_or_past, get_or_append_left, get_or-append_right}
 use Rattle.std.proofs.lemmas.List.Elements.{All-get_or, All-from_get_or}
 use Rattle.std.proofs.lemmas.List.FromFn.{length-map-range_with_len, get_or-map-range_with_len}
 use Rattle.ring_counters.specs.Counter.{Status, Unused, Allocated, Reclaimed, Metadata, Values, zero_padded, unused_metadata, state_of, deadline_of, state_word, label_text, metadata_word, value_word}
 use Rattle.ring_counters.specs.Records.{byte_at, bytes_at, status_from, metadata_of, IsMetadata, SomeMetadata, IsValues}
 use Rattle.ring_layout.specs.Bytes.{word_of_bytes}
-use Rattle.ring_layout.proofs.HeaderLemmas.{pattern_below}
-use Rattle.ring_layout.proofs.WordBytes.{byte_of_word, from_le_bytes-same}
+use Rattle.ring_layout.proofs.{HeaderLemmas.pattern_below, WordBytes.byte_of_word, WordBytes.from_le_bytes-same}
 
 -- ---- bytes in words
 

@@ -1,11 +1,8 @@
 -- A registry in two lists of records and a queue.
-use Rattle.std.proofs.Common.{◌≡◌, ℕ, ℤ, ◌+◌, ◌-◌, ◌<◌, ◌≤◌, Bool, true, false, true≢false, cond, List, [], ◌∷◌, ◌++◌, length, set, replicate, refl, sym, ap, subst, ◌∙◌, arith, inl, inr, get_or}
-use Rattle.std.specs.Prelude.{Some, None, position, remove, nat_lt}
+use Rattle.std.proofs.Common.{◌≡◌, ℕ, ℤ, ◌+◌, ◌-◌, ◌<◌, ◌≤◌, Bool, true, false, true≢false, cond, List, [], ◌∷◌, ◌++◌, length, set, replicate, refl, sym, ap, subst, ◌∙◌, arith, inl, inr, get_or, Some, None, position, remove, nat_lt, length-set, lt-ltb, le-ltb, le-leb, leb-false}
 use Rattle.std.specs.List.{position_or_len}
-use Rattle.std.proofs.Math.ListN.{length-set}
-use Rattle.std.proofs.lemmas.Bool.{cases_lt, lt-ltb, le-ltb, le-leb, lt-leb, leb-false, cond-true, cond-false}
-use Rattle.std.proofs.lemmas.List.{get_or_default, length-replicate}
-use Rattle.std.proofs.lemmas.List.Sums.{position_or_len_is}
+use Rattle.std.proofs.lemmas.Bool.{cases_lt, lt-leb, cond-true, cond-false}
+use Rattle.std.proofs.lemmas.List.{get_or_default, length-replicate, Sums.position_or_len_is}
 use Rattle.ring_counters.specs.Counter.{Status, Unused, Allocated, Reclaimed, Metadata, Values, Counter, unused_metadata, unused_values, deadline_of}
 use Rattle.ring_layout.specs.Lists.{or_else}
 use Rattle.ring_counters.specs.Registry.{Registry, count_of, counter_at, status_at, is_allocated, is_reclaimed, is_due, unused_id, next_id, without, allocated_in, reclaimed_in, with_value, fresh_registry}

@@ -1,22 +1,14 @@
 -- Each step on the values keeps their rule.
-use Rattle.std.proofs.Common.{◌≡◌, ◌≢◌, ℕ, ℤ, zero, suc, ◌+◌, ◌-◌, ◌^◌, ◌<◌, Bool, true, false, true≢false, cond, eqb, List, [], ◌∷◌, ◌++◌, length, set, replicate, refl, sym, ap, ◌∙◌, subst, ⊎_elim, arith, slice_index, append-nil, append_assoc, get_or-set_same, get_or-set_other, FitsSigned, pos}
-use Rattle.std.specs.Int.{cast_signed, cast_unsigned, w64}
-use Rattle.std.proofs.Math.ListN.{length-set}
-use Rattle.std.proofs.lemmas.Bool.Decides.{eqb_tells}
-use Rattle.std.proofs.lemmas.List.{length-replicate, set-get_or}
-use Rattle.std.proofs.lemmas.Int.{to_z-of_z, of_z-to_z}
-use mathlib.Core.Option.{some, some-ne-none, some-injective}
-use lib.ListN.{get_elem?}
+use Rattle.std.proofs.Common.{◌≡◌, ◌≢◌, ℕ, ℤ, zero, suc, ◌+◌, ◌-◌, ◌^◌, ◌<◌, Bool, true, false, true≢false, cond, eqb, List, [], ◌∷◌, ◌++◌, length, set, replicate, refl, sym, ap, ◌∙◌, subst, ⊎_elim, arith, slice_index, append-nil, append_assoc, get_or-set_same, get_or-set_other, FitsSigned, pos, w64, length-set}
+use Rattle.std.{specs.Int.cast_signed, specs.Int.cast_unsigned, proofs.lemmas.Bool.Decides.eqb_tells}
+use Rattle.std.proofs.lemmas.{List.length-replicate, List.set-get_or, Int.to_z-of_z, Int.of_z-to_z}
+use Rattle.std.proofs.Math.{Option.some, Option.some-ne-none, Option.some-injective, ListN.get_elem?}
 use Rattle.atomic_table.specs.Table.{State, keeps, Allows, Splits, Joins}
 use Rattle.atomic_table.proofs.Lists.{at_snoc, set_else}
-use Rattle.ring_counters.specs.declared.values.view.ValueWrite.{ValueWrite}
-use Rattle.ring_counters.specs.declared.values.view.ValueLoad.{ValueLoad}
-use Rattle.ring_counters.specs.declared.values.view.ValuesView.{ValuesView}
+use Rattle.ring_counters.specs.declared.values.view.{ValueWrite.ValueWrite, ValueLoad.ValueLoad, ValuesView.ValuesView}
 use Rattle.ring_counters.specs.Views.{value_write, value_load, values_view}
-use Rattle.ring_layout.specs.Lists.{Begins, total}
-use Rattle.ring_layout.proofs.ListLemmas.{each_set}
-use Rattle.ring_layout.proofs.Sums.{total-set, total-append, total-least}
-use Rattle.ring_layout.specs.Refusals.{all_shares}
+use Rattle.ring_layout.specs.{Lists.Begins, Lists.total, Refusals.all_shares}
+use Rattle.ring_layout.proofs.{ListLemmas.each_set, Sums.total-set, Sums.total-append, Sums.total-least}
 use Rattle.ring_counters.specs.ValueWrites.{value_from, value_after, AreLoads}
 use Rattle.ring_counters.specs.ValuesRule.{KnowsWrites, ValuesRule}
 use Rattle.ring_counters.specs.ValueSteps.{Loads, LearnsLoads, WritesValue}

@@ -1,7 +1,6 @@
 -- The counter that the owner of the records allocates.
-use Rattle.ring_counters.specs.declared.records.wanted.Wanted.{Wanted}
+use Rattle.ring_counters.specs.{declared.records.wanted.Wanted.Wanted, Registry.AreShort, Registry.new_counter}
 use Rattle.ring_counters.specs.Counter.{Counter}
-use Rattle.ring_counters.specs.Registry.{AreShort, new_counter}
 
 -- the key and the label keep their limits
 abbrev pub HasShortTexts : Wanted → Type 0

@@ -2,10 +2,8 @@
 use Rattle.std.specs.Prelude.{ℤ, pos}
 use Rattle.ring_counters.specs.declared.fault.AllocateRefused.{AllocateRefused}
 use Rattle.ring_counters.specs.declared.fault.AllocateRefused.TheVariants.{KeyTooLong, LabelTooLong, LabelNotAscii, NoFreeCounter}
-use Rattle.ring_counters.specs.declared.fault.IdFault.{IdFault}
-use Rattle.ring_counters.specs.declared.fault.IdFault.TheVariants.{BadId, NotAllocated}
-use Rattle.ring_counters.specs.declared.fault.MakeFault.{MakeFault}
-use Rattle.ring_counters.specs.declared.fault.MakeFault.TheVariants.{BadCount, OutOfMemory}
+use Rattle.ring_counters.specs.declared.fault.IdFault.{IdFault, TheVariants.BadId, TheVariants.NotAllocated}
+use Rattle.ring_counters.specs.declared.fault.MakeFault.{MakeFault, TheVariants.BadCount, TheVariants.OutOfMemory}
 
 -- the number of the refusal to make counters
 abbrev pub make_code : MakeFault → ℤ

@@ -1,7 +1,6 @@
 -- The records of counters in a listing.
 use Rattle.std.specs.Prelude.{◌≡◌, ℕ, List, [], ◌∷◌}
-use Rattle.ring_counters.specs.declared.info.CounterInfo.{CounterInfo}
-use Rattle.ring_counters.specs.Counter.{Counter}
+use Rattle.ring_counters.specs.{declared.info.CounterInfo.CounterInfo, Counter.Counter}
 
 -- the record of the counter c with this id
 pub record IsInfoOf (id : ℕ) (c : Counter) (info : CounterInfo) : Type 0 where

@@ -1,13 +1,10 @@
 -- The words of clauses for a manager.
 use Rattle.std.specs.Prelude.{◌≡◌, ℕ, ℤ, List, [], ◌∷◌, ◌++◌, Option}
 use Rattle.atomic_table.specs.Seated.{TableId}
-use Rattle.ring_counters.specs.declared.values.view.ValueWrite.{ValueWrite}
-use Rattle.ring_counters.specs.declared.values.seats.CounterValues.{CounterValues}
-use Rattle.ring_counters.specs.declared.manager.CountersManager.{CountersManager}
-use Rattle.ring_counters.specs.declared.fault.IdFault.{IdFault}
-use Rattle.ring_counters.specs.Counter.{Counter}
+use Rattle.ring_counters.specs.declared.values.{view.ValueWrite.ValueWrite, seats.CounterValues.CounterValues}
+use Rattle.ring_counters.specs.declared.{manager.CountersManager.CountersManager, fault.IdFault.IdFault}
+use Rattle.ring_counters.specs.{Counter.Counter, Views.value_write}
 use Rattle.ring_counters.specs.Registry.{Registry, counter_at, id_refusal_of, range_refusal_of, with_value}
-use Rattle.ring_counters.specs.Views.{value_write}
 
 -- the counters of a manager
 abbrev pub registry_of : CountersManager → Registry

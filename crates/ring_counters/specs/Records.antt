@@ -1,7 +1,6 @@
 -- The contents of the words of a record.
 use Rattle.std.specs.Prelude.{◌≡◌, ℕ, ◌*◌, ◌/◌, ◌%◌, ◌^◌, ◌<◌, ◌≤◌, ◌==◌, if◌then◌else◌, FitsSigned, List, map, length, slice_index, All}
-use Rattle.std.specs.List.{range_with_len}
-use Rattle.std.specs.Int.{cast_signed, w32, w64}
+use Rattle.std.specs.{List.range_with_len, Int.cast_signed, Int.w32, Int.w64}
 use Rattle.ring_counters.specs.Counter.{Status, Unused, Allocated, Reclaimed, Metadata, Values, metadata_word, value_word}
 
 -- the i-th byte of these words, little-endian

@@ -1,15 +1,11 @@
 -- The counters as a registry, and the changes that each call makes in it.
 use Rattle.std.specs.Prelude.{ℕ, ◌+◌, ◌-◌, ◌≤◌, ◌==◌, Bool, true, false, ◌&&◌, ◌||◌, nat_lt, nat_le, if◌then◌else◌, ℤ, pos, int_lt, List, [], ◌∷◌, ◌++◌, map, filter, fold, find, position, length, replicate, slice_set, slice_index_or, Option, Some, None, Result, Ok, Err}
-use Rattle.std.specs.List.{list_all, range_with_len}
-use Rattle.std.specs.Int.{int_wrapping_add, w64}
-use Rattle.std.specs.Ordering.{int_eq}
+use Rattle.std.specs.{List.list_all, List.range_with_len, Int.int_wrapping_add, Int.w64, Ordering.int_eq}
 use Rattle.ring_layout.specs.Lists.{or_else}
 use Rattle.ring_counters.specs.declared.fault.AllocateRefused.{AllocateRefused}
 use Rattle.ring_counters.specs.declared.fault.AllocateRefused.TheVariants.{KeyTooLong, LabelTooLong, LabelNotAscii, NoFreeCounter}
-use Rattle.ring_counters.specs.declared.fault.MakeFault.{MakeFault}
-use Rattle.ring_counters.specs.declared.fault.MakeFault.TheVariants.{BadCount}
-use Rattle.ring_counters.specs.declared.fault.IdFault.{IdFault}
-use Rattle.ring_counters.specs.declared.fault.IdFault.TheVariants.{BadId, NotAllocated}
+use Rattle.ring_counters.specs.declared.fault.MakeFault.{MakeFault, TheVariants.BadCount}
+use Rattle.ring_counters.specs.declared.fault.IdFault.{IdFault, TheVariants.BadId, TheVariants.NotAllocated}
 use Rattle.ring_counters.specs.Counter.{Status, Unused, Allocated, Reclaimed, Counter, zero_padded, unused_counter}
 
 -- a record for each id, the ids that were freed and not allocated again, in order of freeing, and the reuse timeout

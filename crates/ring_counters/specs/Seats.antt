@@ -1,12 +1,9 @@
 -- The seats of the values.
 use Rattle.std.specs.Prelude.{◌≡◌, ℕ, ℤ, List, [], ◌∷◌, ◌++◌}
-use Rattle.ring_counters.specs.declared.values.view.ValueWrite.{ValueWrite}
-use Rattle.ring_counters.specs.declared.values.view.ValueLoad.{ValueLoad}
-use Rattle.ring_counters.specs.declared.values.seats.CounterValues.{CounterValues}
-use Rattle.ring_counters.specs.declared.values.seats.ValueWriter.{ValueWriter}
-use Rattle.ring_counters.specs.declared.values.seats.ValueReader.{ValueReader}
+use Rattle.ring_counters.specs.declared.values.view.{ValueWrite.ValueWrite, ValueLoad.ValueLoad}
+use Rattle.ring_counters.specs.declared.values.seats.{CounterValues.CounterValues, ValueReader.ValueReader}
+use Rattle.ring_counters.specs.{declared.values.seats.ValueWriter.ValueWriter, ValueWrites.value_after}
 use Rattle.ring_layout.specs.Lists.{Begins}
-use Rattle.ring_counters.specs.ValueWrites.{value_after}
 use Rattle.ring_counters.specs.Views.{value_load}
 
 abbrev pub IsWriterOf : CounterValues → ValueWriter → Type 0

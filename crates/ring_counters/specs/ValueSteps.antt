@@ -1,11 +1,9 @@
 -- The views that each step on the values shows its seat.
 use Rattle.std.specs.Prelude.{◌≡◌, ℕ, ◌≤◌, List, [], ◌∷◌, ◌++◌}
 use Rattle.std.specs.Int.{cast_signed, w64}
-use Rattle.ring_counters.specs.declared.values.view.ValueWrite.{ValueWrite}
-use Rattle.ring_counters.specs.declared.values.view.ValuesView.{ValuesView}
+use Rattle.ring_counters.specs.declared.values.view.{ValueWrite.ValueWrite, ValuesView.ValuesView}
 use Rattle.ring_counters.specs.Views.{value_write, value_load, values_view}
-use Rattle.ring_layout.specs.Lists.{Begins}
-use Rattle.ring_layout.specs.Refusals.{all_shares}
+use Rattle.ring_layout.specs.{Lists.Begins, Refusals.all_shares}
 use Rattle.ring_counters.specs.ValueWrites.{value_after, AreLoads}
 
 -- a load returns the value after some writes, which begin with those that the reader has seen

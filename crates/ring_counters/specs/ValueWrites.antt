@@ -1,8 +1,7 @@
 -- The values after writes, and the loads of readers.
 use Rattle.std.specs.Prelude.{◌≡◌, ℕ, ◌==◌, ℤ, pos, if◌then◌else◌, List, [], ◌∷◌}
 use Rattle.ring_layout.specs.Lists.{Begins}
-use Rattle.ring_counters.specs.declared.values.view.ValueWrite.{ValueWrite}
-use Rattle.ring_counters.specs.declared.values.view.ValueLoad.{ValueLoad}
+use Rattle.ring_counters.specs.declared.values.view.{ValueWrite.ValueWrite, ValueLoad.ValueLoad}
 
 -- the value of an id after these writes, if it was this one before them
 abbrev pub value_from : ℤ → ℕ → List ValueWrite → ℤ

@@ -3,10 +3,8 @@ use Rattle.std.specs.Prelude.{◌≡◌, ℕ, ◌<◌, true, List, length, slice
 use Rattle.std.specs.Int.{cast_unsigned, w64}
 use mathlib.Core.Option.{some}
 use lib.ListN.{get_elem?}
-use Rattle.ring_counters.specs.declared.values.view.ValueWrite.{ValueWrite}
-use Rattle.ring_counters.specs.declared.values.view.ValuesView.{ValuesView}
-use Rattle.ring_layout.specs.Lists.{Begins, total}
-use Rattle.ring_layout.specs.Refusals.{all_shares}
+use Rattle.ring_counters.specs.declared.values.view.{ValueWrite.ValueWrite, ValuesView.ValuesView}
+use Rattle.ring_layout.specs.{Lists.Begins, Lists.total, Refusals.all_shares}
 use Rattle.ring_counters.specs.ValueWrites.{value_after, AreLoads}
 
 -- The writer has all writes. A reader has seen a first part of them, and its loads are loads of these.

@@ -1,8 +1,6 @@
 -- The view of a seat of the values.
 use Rattle.std.specs.Prelude.{ℕ, ℤ, Bool, List}
-use Rattle.ring_counters.specs.declared.values.view.ValueWrite.{ValueWrite}
-use Rattle.ring_counters.specs.declared.values.view.ValueLoad.{ValueLoad}
-use Rattle.ring_counters.specs.declared.values.view.ValuesView.{ValuesView}
+use Rattle.ring_counters.specs.declared.values.view.{ValueWrite.ValueWrite, ValueLoad.ValueLoad, ValuesView.ValuesView}
 
 abbrev pub value_write : ℕ → ℤ → ValueWrite
 value_write id value = record { id = id; value = value }

@@ -1,7 +1,6 @@
 //! The counters of one owner, with their values for readers on other threads.
 ghost use Rattle.std.specs.Prelude.{◌≡◌};
-ghost use Rattle.ring_counters.specs.Agree.{Agree};
-ghost use Rattle.ring_counters.specs.Registry.{count_of};
+ghost use Rattle.ring_counters.specs.{Agree.Agree, Registry.count_of};
 
 use crate::records::Records;
 use crate::values::seats::ValueWriter;

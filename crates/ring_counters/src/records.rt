@@ -10,8 +10,7 @@ ghost use Rattle.std.specs.VecDeque.{deque_capacity};
 ghost use Rattle.ring_counters.specs.Counter.{Values, unused_metadata, unused_values, unused_counter, value_word};
 ghost use Rattle.ring_counters.specs.Registry.{answer, count_of, counter_at, fresh_registry, id_refusal_of};
 ghost use Rattle.ring_counters.specs.Registry.{is_allocated, is_registered, live_of, range_refusal_of, registered_id};
-ghost use Rattle.ring_counters.specs.Registry.{status_at, with_value};
-ghost use Rattle.ring_counters.specs.Infos.{IsInfoOf, AreInfos};
+ghost use Rattle.ring_counters.specs.{Registry.status_at, Registry.with_value, Infos.IsInfoOf, Infos.AreInfos};
 
 use crate::fault::IdFault;
 use crate::info::CounterInfo;
@@ -117,8 +116,7 @@ pub(crate) struct Records {
 impl Model for Records {
     ghost use Rattle.std.specs.Prelude.{◌≡◌, length};
     ghost use Rattle.std.specs.VecDeque.{deque_capacity};
-    ghost use Rattle.ring_counters.specs.Registry.{Registry};
-    ghost use Rattle.ring_counters.specs.Kept.{live_flags, registry_in, IsKept};
+    ghost use Rattle.ring_counters.specs.{Registry.Registry, Kept.live_flags, Kept.registry_in, Kept.IsKept};
 
     ghost Value = { Registry };
 

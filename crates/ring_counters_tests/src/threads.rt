@@ -1,7 +1,6 @@
 //! Readers on other threads.
 ghost use Rattle.std.specs.Thread.{IsSync};
-ghost use Rattle.ring_counters.specs.Seats.{IsReaderOf};
-ghost use Rattle.ring_counters.specs.Manager.{IsManagerOf};
+ghost use Rattle.ring_counters.specs.{Seats.IsReaderOf, Manager.IsManagerOf};
 
 use crate::desk::Desk;
 use ring_counters::{CounterValues, CountersManager, ValueReader};

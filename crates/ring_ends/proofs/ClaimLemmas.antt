@@ -1,27 +1,16 @@
 -- The open claims of a producer: how they stay open.
-use Rattle.std.proofs.Common.{◌≡◌, ◌≢◌, ℕ, ◌+◌, ℤ, Bool, true, false, cond, eqb, List, [], ◌∷◌, ◌++◌, append-nil, length, length-append, Result, Ok, Err, Some, refl, sym, ap, ◌∙◌, subst, arith}
-use Rattle.std.proofs.lemmas.Bool.{eq-eqb, ne_eqb}
-use Rattle.ring_layout.specs.declared.message.ClaimState.{ClaimState}
-use Rattle.ring_layout.specs.declared.message.ClaimState.TheVariants.{Aborted}
-use Rattle.ring_words.specs.Open.{ClaimAt}
-use Rattle.ring_words.specs.declared.fault.PutRange.{PutRange}
-use Rattle.ring_table.specs.declared.claim.StagedClaim.{StagedClaim}
-use Rattle.ring_table.specs.declared.claim.Stage.TheVariants.{Stored}
-use Rattle.ring_table.specs.declared.view.View.{View}
-use Rattle.ring_table.specs.Changes.{changed, staged}
-use Rattle.ring_table.specs.OpenClaims.{one_if_open, open_count}
-use Rattle.ring_table.specs.ProducerSteps.{with_changed}
-use Rattle.ring_rings.specs.Bodies.{put_at, PutsBytes}
-use Rattle.ring_rings.specs.Claiming.{claim_behind, Claims}
-use Rattle.ring_rings.specs.Holding.{AreApart, AreOpenAt}
+use Rattle.std.proofs.Common.{◌≡◌, ◌≢◌, ℕ, ◌+◌, ℤ, Bool, true, false, cond, eqb, List, [], ◌∷◌, ◌++◌, append-nil, length, length-append, Result, Ok, Err, Some, refl, sym, ap, ◌∙◌, subst, arith, eq-eqb, ne_eqb}
+use Rattle.ring_layout.specs.declared.message.ClaimState.{ClaimState, TheVariants.Aborted}
+use Rattle.ring_words.specs.{Open.ClaimAt, declared.fault.PutRange.PutRange}
+use Rattle.ring_table.specs.declared.{claim.StagedClaim.StagedClaim, claim.Stage.TheVariants.Stored, view.View.View}
+use Rattle.ring_table.specs.{Changes.changed, Changes.staged, OpenClaims.one_if_open, OpenClaims.open_count}
+use Rattle.ring_table.{specs.ProducerSteps.with_changed, proofs.LawLemmas.open_count-interleaved}
+use Rattle.ring_rings.{specs.Bodies.put_at, specs.Bodies.PutsBytes, proofs.LeavingLemmas.gains_looked}
+use Rattle.ring_rings.specs.{Claiming.claim_behind, Claiming.Claims, Holding.AreApart, Holding.AreOpenAt, Joining.Joins}
 use Rattle.ring_rings.specs.Seats.{IsOpenAt, KeepsAllBut, KeepsBothOpen, KeepsOpen, OpensAt}
-use Rattle.ring_rings.specs.Joining.{Joins}
-use Rattle.ring_table.proofs.LawLemmas.{open_count-interleaved}
 use Rattle.ring_rings.proofs.CountLemmas.{count_kept, open_count-more, settles_one}
 use Rattle.ring_rings.proofs.HoldingLemmas.{all_parts, both_open, one_changed_open, one_less_open, one_more_open, one_open}
-use Rattle.ring_rings.proofs.LeavingLemmas.{gains_looked}
-use Rattle.ring_ends.specs.Claiming.{AreAllOpen}
-use Rattle.ring_ends.specs.Claims.{aborted, claim_numbered, without, Takes}
+use Rattle.ring_ends.specs.{Claiming.AreAllOpen, Claims.aborted, Claims.claim_numbered, Claims.without, Claims.Takes}
 use Rattle.ring_ends.specs.End.{Either}
 
 -- Lists of claims ----------------------------------------------------------------

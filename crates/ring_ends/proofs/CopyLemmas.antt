@@ -1,23 +1,15 @@
 -- A controlled read that copies one message into a buffer, and takes it or leaves it.
-use Rattle.std.proofs.Common.{◌≡◌, ◌+◌, ◌<◌, inl, inr, ℕ, List, [], ◌∷◌, ◌++◌, ℤ, Bool, true, false, drop, length, take, refl, sym, ap, ◌∙◌, subst}
-use Rattle.std.proofs.lemmas.List.{take_at}
+use Rattle.std.proofs.Common.{◌≡◌, ◌+◌, ◌<◌, inl, inr, ℕ, List, [], ◌∷◌, ◌++◌, ℤ, Bool, true, false, drop, length, take, refl, sym, ap, ◌∙◌, subst, take_at}
 use Rattle.ring_layout.specs.declared.message.Message.{Message}
-use Rattle.ring_words.specs.declared.read.action.Action.{Action}
-use Rattle.ring_words.specs.declared.read.action.Action.TheVariants.{Abort, Break}
-use Rattle.ring_words.specs.declared.read.end.ReadEnd.{ReadEnd}
-use Rattle.ring_words.specs.declared.read.end.Stop.{Stop}
-use Rattle.ring_words.specs.declared.read.end.Stop.TheVariants.{Block, Unpublished}
-use Rattle.ring_words.specs.Controlled.{GoesOn}
-use Rattle.ring_table.specs.declared.claim.PlacedMessage.{PlacedMessage}
-use Rattle.ring_table.specs.declared.view.View.{View}
+use Rattle.ring_words.specs.declared.read.action.Action.{Action, TheVariants.Abort, TheVariants.Break}
+use Rattle.ring_words.specs.{declared.read.end.ReadEnd.ReadEnd, Controlled.GoesOn}
+use Rattle.ring_words.specs.declared.read.end.Stop.{Stop, TheVariants.Block, TheVariants.Unpublished}
+use Rattle.ring_table.specs.declared.{claim.PlacedMessage.PlacedMessage, view.View.View}
 use Rattle.ring_rings.specs.Reading.{Controls, FoundUnsettled, IsNext, messages_of}
-use Rattle.ring_rings.specs.Ring.{message}
-use Rattle.ring_rings.proofs.SentLemmas.{messages_of-append}
-use Rattle.ring_ends.specs.declared.copying.Copying.{Copying}
-use Rattle.ring_ends.specs.declared.copying.NextMessage.{NextMessage}
+use Rattle.ring_rings.{specs.Ring.message, proofs.SentLemmas.messages_of-append}
+use Rattle.ring_ends.specs.declared.copying.{Copying.Copying, NextMessage.NextMessage}
 use Rattle.ring_ends.specs.declared.copying.NextMessage.TheVariants.{Copied, Nothing, TooLong}
-use Rattle.ring_ends.specs.End.{received, End}
-use Rattle.ring_ends.specs.Handlers.{after_copy, Copies, CopiesIn}
+use Rattle.ring_ends.specs.{End.received, End.End, Handlers.after_copy, Handlers.Copies, Handlers.CopiesIn}
 use Rattle.ring_ends.specs.Next.{CopiesIt, CopiesNext, CopiesOne, HadNone, IsAtFront, RanOut, ReceivesNext, Shows, Took}
 use Rattle.ring_ends.proofs.ShownLemmas.{none_more, shown_none, shown_one, uncounted}
 use Rattle.ring_ends.proofs.StopLemmas.{both, next_on, none_twice, ran_out}

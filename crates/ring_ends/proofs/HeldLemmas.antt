@@ -1,12 +1,8 @@
 -- What is held by number: a list with None if nothing is.
-use Rattle.std.proofs.Common.{◌≡◌, ◌≢◌, ℕ, suc, ◌+◌, ◌-◌, ◌<◌, ◌≤◌, IfNone, OnSome, List, [], ◌∷◌, ◌++◌, drop, length, set, slice_index_or, cond, is_some, refl, ap, Option, Some, None, sym, ◌∙◌, subst, arith, ◌⊎◌, inl, inr, get_or-set_same, get_or-set_other}
-use mathlib.Core.Logic.{dite}
-use native.Mathlib.Decide.{ℕ_discrete}
-use Rattle.std.proofs.Math.Seq.{drop-cons}
-use Rattle.std.proofs.lemmas.Bool.{cases_lt}
-use Rattle.std.specs.List.{count_by}
-use Rattle.std.proofs.lemmas.List.Sums.{sum_by-append, sum_by-set}
-use Rattle.std.proofs.lemmas.List.{drop-set-lt, drop_all, get_or_append_left, get_or_push, get_or_past, length-append, length-set, set-get_or, set-set}
+use Rattle.std.proofs.Common.{◌≡◌, ◌≢◌, ℕ, suc, ◌+◌, ◌-◌, ◌<◌, ◌≤◌, IfNone, OnSome, List, [], ◌∷◌, ◌++◌, drop, length, set, slice_index_or, cond, is_some, refl, ap, Option, Some, None, sym, ◌∙◌, subst, arith, ◌⊎◌, inl, inr, get_or-set_same, get_or-set_other, drop-cons, count_by, drop-set-lt, length-append, length-set, set-set}
+use Rattle.std.proofs.Math.{Logic.dite, Decide.ℕ_discrete}
+use Rattle.std.proofs.lemmas.{Bool.cases_lt, List.Sums.sum_by-append, List.Sums.sum_by-set}
+use Rattle.std.proofs.lemmas.List.{drop_all, get_or_append_left, get_or_push, get_or_past, set-get_or}
 use Rattle.ring_ends.specs.Held.{Comes, Goes, HasAt, IsFree, IsVacant, Stays, in_turn}
 
 module _ {A : Type 0} where

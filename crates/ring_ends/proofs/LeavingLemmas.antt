@@ -1,11 +1,8 @@
 -- How all receivers that are here leave, one after another.
 use Rattle.std.proofs.Common.{◌≡◌, ℕ, ◌+◌, ◌<◌, IfNone, List, [], ◌∷◌, OnSome, Option, Some, None, refl, ap}
-use Rattle.ring_board.specs.declared.board.CopyReceiver.{CopyReceiver}
-use Rattle.ring_board.specs.declared.shared.view.View.{View}
+use Rattle.ring_board.specs.{declared.board.CopyReceiver.CopyReceiver, declared.shared.view.View.View, Views.joined}
 use Rattle.ring_board.specs.Seats.{receiver_view, view_of}
-use Rattle.ring_board.specs.Views.{joined}
-use Rattle.ring_ends.specs.Held.{IsFree}
-use Rattle.ring_ends.specs.Receivers.{NumberedReceivers, LeavesAt, all_left}
+use Rattle.ring_ends.specs.{Held.IsFree, Receivers.NumberedReceivers, Receivers.LeavesAt, Receivers.all_left}
 use Rattle.ring_ends.proofs.HeldLemmas.{GoneTo, none_goes, one_goes}
 
 -- of the receivers that were here, those below an index have left

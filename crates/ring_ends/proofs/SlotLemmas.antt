@@ -1,13 +1,10 @@
 -- The slots of open claims.
-use Rattle.std.proofs.Common.{◌≡◌, ◌≢◌, ℕ, suc, zero, ◌+◌, ◌<◌, ◌≤◌, eqb, ltb, nat_eq, Bool, true, false, List, [], ◌∷◌, ◌++◌, Option, Some, None, MatchOption, is_some, length, drop, set, take, slice_index_or, slice_set, refl, sym, ap, ◌∙◌, subst, arith}
-use Rattle.std.specs.List.{filter}
-use Rattle.std.specs.HashMap.{HashMap, get}
-use Rattle.std.proofs.lemmas.Bool.{eqb-false, eqb-true, ltb-false, ltb-true}
-use Rattle.std.proofs.lemmas.List.{append-nil, get_or_append_left, get_or_past, get_or-set_other, get_or-set_same, length-append, length-set, set-get_or, set-set}
+use Rattle.std.proofs.Common.{◌≡◌, ◌≢◌, ℕ, suc, zero, ◌+◌, ◌<◌, ◌≤◌, eqb, ltb, nat_eq, Bool, true, false, List, [], ◌∷◌, ◌++◌, Option, Some, None, MatchOption, is_some, length, drop, set, take, slice_index_or, slice_set, refl, sym, ap, ◌∙◌, subst, arith, filter, HashMap, eqb-true, ltb-false, ltb-true, append-nil, get_or-set_other, get_or-set_same, length-append, length-set, set-set}
+use Rattle.std.specs.HashMap.{get}
+use Rattle.std.proofs.lemmas.{Bool.eqb-false, List.get_or_append_left, List.get_or_past, List.set-get_or}
 use Rattle.ring_words.specs.Open.{ClaimAt}
 use Rattle.ring_table.specs.declared.view.View.{View}
-use Rattle.ring_rings.specs.Holding.{in_slots, AreApart, AreOpenAt}
-use Rattle.ring_rings.specs.Seats.{IsOpenAt, KeepsAllBut}
+use Rattle.ring_rings.specs.{Holding.in_slots, Holding.AreApart, Holding.AreOpenAt, Seats.IsOpenAt, Seats.KeepsAllBut}
 use Rattle.ring_ends.specs.Claims.{claim_numbered, has_numbered, without, IsNoNumber, IsSlotOf, LacksAt, TakesFrom}
 use Rattle.ring_ends.specs.Slots.{AreNoted}
 use Rattle.ring_ends.proofs.ClaimLemmas.{changed_open, numbered_by, numbered_one}

@@ -1,20 +1,14 @@
 -- A controlled read of one message that is taken and not copied.
 use Rattle.std.proofs.Common.{◌≡◌, ◌+◌, inl, inr, List, [], ◌∷◌, ◌++◌, Bool, true, false, sym, ap, ◌∙◌, subst}
 use Rattle.ring_layout.specs.declared.message.Message.{Message}
-use Rattle.ring_words.specs.declared.read.action.Action.{Action}
-use Rattle.ring_words.specs.declared.read.action.Action.TheVariants.{Abort, Break}
-use Rattle.ring_words.specs.declared.read.end.ReadEnd.{ReadEnd}
-use Rattle.ring_words.specs.declared.read.end.Stop.{Stop}
-use Rattle.ring_words.specs.declared.read.end.Stop.TheVariants.{Block, Unpublished}
-use Rattle.ring_words.specs.Controlled.{GoesOn}
-use Rattle.ring_table.specs.declared.claim.PlacedMessage.{PlacedMessage}
-use Rattle.ring_table.specs.declared.view.View.{View}
+use Rattle.ring_words.specs.declared.read.action.Action.{Action, TheVariants.Abort, TheVariants.Break}
+use Rattle.ring_words.specs.{declared.read.end.ReadEnd.ReadEnd, Controlled.GoesOn}
+use Rattle.ring_words.specs.declared.read.end.Stop.{Stop, TheVariants.Block, TheVariants.Unpublished}
+use Rattle.ring_table.specs.declared.{claim.PlacedMessage.PlacedMessage, view.View.View}
 use Rattle.ring_rings.specs.Reading.{Controls, FoundUnsettled, messages_of}
 use Rattle.ring_rings.proofs.SentLemmas.{messages_of-append}
-use Rattle.ring_ends.specs.declared.taking.Taking.{Taking}
-use Rattle.ring_ends.specs.End.{End}
-use Rattle.ring_ends.specs.Handlers.{Takes}
-use Rattle.ring_ends.specs.Next.{HadNone, RanOut, ReceivesAny, TakesNext, TakesOne}
+use Rattle.ring_ends.specs.{declared.taking.Taking.Taking, End.End}
+use Rattle.ring_ends.specs.{Handlers.Takes, Next.HadNone, Next.RanOut, Next.ReceivesAny, Next.TakesNext, Next.TakesOne}
 use Rattle.ring_ends.proofs.ShownLemmas.{none_more, shown_none, shown_one, uncounted}
 use Rattle.ring_ends.proofs.StopLemmas.{both, none_twice, ran_out}
 

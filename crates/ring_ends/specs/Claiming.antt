@@ -2,23 +2,13 @@
 use Rattle.std.specs.Prelude.{◌≡◌, ◌⊎◌, ℕ, ◌+◌, ◌<◌, ℤ, List, ◌∷◌, ◌++◌, [], length, MatchOption, MatchResult, Result, Ok, Err}
 use Rattle.ring_layout.specs.declared.message.ClaimState.{ClaimState}
 use Rattle.ring_words.specs.Open.{ClaimAt}
-use Rattle.ring_table.specs.declared.claim.Stage.TheVariants.{Stored}
-use Rattle.ring_table.specs.declared.view.View.{View}
-use Rattle.ring_table.specs.Changes.{staged}
-use Rattle.ring_table.specs.OpenClaims.{open_count}
-use Rattle.ring_table.specs.ProducerSteps.{with_changed}
-use Rattle.ring_table.specs.Views.{with_claims}
-use Rattle.ring_rings.specs.Bodies.{PutsBytes}
-use Rattle.ring_rings.specs.Claiming.{Claims, RefusesTry}
-use Rattle.ring_rings.specs.Holding.{AreOpenAt}
-use Rattle.ring_rings.specs.Joining.{Joins}
-use Rattle.ring_ends.specs.Claims.{aborted, claim_numbered, without}
+use Rattle.ring_table.specs.{declared.claim.Stage.TheVariants.Stored, declared.view.View.View, OpenClaims.open_count}
+use Rattle.ring_table.specs.{Changes.staged, ProducerSteps.with_changed, Views.with_claims}
+use Rattle.ring_rings.specs.{Bodies.PutsBytes, Claiming.Claims, Claiming.RefusesTry, Holding.AreOpenAt, Joining.Joins}
+use Rattle.ring_ends.specs.{Claims.aborted, Claims.claim_numbered, Claims.without, declared.claiming.Claimed.Claimed}
 use Rattle.ring_ends.specs.End.{Does, End, OpensNone}
-use Rattle.ring_ends.specs.declared.claiming.Claimed.{Claimed}
-use Rattle.ring_ends.specs.declared.claiming.ClaimRefused.{ClaimRefused}
-use Rattle.ring_ends.specs.declared.claiming.ClaimRefused.TheVariants.{NoMemory, Refused}
-use Rattle.ring_ends.specs.declared.claiming.NumberFault.{NumberFault}
-use Rattle.ring_ends.specs.declared.claiming.NumberFault.TheVariants.{NoClaim, PutRange}
+use Rattle.ring_ends.specs.declared.claiming.ClaimRefused.{ClaimRefused, TheVariants.NoMemory, TheVariants.Refused}
+use Rattle.ring_ends.specs.declared.claiming.NumberFault.{NumberFault, TheVariants.NoClaim, TheVariants.PutRange}
 
 pub record NumberedClaims : Type 0 where
   pub end : End

@@ -2,8 +2,7 @@
 use Rattle.std.specs.Prelude.{◌≡◌, ◌==◌, ℕ, ◌<◌, List, [], ◌∷◌, Option, Some, None, Bool, true, false, if◌then◌else◌, length, slice_index_or, slice_set}
 use Rattle.ring_layout.specs.declared.message.ClaimState.TheVariants.{Aborted}
 use Rattle.ring_words.specs.Open.{ClaimAt}
-use Rattle.ring_table.specs.declared.claim.StagedClaim.{StagedClaim}
-use Rattle.ring_table.specs.declared.claim.Stage.TheVariants.{Stored}
+use Rattle.ring_table.specs.declared.claim.{StagedClaim.StagedClaim, Stage.TheVariants.Stored}
 use Rattle.ring_table.specs.Changes.{changed, staged}
 use Rattle.ring_rings.specs.Holding.{in_slots}
 use Rattle.ring_ends.specs.Slots.{ClaimSlots}

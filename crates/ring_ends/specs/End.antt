@@ -2,18 +2,12 @@
 use Rattle.std.specs.Prelude.{◌≡◌, ℕ, ℤ, List, length, Bool, true, Result, MatchResult, [], ◌∷◌, ◌++◌, take, IfOk, OnErr, OnOk}
 use Rattle.atomic_table.specs.Seated.{TableId}
 use Rattle.ring_layout.specs.declared.message.Message.{Message}
-use Rattle.ring_words.specs.Open.{ClaimAt}
-use Rattle.ring_words.specs.declared.fault.ClaimFault.{ClaimFault}
-use Rattle.ring_words.specs.declared.positions.Positions.{Positions}
-use Rattle.ring_table.specs.RunBodies.{messages_of}
-use Rattle.ring_table.specs.declared.runs.Outgoing.{Outgoing}
-use Rattle.ring_table.specs.declared.view.View.{View}
+use Rattle.ring_words.specs.{Open.ClaimAt, declared.fault.ClaimFault.ClaimFault, declared.positions.Positions.Positions}
+use Rattle.ring_table.specs.{RunBodies.messages_of, declared.runs.Outgoing.Outgoing, declared.view.View.View}
 use Rattle.ring_rings.specs.Claiming.{AfterTries, Claims, Refuses, RefusesTry, Writes}
-use Rattle.ring_rings.specs.Joining.{LoadsPositions}
+use Rattle.ring_rings.specs.{Joining.LoadsPositions, declared.ring.Producer.Producer, declared.fault.TryFault.TryFault}
 use Rattle.ring_rings.specs.Ring.{message, received_in, sent_in, HasMessageAt}
 use Rattle.ring_rings.specs.Seats.{view_of, IsOpenAt, KeepsOpen, MayClaim, OpensNoneAt}
-use Rattle.ring_rings.specs.declared.ring.Producer.{Producer}
-use Rattle.ring_rings.specs.declared.fault.TryFault.{TryFault}
 
 pub record End : Type 0 where
   -- any number of producers write the ring

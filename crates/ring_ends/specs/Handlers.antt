@@ -1,12 +1,9 @@
 -- The handlers of the calls that ask for the next message.
 use Rattle.std.specs.Prelude.{◌≡◌, ◌⊎◌, ◌<◌, ◌≤◌, length, Bool, true, false}
-use Rattle.ring_layout.specs.declared.message.Message.{Message}
-use Rattle.ring_layout.specs.History.{overwritten}
-use Rattle.ring_words.specs.declared.read.action.Action.{Action}
-use Rattle.ring_words.specs.declared.read.action.Action.TheVariants.{Abort, Break}
-use Rattle.ring_ends.specs.declared.copying.Copying.{Copying}
+use Rattle.ring_layout.specs.{declared.message.Message.Message, History.overwritten}
+use Rattle.ring_words.specs.declared.read.action.Action.{Action, TheVariants.Abort, TheVariants.Break}
+use Rattle.ring_ends.specs.declared.{copying.Copying.Copying, taking.Taking.Taking}
 use Rattle.ring_ends.specs.declared.copying.NextMessage.TheVariants.{Copied, TooLong}
-use Rattle.ring_ends.specs.declared.taking.Taking.{Taking}
 
 -- what becomes of a message that was copied: it is taken, or stays
 abbrev pub after_copy : Bool → Action

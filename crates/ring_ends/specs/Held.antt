@@ -1,6 +1,5 @@
 -- Things that are kept by number, as a list that has None for a number without a thing.
-use Rattle.std.specs.Prelude.{◌≡◌, ℕ, ◌-◌, ◌<◌, ◌≤◌, ◌++◌, ◌∷◌, List, [], length, Option, Some, None, slice_index_or, slice_set, is_some, vec_capacity, vec_len}
-use Rattle.std.specs.List.{count_by}
+use Rattle.std.specs.Prelude.{◌≡◌, ℕ, ◌-◌, ◌<◌, ◌≤◌, ◌++◌, ◌∷◌, List, [], length, Option, Some, None, slice_index_or, slice_set, is_some, vec_capacity, vec_len, count_by}
 use Rattle.ring_ends.specs.declared.numbered.Numbered.{Numbered}
 
 -- the thing that is kept under each number, less 1

@@ -1,15 +1,10 @@
 -- What became of the next message of a ring. v is what the consumer knew before the call, and w is what it knows after.
 use Rattle.std.specs.Prelude.{◌≡◌, ◌⊎◌, ℕ, ◌<◌, ◌≤◌, ◌%◌, ℤ, List, [], ◌∷◌, ◌++◌, length, take, Bool, true, false}
-use Rattle.ring_layout.specs.declared.message.Message.{Message}
-use Rattle.ring_layout.specs.History.{overwritten}
-use Rattle.ring_words.specs.declared.read.end.Stop.{Stop}
-use Rattle.ring_words.specs.declared.read.end.Stop.TheVariants.{Block, Unpublished}
-use Rattle.ring_table.specs.declared.claim.PlacedMessage.{PlacedMessage}
-use Rattle.ring_table.specs.declared.view.View.{View}
-use Rattle.ring_rings.specs.Reading.{IsAtRest, FoundUnsettled, IsNext}
-use Rattle.ring_rings.specs.Ring.{message}
-use Rattle.ring_ends.specs.End.{received, End}
-use Rattle.ring_ends.specs.declared.copying.NextMessage.{NextMessage}
+use Rattle.ring_layout.specs.{declared.message.Message.Message, History.overwritten}
+use Rattle.ring_words.specs.declared.read.end.Stop.{Stop, TheVariants.Block, TheVariants.Unpublished}
+use Rattle.ring_table.specs.declared.{claim.PlacedMessage.PlacedMessage, view.View.View}
+use Rattle.ring_rings.specs.{Reading.IsAtRest, Reading.FoundUnsettled, Reading.IsNext, Ring.message}
+use Rattle.ring_ends.specs.{End.received, End.End, declared.copying.NextMessage.NextMessage}
 use Rattle.ring_ends.specs.declared.copying.NextMessage.TheVariants.{Copied, Nothing, TooLong}
 
 -- Of what the consumer knows only the log, which is longer by these loads, and its own part change. The head does not

@@ -1,15 +1,11 @@
 -- Numbered receivers of a broadcast buffer.
 use Rattle.std.specs.Prelude.{◌≡◌, ℕ, ◌+◌, List, Option}
-use Rattle.ring_board.specs.declared.board.Board.{Board}
-use Rattle.ring_board.specs.declared.shared.view.View.{View}
-use Rattle.ring_board.specs.declared.board.Transmitter.{Transmitter}
-use Rattle.ring_board.specs.declared.board.CopyReceiver.{CopyReceiver}
+use Rattle.ring_board.specs.declared.board.{Board.Board, Transmitter.Transmitter, CopyReceiver.CopyReceiver}
+use Rattle.ring_board.specs.{declared.shared.view.View.View, Views.Sat, Views.fewer, Views.newcomer, Views.joined}
 use Rattle.ring_board.specs.Receiving.{GotCopy, GotLapped, GotNothing}
 use Rattle.ring_board.specs.Seats.{shares_of, view_of, IsReceiverOf, IsTransmitterOf, receiver_seat, receiver_view}
-use Rattle.ring_board.specs.Views.{Sat, fewer, newcomer, joined}
 use Rattle.ring_ends.specs.Held.{Comes, Goes, HasAt, Stays, held_count, held_in, in_turn}
-use Rattle.ring_ends.specs.declared.numbered.Numbered.{Numbered}
-use Rattle.ring_ends.specs.declared.received.Received.{Received}
+use Rattle.ring_ends.specs.declared.{numbered.Numbered.Numbered, received.Received.Received}
 use Rattle.ring_ends.specs.declared.received.Received.TheVariants.{Copy, Nothing, Lapped}
 
 -- a transmitter, and the receiver of each number, less 1, until it leaves

@@ -3,8 +3,7 @@ ghost use Rattle.std.specs.Prelude.{◌≡◌, ◌≤◌, ◌<◌, IfErr, IfOk, 
 ghost use Rattle.ring_table.specs.RunBodies.{messages_of as batch_of};
 ghost use Rattle.ring_rings.specs.Batches.{batch_refusal_of, RefusesBatch, StopsAtFirst};
 ghost use Rattle.ring_rings.specs.declared.fault.TryFault.{TryFault};
-ghost use Rattle.ring_ends.specs.Claiming.{KeepsNumbered, OfEnd};
-ghost use Rattle.ring_ends.specs.End.{OpensNone, SendsFirst};
+ghost use Rattle.ring_ends.specs.{Claiming.KeepsNumbered, Claiming.OfEnd, End.OpensNone, End.SendsFirst};
 
 use crate::claiming::NumberedEnd;
 use crate::producer::ProducerEnd;

@@ -2,13 +2,10 @@
 ghost use Rattle.std.specs.Prelude.{◌≡◌, [], IfNone, IfOk, IfSome, OnErr, OnOk, OnSome, length};
 ghost use Rattle.ring_layout.specs.Places.{is_board_capacity};
 ghost use Rattle.ring_layout.specs.Refusals.{all_shares, make_refusal_of, IsMadeUnless, IsRefusedBy};
-ghost use Rattle.ring_board.specs.Closing.{IsClosed, closed_capacity, closed_words};
+ghost use Rattle.ring_board.specs.{Closing.IsClosed, Closing.closed_capacity, Closing.closed_words, Board.transmitted};
 ghost use Rattle.ring_board.specs.Refusals.{subscribe_refusal_of, transmit_refusal_of, IsSubscribedUnless};
-ghost use Rattle.ring_board.specs.Rule.{opening_view};
-ghost use Rattle.ring_board.specs.Runs.{AreAllRuns};
-ghost use Rattle.ring_board.specs.Board.{transmitted};
+ghost use Rattle.ring_board.specs.{Rule.opening_view, Runs.AreAllRuns, TransmitterSteps.sent_on};
 ghost use Rattle.ring_board.specs.Seats.{capacity_of, next_record, shares_of, start_of, tail_of, view_of};
-ghost use Rattle.ring_board.specs.TransmitterSteps.{sent_on};
 ghost use Rattle.ring_ends.specs.Held.{IsFree, held_in};
 ghost use Rattle.ring_ends.specs.Receivers.{LeavesAt, ReceivesAt, Subscribes};
 ghost use Rattle.ring_ends.specs.Receivers.{all_left, by_number, shares_in, AreReceiversOf};

@@ -2,13 +2,11 @@
 ghost use Rattle.std.specs.Prelude.{◌≡◌, ◌≢◌, [], IfErr, IfOk, OnOk};
 ghost use Rattle.ring_layout.specs.declared.message.ClaimState.TheVariants.{Aborted, Committed};
 ghost use Rattle.ring_layout.specs.Refusals.{all_shares};
-ghost use Rattle.ring_table.specs.OpenClaims.{open_count};
-ghost use Rattle.ring_table.specs.ServiceSteps.{DrawsId, LoadsHeartbeat};
+ghost use Rattle.ring_table.specs.{OpenClaims.open_count, ServiceSteps.DrawsId, ServiceSteps.LoadsHeartbeat};
 ghost use Rattle.ring_table.specs.Views.{producer_alone, without_share};
-ghost use Rattle.ring_ends.specs.declared.many_to_one.SplitFault.TheVariants.{OneShare};
+ghost use Rattle.ring_ends.specs.{declared.many_to_one.SplitFault.TheVariants.OneShare, Claiming.TriesToKeep};
 ghost use Rattle.ring_ends.specs.Claims.{claims_in};
 ghost use Rattle.ring_ends.specs.Claiming.{aborted_view, AreAllOpen, KeepsNumbered, OfEnd, Puts, Settles, TakesIn};
-ghost use Rattle.ring_ends.specs.Claiming.{TriesToKeep};
 ghost use Rattle.ring_ends.specs.End.{shares, AreOfOneTable, Does, IsOfEnd, LoadsThem, Sends, TriesWrite, WritesAlone};
 
 use crate::many_to_one::SplitFault;
@@ -26,8 +24,7 @@ pub struct NumberedEnd<K: Kind, B: Bodies> {
 }
 
 impl<K: Kind, B: Bodies> Model for NumberedEnd<K, B> {
-    ghost use Rattle.ring_ends.specs.Claims.{claims_in};
-    ghost use Rattle.ring_ends.specs.Claiming.{AreAllOpen, NumberedClaims};
+    ghost use Rattle.ring_ends.specs.{Claims.claims_in, Claiming.AreAllOpen, Claiming.NumberedClaims};
 
     ghost Value = { NumberedClaims };
 

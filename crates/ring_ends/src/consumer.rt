@@ -2,8 +2,7 @@
 ghost use Rattle.std.specs.Prelude.{◌≡◌, ◌⊎◌, IfErr, IfOk};
 ghost use Rattle.ring_words.specs.Across.{ReadsAcross};
 ghost use Rattle.ring_table.specs.Views.{with_beat};
-ghost use Rattle.ring_rings.specs.Reading.{Controls, EndsAt, ReadsTo};
-ghost use Rattle.ring_rings.specs.Ring.{LeavesIn, ReceivesIn};
+ghost use Rattle.ring_rings.specs.{Reading.Controls, Reading.EndsAt, Reading.ReadsTo, Ring.LeavesIn, Ring.ReceivesIn};
 ghost use Rattle.ring_rings.specs.Seats.{capacity_of, consumer_view, start_of, IsConsumerOf};
 ghost use Rattle.ring_ends.specs.End.{received, Does};
 

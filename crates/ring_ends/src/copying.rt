@@ -1,10 +1,8 @@
 //! The next message of a ring, copied into a buffer.
 ghost use Rattle.std.specs.Prelude.{◌≡◌, ◌≤◌, true, false, length};
 ghost use Rattle.ring_layout.specs.History.{overwritten};
-ghost use Rattle.ring_ends.specs.End.{received, Does};
-ghost use Rattle.ring_ends.specs.Handlers.{Copies};
-ghost use Rattle.ring_ends.specs.Next.{CopiesNext, HadNone, RanOut, ReceivesNext};
-ghost use Rattle.ring_ends.specs.declared.copying.NextMessage.TheVariants.{Nothing};
+ghost use Rattle.ring_ends.specs.{End.received, End.Does, declared.copying.NextMessage.TheVariants.Nothing};
+ghost use Rattle.ring_ends.specs.{Handlers.Copies, Next.CopiesNext, Next.HadNone, Next.RanOut, Next.ReceivesNext};
 
 use crate::consumer::ConsumerEnd;
 use ring_rings::{Action, Bodies, Handler, Kind, Stop};

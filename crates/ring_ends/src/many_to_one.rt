@@ -2,9 +2,7 @@
 ghost use Rattle.std.specs.Prelude.{◌≡◌, ◌≢◌, [], replicate, IfErr, IfOk, OnOk};
 ghost use Rattle.ring_ends.specs.declared.many_to_one.SplitFault.TheVariants.{OneShare};
 ghost use Rattle.ring_table.specs.Views.{producer_alone, without_share};
-ghost use Rattle.ring_rings.specs.Joining.{Joins};
-ghost use Rattle.ring_rings.specs.Ring.{message, AreMerged};
-ghost use Rattle.ring_rings.specs.Seats.{KeepsBothOpen, OpensAt};
+ghost use Rattle.ring_rings.specs.{Joining.Joins, Ring.message, Ring.AreMerged, Seats.KeepsBothOpen, Seats.OpensAt};
 ghost use Rattle.ring_ends.specs.End.{sent, shares, AreOfOneTable, Does, HasMessage, KeepsClaims, Sends, WaitsToClaim, WaitsToWrite};
 
 use crate::producer::ProducerEnd;

@@ -1,16 +1,10 @@
 //! A producer with its ring.
 ghost use Rattle.std.specs.Prelude.{◌≡◌, ◌≤◌, ◌+◌, ◌<◌, ◌↔◌, length, replicate, IfOk, IsTrue, OnOk, is_err};
 ghost use Rattle.ring_layout.specs.declared.message.ClaimState.TheVariants.{Aborted, Committed};
-ghost use Rattle.ring_layout.specs.declared.message.Message.{Message};
-ghost use Rattle.ring_layout.specs.History.{overwritten};
-ghost use Rattle.ring_table.specs.declared.claim.Stage.TheVariants.{Stored};
-ghost use Rattle.ring_table.specs.Changes.{staged};
-ghost use Rattle.ring_table.specs.OpenClaims.{open_count};
-ghost use Rattle.ring_table.specs.ProducerSteps.{with_changed};
-ghost use Rattle.ring_table.specs.ServiceSteps.{DrawsId, LoadsHeartbeat};
-ghost use Rattle.ring_layout.specs.Refusals.{all_shares};
-ghost use Rattle.ring_rings.specs.Bodies.{PutsBytes};
-ghost use Rattle.ring_rings.specs.Ring.{message, SendsClaimedAt};
+ghost use Rattle.ring_layout.specs.{declared.message.Message.Message, History.overwritten, Refusals.all_shares};
+ghost use Rattle.ring_table.specs.{declared.claim.Stage.TheVariants.Stored, Changes.staged, OpenClaims.open_count};
+ghost use Rattle.ring_table.specs.{ProducerSteps.with_changed, ServiceSteps.DrawsId, ServiceSteps.LoadsHeartbeat};
+ghost use Rattle.ring_rings.specs.{Bodies.PutsBytes, Ring.message, Ring.SendsClaimedAt};
 ghost use Rattle.ring_rings.specs.Seats.{KeepsAllBut, KeepsHeld, OpensAt, OpensNoneAt};
 ghost use Rattle.ring_ends.specs.End.{sent, shares, Does, Either, HasMessage, IsOpenIn, KeepsClaims, LoadsThem, Sends, TriesClaim, TriesWrite, WritesAlone};
 

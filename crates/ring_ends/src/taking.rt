@@ -1,8 +1,7 @@
 //! The next message of a ring, taken without a copy.
 ghost use Rattle.std.specs.Prelude.{◌≡◌, false};
 ghost use Rattle.ring_ends.specs.End.{Does};
-ghost use Rattle.ring_ends.specs.Handlers.{Takes};
-ghost use Rattle.ring_ends.specs.Next.{HadNone, RanOut, ReceivesAny, TakesNext};
+ghost use Rattle.ring_ends.specs.{Handlers.Takes, Next.HadNone, Next.RanOut, Next.ReceivesAny, Next.TakesNext};
 
 use crate::consumer::ConsumerEnd;
 use ring_rings::{Action, Bodies, Handler, Kind, Stop};

@@ -1,26 +1,18 @@
 -- A controlled read of messages into a buffer, one after another.
-use Rattle.std.proofs.Common.{◌≡◌, ◌≢◌, ◌⊎◌, inl, inr, ℕ, zero, suc, ◌+◌, ◌<◌, ◌≤◌, true, false, arith, ℤ, pos, List, [], ◌∷◌, ◌++◌, All, length, refl, sym, ap, ◌∙◌, subst}
-use Rattle.std.proofs.lemmas.List.{append-nil}
+use Rattle.std.proofs.Common.{◌≡◌, ◌≢◌, ◌⊎◌, inl, inr, ℕ, zero, suc, ◌+◌, ◌<◌, ◌≤◌, true, false, arith, ℤ, pos, List, [], ◌∷◌, ◌++◌, All, length, refl, sym, ap, ◌∙◌, subst, append-nil}
 use Rattle.std.proofs.lemmas.List.Elements.{All-head, All-tail}
-use Rattle.ring_layout.specs.declared.message.Message.{Message}
-use Rattle.ring_layout.specs.Handles.{Handles}
-use Rattle.ring_words.specs.declared.read.action.Action.{Action}
+use Rattle.ring_layout.specs.{declared.message.Message.Message, Handles.Handles}
+use Rattle.ring_words.specs.{declared.read.action.Action.Action, declared.read.end.ReadEnd.ReadEnd, Controlled.GoesOn}
 use Rattle.ring_words.specs.declared.read.action.Action.TheVariants.{Abort, Break, Continue}
-use Rattle.ring_words.specs.declared.read.end.ReadEnd.{ReadEnd}
-use Rattle.ring_words.specs.declared.read.end.Stop.{Stop}
-use Rattle.ring_words.specs.declared.read.end.Stop.TheVariants.{Block, Unpublished}
-use Rattle.ring_words.specs.Controlled.{GoesOn}
-use Rattle.ring_table.specs.declared.claim.PlacedMessage.{PlacedMessage}
-use Rattle.ring_table.specs.declared.view.View.{View}
+use Rattle.ring_words.specs.declared.read.end.Stop.{Stop, TheVariants.Block, TheVariants.Unpublished}
+use Rattle.ring_table.specs.declared.{claim.PlacedMessage.PlacedMessage, view.View.View}
 use Rattle.ring_rings.specs.Reading.{Controls, EndsAt, FoundUnsettled, Reads, messages_of}
-use Rattle.ring_handles.specs.declared.batch.Laying.{Laying}
-use Rattle.ring_rings.proofs.ReceivedLemmas.{lengths}
-use Rattle.ring_rings.proofs.SentLemmas.{messages_of-append}
+use Rattle.ring_handles.specs.{declared.batch.Laying.Laying, Side.Reading}
+use Rattle.ring_rings.proofs.{ReceivedLemmas.lengths, SentLemmas.messages_of-append}
 use Rattle.ring_ends.specs.Next.{CameToEnd, HadNone, RanOut, TookNone}
 use Rattle.ring_ends.proofs.EndLemmas.{one_ring}
 use Rattle.ring_ends.proofs.StopLemmas.{blocked_on, both, next_on, none_twice, over, ran_out}
 use Rattle.ring_handles.specs.Batch.{Batch, HasNoRoomAt, IsShort, LaidNone, LaysIn, Lays, LeavesOut, NoMoreCame, ReadBatch, ReadsBatch, ReceivesBatch, TookBatch, TookSome, batch, laid, laid_end, span_in}
-use Rattle.ring_handles.specs.Side.{Reading}
 use Rattle.ring_handles.proofs.ConsumerLemmas.{not_zero, same_digits}
 
 -- these messages were laid after what was used

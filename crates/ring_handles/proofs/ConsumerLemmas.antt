@@ -1,10 +1,8 @@
 -- A consumer in a handle, by what its end's calls say.
 use Rattle.std.proofs.Common.{◌≡◌, ◌≢◌, inl, inr, ℕ, ◌<◌, ℤ, pos, [], ◌∷◌, ◌++◌, arith, take, refl, sym, ap, ◌∙◌}
 use Rattle.ring_rings.specs.Ring.{message}
-use Rattle.ring_ends.specs.declared.copying.NextMessage.{NextMessage}
+use Rattle.ring_ends.specs.{declared.copying.NextMessage.NextMessage, End.received, Next.ReceivesNext}
 use Rattle.ring_ends.specs.declared.copying.NextMessage.TheVariants.{Copied, Nothing, TooLong}
-use Rattle.ring_ends.specs.End.{received}
-use Rattle.ring_ends.specs.Next.{ReceivesNext}
 use Rattle.ring_handles.specs.Consuming.{next_code, next_out, Out, ReceivesOut}
 use Rattle.ring_handles.specs.Side.{Reading}
 

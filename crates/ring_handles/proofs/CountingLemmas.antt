@@ -4,13 +4,10 @@ use base.Stored.{Coded-set}
 use mathlib.Core.HLevel.{is_prop→PathP}
 use Rattle.atomic_table.specs.Seated.{table_id_coded}
 use Rattle.std.specs.Arc.{arc_value}
-use Rattle.ring_counters.specs.declared.fault.IdFault.{IdFault}
-use Rattle.ring_counters.specs.declared.manager.CountersManager.{CountersManager}
+use Rattle.ring_counters.specs.declared.{fault.IdFault.IdFault, manager.CountersManager.CountersManager}
 use Rattle.ring_counters.specs.Manager.{registry_of, shares_of, writes_of, IsManagerOf, SetsValue}
-use Rattle.ring_counters.specs.Registry.{answer, with_value}
-use Rattle.ring_counters.specs.Views.{value_write}
-use Rattle.ring_handles.specs.declared.counters.CountersSide.{CountersSide}
-use Rattle.ring_handles.specs.Counting.{StoresValue}
+use Rattle.ring_counters.specs.{Registry.answer, Registry.with_value, Views.value_write}
+use Rattle.ring_handles.specs.{declared.counters.CountersSide.CountersSide, Counting.StoresValue}
 
 -- what was answered is what was asked
 pub answered : {T : Type 0} (refusal : Option IdFault) (asked x : T) → answer refusal asked ≡ Ok x → asked ≡ x

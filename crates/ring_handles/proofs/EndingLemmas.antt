@@ -1,24 +1,14 @@
 -- What the messages of a ring that ended add up to.
 use Rattle.std.proofs.Common.{◌≡◌, ℕ, ◌+◌, List, ◌++◌, length, length-append, refl, sym, ap, ◌∙◌, arith, Option, Some, None, Result, Ok}
 use Rattle.ring_layout.specs.Refusals.{IsRefusedAs}
-use Rattle.ring_layout.specs.History.{committed_of}
-use Rattle.ring_layout.specs.declared.message.Claim.{Claim}
-use Rattle.ring_layout.specs.declared.message.Message.{Message}
-use Rattle.ring_words.specs.Drain.{AllSettled}
-use Rattle.ring_words.specs.Ring.{Has}
-use Rattle.ring_table.specs.Passing.{placed_committed_of}
-use Rattle.ring_table.specs.Staged.{Bodies, unplaced}
-use Rattle.ring_table.specs.declared.claim.PlacedMessage.{PlacedMessage}
-use Rattle.ring_table.specs.declared.claim.StagedClaim.{StagedClaim}
-use Rattle.ring_table.specs.declared.view.View.{View}
-use Rattle.ring_rings.specs.Closing.{close_refusal_of}
-use Rattle.ring_rings.specs.Reading.{at_rest, messages_of}
-use Rattle.ring_rings.specs.Rescuing.{IsRescued}
-use Rattle.ring_rings.specs.declared.rescue.Rescued.{Rescued}
-use Rattle.ring_rings.proofs.ReceivedLemmas.{lengths}
+use Rattle.ring_layout.specs.{History.committed_of, declared.message.Claim.Claim, declared.message.Message.Message}
+use Rattle.ring_words.specs.{Drain.AllSettled, Ring.Has}
+use Rattle.ring_table.specs.{Passing.placed_committed_of, Staged.Bodies, Staged.unplaced}
+use Rattle.ring_table.specs.declared.{claim.PlacedMessage.PlacedMessage, claim.StagedClaim.StagedClaim, view.View.View}
+use Rattle.ring_rings.{specs.Closing.close_refusal_of, proofs.ReceivedLemmas.lengths}
+use Rattle.ring_rings.specs.{Reading.at_rest, Reading.messages_of, Rescuing.IsRescued, declared.rescue.Rescued.Rescued}
 use Rattle.ring_rings.proofs.SentLemmas.{messages_of-append, placed_committed_of-append}
-use Rattle.ring_service.specs.declared.finishing.fault.FinishFault.{FinishFault}
-use Rattle.ring_service.proofs.FinishLemmas.{all_settled}
+use Rattle.ring_service.{specs.declared.finishing.fault.FinishFault.FinishFault, proofs.FinishLemmas.all_settled}
 use Rattle.ring_handles.specs.Finishing.{LeavesCommitted}
 
 -- if it succeeded there was no refusal

@@ -1,6 +1,5 @@
 -- The machine values of a handle, and what it owns. Assumes `Logic`.
-use Rattle.std.proofs.Common.{◌≡◌, ℕ, List, [], ◌∷◌, ◌++◌, refl, subst, lit<}
-use lib.Dec.{T}
+use Rattle.std.proofs.Common.{◌≡◌, ℕ, List, [], ◌∷◌, ◌++◌, refl, subst, lit<, T}
 use seplogic.Ra.Ura.{Ura}
 use mir.Syntax.{impl, tnil, dnil}
 use mir.Raw.{raw as bare}
@@ -17,20 +16,15 @@ use denote.Memory.{lone}
 use denote.RawPtr.{Ptr, block_ptr, null_ptr, ptr_val, lies_at, Testable}
 use denote.Steps.{nothing}
 use denote.Param.{layout}
-use denote.Struct.Struct.{within}
-use denote.Struct.Owning.{shape, to}
-use Rattle.core.proofs.alloc.Calls.{Al, handle_tells}
-use Rattle.core.proofs.cell.Inside.{Good}
+use denote.Struct.{Struct.within, Owning.shape, Owning.to}
+use Rattle.core.proofs.{alloc.Calls.Al, alloc.Calls.handle_tells, cell.Inside.Good}
 use Rattle.std_alloc.proofs.ResultValues.{and_tt}
-use Rattle.std.proofs.GlobalToken.{dealloc_token-Testable}
-use Rattle.std.specs.declared.option.Option.{Option}
-use Rattle.std.specs.declared.option.Option.TheVariants.{None, Some}
-use Rattle.std.specs.declared.alloc.Global.{Global}
+use Rattle.std.{proofs.GlobalToken.dealloc_token-Testable, specs.declared.alloc.Global.Global}
+use Rattle.std.specs.declared.option.Option.{Option, TheVariants.None, TheVariants.Some}
 use Rattle.std.specs.contracts.alloc.Global as heap
 use Rattle.std.proofs.alloc.Global.TheLaws as heap_laws
 use Rattle.std.specs.contracts.impls.GlobalAllocator.TheImpl.{ghosts}
-use Rattle.ring_handles.proofs.Values.{both}
-use Rattle.ring_handles.specs.Owned.{boxed, handle_owns}
+use Rattle.ring_handles.{proofs.Values.both, specs.Owned.boxed, specs.Owned.handle_owns}
 use Rattle.ring_handles.specs.contracts.held.Held.{the_row as R}
 use Rattle.ring_handles.specs.contracts.handle.Handle as handle
 

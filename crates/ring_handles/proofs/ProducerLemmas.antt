@@ -3,13 +3,10 @@ use Rattle.std.proofs.Common.{◌≡◌, ◌⊎◌, inl, inr, ℕ, ◌+◌, ◌<
 use Rattle.ring_layout.specs.declared.message.ClaimState.{ClaimState}
 use Rattle.ring_words.specs.Open.{ClaimAt}
 use Rattle.ring_rings.specs.Bodies.{PutsBytes}
-use Rattle.ring_ends.specs.Claims.{claim_numbered, without}
-use Rattle.ring_ends.specs.Claiming.{NumberedClaims, Puts, Settles}
-use Rattle.ring_ends.specs.End.{AreOfOneRing, End}
-use Rattle.ring_ends.specs.declared.claiming.NumberFault.{NumberFault}
+use Rattle.ring_ends.specs.{Claims.claim_numbered, Claims.without, declared.claiming.NumberFault.NumberFault}
+use Rattle.ring_ends.specs.{Claiming.NumberedClaims, Claiming.Puts, Claiming.Settles, End.AreOfOneRing, End.End}
 use Rattle.ring_handles.specs.Producing.{holding, number_code, Declined, Put, Settled}
-use Rattle.ring_handles.specs.Side.{knowing, side}
-use Rattle.ring_handles.specs.declared.identity.Identity.{Identity}
+use Rattle.ring_handles.specs.{Side.knowing, Side.side, declared.identity.Identity.Identity}
 
 -- what follows if there is a claim of a number, and if there is none
 of_claim : {A B : Type 0} {P Q : ClaimAt → Type 0} → (A → B) → ((t : ClaimAt) → P t → Q t) → (o : Option ClaimAt)

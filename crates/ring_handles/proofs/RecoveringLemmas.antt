@@ -1,21 +1,14 @@
 -- Messages of a ring whose process died, laid into a buffer.
-use Rattle.std.proofs.Common.{◌≡◌, ℕ, ◌+◌, ◌-◌, ◌*◌, ◌/◌, ◌%◌, ◌≤◌, Bool, true, false, List, [], ◌∷◌, length, arith, refl, sym, ap, subst, ◌≢◌, ℤ, Some, None, Option, Result, Ok, Err}
-use Rattle.std.specs.Prelude.{if◌then◌else◌, nat_lt, not, ◌||◌, ◌==◌}
-use Rattle.std.proofs.lemmas.List.FromFn.{length-map-range_with_len}
-use Rattle.std.proofs.lemmas.Bool.Decides.{nat_tests}
-use Rattle.ring_layout.specs.Layout.{ring_words}
-use Rattle.ring_layout.specs.Lists.{or_else}
-use Rattle.ring_layout.specs.Places.{IsCapacity, rounded}
-use Rattle.ring_layout.specs.Refusals.{IsRefusedBy}
+use Rattle.std.proofs.Common.{◌≡◌, ℕ, ◌+◌, ◌-◌, ◌*◌, ◌/◌, ◌%◌, ◌≤◌, Bool, true, false, List, [], ◌∷◌, length, arith, refl, sym, ap, subst, ◌≢◌, ℤ, Some, None, Option, Result, Ok, Err, if◌then◌else◌, nat_lt, not, ◌||◌, ◌==◌}
+use Rattle.std.proofs.lemmas.{List.FromFn.length-map-range_with_len, Bool.Decides.nat_tests}
+use Rattle.ring_layout.specs.{Layout.ring_words, Lists.or_else, Places.IsCapacity, Places.rounded, Refusals.IsRefusedBy}
 use Rattle.ring_counters.specs.Records.{byte_at}
 use Rattle.ring_snapshot.specs.RingRecords.{is_length, length_in, positions_finding, type_in}
 use Rattle.ring_snapshot.specs.declared.ring_finding.RingFinding.{RingFinding}
 use Rattle.ring_snapshot.specs.declared.ring_finding.RingFinding.TheVariants.{BadBodies, BadLength, BadSize, BadType, TailBeforeHead, TailTooFar, UnalignedPosition}
 use Rattle.ring_recovery.specs.Headers.{all_headers, bytes_in, finding_of, head_of, header_finding, headers_finding, is_committed, is_type, message_at, messages_of, tail_of}
-use Rattle.ring_recovery.specs.Image.{Remains}
-use Rattle.ring_recovery.specs.Recovered.{IsRecoveredOf, Reads, all_placed}
-use Rattle.ring_recovery.specs.declared.message.RecoveredMessage.{RecoveredMessage}
-use Rattle.ring_recovery.specs.declared.recovered.Recovered.{Recovered}
+use Rattle.ring_recovery.specs.{Image.Remains, Recovered.IsRecoveredOf, Recovered.Reads, Recovered.all_placed}
+use Rattle.ring_recovery.specs.declared.{message.RecoveredMessage.RecoveredMessage, recovered.Recovered.Recovered}
 use Rattle.ring_rings.specs.Reading.{messages_of as without_places}
 use Rattle.ring_handles.specs.Batch.{laid_end, span_in}
 use Rattle.ring_handles.specs.Recovering.{Finds, LaysAll, LaysOrFinds, Recovers, Recovery}

@@ -1,7 +1,5 @@
 -- The machine values of a loose box, which are a pointer and its allocator's handle. Assumes `Logic`.
-use Rattle.std.proofs.Common.{◌≡◌, ℕ, List, [], ◌∷◌, ◌++◌, refl, subst}
-use lib.Dec.{T}
-use mathlib.Core.Bool.{true, ◌&&◌}
+use Rattle.std.proofs.Common.{◌≡◌, ℕ, List, [], ◌∷◌, ◌++◌, refl, subst, T, true, ◌&&◌}
 use seplogic.Ra.Ura.{Ura}
 use mir.Syntax.{impl, tnil, dnil}
 use mir.Raw.{raw as bare}
@@ -15,13 +13,10 @@ use denote.Builtin.{RawPtr}
 use denote.Memory.{lone}
 use denote.RawPtr.{Ptr, block_ptr, null_ptr, ptr_val, in_a_block}
 use denote.Steps.{nothing}
-use denote.Param.{layout}
-use denote.Param.Laws.{Laws}
-use denote.Struct.Struct.{within}
-use denote.Struct.Owning.{shape}
+use denote.Param.{layout, Laws.Laws}
+use denote.Struct.{Struct.within, Owning.shape}
 use Rattle.core.specs.declared.alloc.Allocator.{Ghosts}
-use Rattle.core.proofs.alloc.Calls.{Al, handle_tells}
-use Rattle.core.proofs.cell.Inside.{Good}
+use Rattle.core.proofs.{alloc.Calls.Al, alloc.Calls.handle_tells, cell.Inside.Good}
 use Rattle.std.specs.Box.Ownership.{box_owns}
 use Rattle.std_alloc.proofs.ResultValues.{and_tt}
 use Rattle.ring_handles.specs.contracts.loose.Loose as loose

@@ -1,14 +1,11 @@
 -- Batches that a producer writes.
-use Rattle.std.proofs.Common.{◌≡◌, ℕ, ◌+◌, ◌<◌, ◌≤◌, ℤ, pos, ◌-◌, suc, List, [], ◌∷◌, ◌++◌, Bool, length, take, drop, get_or, refl, sym, ap, ◌∙◌, subst, append_assoc, arith, length-append, inl, inr, slice_set}
-use Rattle.std.proofs.lemmas.List.{append-nil, drop_more, length-drop, length-take-le, take-append-drop, take_all, take_more, take_more_set, take_rest}
+use Rattle.std.proofs.Common.{◌≡◌, ℕ, ◌+◌, ◌<◌, ◌≤◌, ℤ, pos, ◌-◌, suc, List, [], ◌∷◌, ◌++◌, Bool, length, take, drop, get_or, refl, sym, ap, ◌∙◌, subst, append_assoc, arith, length-append, inl, inr, slice_set, append-nil, length-drop, length-take-le, take-append-drop, take_all}
+use Rattle.std.proofs.lemmas.List.{drop_more, take_more, take_more_set, take_rest}
 use Rattle.ring_layout.specs.declared.message.Message.{Message}
-use Rattle.ring_table.specs.declared.runs.Outgoing.{Outgoing}
-use Rattle.ring_table.specs.declared.view.View.{View}
+use Rattle.ring_table.{specs.declared.runs.Outgoing.Outgoing, specs.declared.view.View.View, proofs.RunFill.messages_on}
 use Rattle.ring_table.specs.RunBodies.{message_of, messages_of}
-use Rattle.ring_table.proofs.RunFill.{messages_on}
 use Rattle.ring_rings.specs.Ring.{sent_in}
-use Rattle.ring_handles.specs.Batch.{laid_end, span_in}
-use Rattle.ring_handles.specs.Producing.{IsRefused}
+use Rattle.ring_handles.specs.{Batch.laid_end, Batch.span_in, Producing.IsRefused}
 use Rattle.ring_handles.specs.WritingBatch.{AreRecords, Begins, HasRest, IsBatch, IsInside, IsRecord, StopsAt, WritesSome, message_at, word_at}
 
 -- Lists --------------------------------------------------------------------------

@@ -1,12 +1,10 @@
 -- What calls of adders do: p is the adder before, q after, o is another adder, and the code is what is returned.
 use Rattle.std.specs.Prelude.{◌≡◌, ◌≢◌, ◌⊎◌, ℕ, ◌+◌, ◌<◌, ℤ, pos, [], ◌++◌}
 use Rattle.std.specs.Arc.{arc_value}
-use Rattle.ring_layout.specs.Lists.{Begins}
-use Rattle.ring_layout.specs.Refusals.{all_shares}
+use Rattle.ring_layout.specs.{Lists.Begins, Refusals.all_shares}
 use Rattle.ring_adders.specs.Adders.{added_by, seen_by, shares_of, AddsAmount, IsAdderOf, IsNewAdderOf, SeesSum}
 use Rattle.ring_adders.specs.Sums.{sum_of}
-use Rattle.ring_handles.specs.declared.adders.AdderSide.{AdderSide}
-use Rattle.ring_handles.specs.declared.identity.Identity.{Identity}
+use Rattle.ring_handles.specs.declared.{adders.AdderSide.AdderSide, identity.Identity.Identity}
 
 -- it is an adder of the same shared counter, with the same number
 pub record IsOfCounterOf (p q : AdderSide) : Type 0 where

@@ -1,19 +1,13 @@
 -- How messages are laid one after another into a buffer.
 use Rattle.std.specs.Prelude.{◌≡◌, ◌≢◌, ◌⊎◌, ℕ, ◌+◌, ◌*◌, ◌/◌, ◌<◌, ◌≤◌, ℤ, pos, true, false, List, [], ◌∷◌, ◌++◌, length}
 use Rattle.std.specs.Int.{cast_unsigned, to_le_bytes, w64}
-use Rattle.ring_layout.specs.declared.message.Message.{Message}
-use Rattle.ring_layout.specs.History.{overwritten}
-use Rattle.ring_table.specs.declared.claim.PlacedMessage.{PlacedMessage}
-use Rattle.ring_table.specs.declared.view.View.{View}
-use Rattle.ring_words.specs.declared.read.action.Action.{Action}
-use Rattle.ring_words.specs.declared.read.action.Action.TheVariants.{Abort, Continue}
+use Rattle.ring_layout.specs.{declared.message.Message.Message, History.overwritten}
+use Rattle.ring_table.specs.declared.{claim.PlacedMessage.PlacedMessage, view.View.View}
+use Rattle.ring_words.specs.declared.read.action.Action.{Action, TheVariants.Abort, TheVariants.Continue}
 use Rattle.ring_words.specs.declared.read.end.Stop.{Stop}
 use Rattle.ring_rings.specs.Reading.{FoundUnsettled, IsNext, messages_of}
-use Rattle.ring_ends.specs.End.{AreOfOneRing}
-use Rattle.ring_ends.specs.Next.{CameToEnd, HadNone, RanOut, ReadsOn, TookNone}
-use Rattle.ring_handles.specs.Consuming.{ReceivesThose}
-use Rattle.ring_handles.specs.Side.{Reading}
-use Rattle.ring_handles.specs.declared.batch.Laying.{Laying}
+use Rattle.ring_ends.specs.{End.AreOfOneRing, Next.CameToEnd, Next.HadNone, Next.RanOut, Next.ReadsOn, Next.TookNone}
+use Rattle.ring_handles.specs.{Consuming.ReceivesThose, Side.Reading, declared.batch.Laying.Laying}
 
 -- the bytes that a message of n bytes takes: two words, and its own, rounded up to 8
 abbrev pub span_in : ℕ → ℕ

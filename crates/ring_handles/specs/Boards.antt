@@ -3,18 +3,12 @@
 use Rattle.std.specs.Prelude.{◌≡◌, ◌⊎◌, ℕ, ◌/◌, ◌<◌, ◌≤◌, ℤ, pos, List, length, take, MatchOption, Option, None, Some}
 use Rattle.atomic_table.specs.Seated.{TableId}
 use Rattle.ring_layout.specs.History.{overwritten}
-use Rattle.ring_board.specs.declared.board.Board.{Board}
-use Rattle.ring_board.specs.declared.fault.SubscribeFault.TheVariants.{NoShares}
-use Rattle.ring_board.specs.declared.fault.Lapped.{Lapped}
-use Rattle.ring_board.specs.declared.shared.view.View.{View}
-use Rattle.ring_board.specs.Receiving.{GotCopy, GotLapped, GotNothing}
+use Rattle.ring_board.specs.declared.{board.Board.Board, fault.SubscribeFault.TheVariants.NoShares, fault.Lapped.Lapped}
+use Rattle.ring_board.specs.{declared.shared.view.View.View, Seats.next_record, Views.Sat, Views.fewer, Views.newcomer}
+use Rattle.ring_board.specs.{Receiving.GotCopy, Receiving.GotLapped, Receiving.GotNothing, TransmitterSteps.sent_on}
 use Rattle.ring_board.specs.Records.{end_of}
 use Rattle.ring_board.specs.Refusals.{subscribe_refusal_of, transmit_code, transmit_refusal_of}
-use Rattle.ring_board.specs.Seats.{next_record}
-use Rattle.ring_board.specs.Views.{Sat, fewer, newcomer}
-use Rattle.ring_board.specs.TransmitterSteps.{sent_on}
-use Rattle.ring_handles.specs.declared.identity.Identity.{Identity}
-use Rattle.ring_handles.specs.declared.lending.Shared.{Shared}
+use Rattle.ring_handles.specs.declared.{identity.Identity.Identity, lending.Shared.Shared}
 
 -- which board it is
 abbrev pub table_of : Board → TableId

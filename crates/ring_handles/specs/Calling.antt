@@ -3,14 +3,10 @@
 use Rattle.std.specs.Prelude.{◌≡◌, ◌⊎◌, ℕ, ℤ, pos, true}
 use Rattle.std.specs.Arc.{arc_value}
 use Rattle.ring_table.specs.ServiceSteps.{LoadsHeartbeat}
-use Rattle.ring_rings.specs.Claiming.{RefusesTry, Writes, try_code}
-use Rattle.ring_rings.specs.Seats.{capacity_of}
-use Rattle.ring_board.specs.declared.fault.Lapped.{Lapped}
-use Rattle.ring_board.specs.Views.{Sat}
-use Rattle.ring_protocol.specs.declared.reply.Reply.{Reply}
+use Rattle.ring_rings.specs.{Claiming.RefusesTry, Claiming.Writes, Claiming.try_code, Seats.capacity_of}
+use Rattle.ring_board.specs.{declared.fault.Lapped.Lapped, Views.Sat}
+use Rattle.ring_protocol.specs.{declared.reply.Reply.Reply, Command.LentRequest as Request, Reply.type_id_of}
 use Rattle.ring_protocol.specs.declared.reply.Reply.TheVariants.{Allocated, Done, Refused, Closed}
-use Rattle.ring_protocol.specs.Command.{LentRequest as Request}
-use Rattle.ring_protocol.specs.Reply.{type_id_of}
 use Rattle.ring_service.specs.declared.client.Polled.TheVariants as told
 use Rattle.ring_service.specs.declared.client.SendFault.{SendFault}
 use Rattle.ring_service.specs.declared.client.SendFault.TheVariants as fault

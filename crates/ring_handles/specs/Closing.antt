@@ -1,15 +1,12 @@
 -- How a conductor ends.
 use Rattle.std.specs.Prelude.{◌≡◌, ℕ, ℤ, pos, length, MatchOption}
-use Rattle.ring_rings.specs.Seats.{capacity_of, claims_of, start_of}
-use Rattle.ring_rings.specs.declared.ring.Producer.{Producer}
+use Rattle.ring_rings.specs.{Seats.capacity_of, Seats.claims_of, Seats.start_of, declared.ring.Producer.Producer}
 use Rattle.ring_board.specs.Runs.{AreAllRuns}
 use Rattle.ring_service.specs.declared.conductor.Conductor.{Conductor}
 use Rattle.ring_service.specs.Conducting.{manager_in, received_of, ring_view}
 use Rattle.ring_service.specs.Finishing.{finish_code, joined_by, refusal_to, replies_of, IsFoldOfReceived}
-use Rattle.ring_handles.specs.declared.conductor.ConductorSide.{ConductorSide}
-use Rattle.ring_handles.specs.declared.lending.Shared.{Shared}
-use Rattle.ring_handles.specs.Conducting.{shared_by}
-use Rattle.ring_handles.specs.Finishing.{LeavesCommitted, LeavesUnread}
+use Rattle.ring_handles.specs.declared.{conductor.ConductorSide.ConductorSide, lending.Shared.Shared}
+use Rattle.ring_handles.specs.{Conducting.shared_by, Finishing.LeavesCommitted, Finishing.LeavesUnread}
 
 -- This many commands were received, and Unread holds of the number that were left. What was received makes of fresh
 -- counters, each message at a moment, these counters, all value writes and the replies. What each receiver that was

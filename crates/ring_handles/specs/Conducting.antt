@@ -1,30 +1,22 @@
 -- What calls of conductors do: c is the conductor before, d after, and the code is what is returned.
 use Rattle.std.specs.Prelude.{◌≡◌, ◌⊎◌, ◌<◌, ◌≤◌, ◌^◌, ◌&&◌, ℕ, ℤ, pos, [], MatchOption, Option, Some, if◌then◌else◌}
-use Rattle.std.specs.Arc.{arc_value}
-use Rattle.std.specs.Option.{option_map}
-use Rattle.ring_layout.specs.Places.{is_board_capacity, is_capacity}
-use Rattle.ring_layout.specs.Refusals.{all_shares}
+use Rattle.std.specs.{Arc.arc_value, Option.option_map}
+use Rattle.ring_layout.specs.{Places.is_board_capacity, Places.is_capacity, Refusals.all_shares}
 use Rattle.ring_table.specs.Views.{beaten, producer_alone, with_consumer, without_share}
 use Rattle.ring_rings.specs.Opening.{first_consumer, first_producer}
 use Rattle.ring_rings.specs.Seats.{capacity_of, shares_of, start_of, view_of}
-use Rattle.ring_board.specs.declared.fault.SubscribeFault.TheVariants.{NoShares}
-use Rattle.ring_board.specs.Refusals.{subscribe_refusal_of}
-use Rattle.ring_board.specs.Rule.{opening_view}
+use Rattle.ring_board.specs.{declared.fault.SubscribeFault.TheVariants.NoShares, Refusals.subscribe_refusal_of}
+use Rattle.ring_board.specs.{Rule.opening_view, Views.fewer, Views.newcomer}
 use Rattle.ring_board.specs.Seats.{capacity_of as board_capacity_of, start_of as board_start_of}
-use Rattle.ring_board.specs.Views.{fewer, newcomer}
 use Rattle.ring_counters.specs.declared.manager.CountersManager.{CountersManager}
-use Rattle.ring_counters.specs.Codes.{make_code}
+use Rattle.ring_counters.specs.{Codes.make_code, Registry.fresh_registry, Registry.make_refusal_of}
 use Rattle.ring_counters.specs.Manager.{registry_of, writes_of}
-use Rattle.ring_counters.specs.Registry.{fresh_registry, make_refusal_of}
-use Rattle.ring_service.specs.declared.conductor.Work.{Work}
-use Rattle.ring_service.specs.declared.conductor.WorkStop.{WorkStop}
+use Rattle.ring_service.specs.declared.conductor.{Work.Work, WorkStop.WorkStop}
 use Rattle.ring_service.specs.declared.conductor.WorkStop.TheVariants.{Limit, Block, Unpublished, BoardEnd}
 use Rattle.ring_service.specs.Asking.{client_seat, client_view}
 use Rattle.ring_service.specs.Conducting.{board_view, manager_in, ledger_of, ring_view, value_shares_of, KeepsTheRest, KeepsWhatItServes, Works}
-use Rattle.ring_handles.specs.declared.client.ClientSide.{ClientSide}
-use Rattle.ring_handles.specs.declared.conductor.ConductorSide.{ConductorSide}
-use Rattle.ring_handles.specs.declared.identity.Identity.{Identity}
-use Rattle.ring_handles.specs.declared.lending.Shared.{Shared}
+use Rattle.ring_handles.specs.declared.{client.ClientSide.ClientSide, conductor.ConductorSide.ConductorSide}
+use Rattle.ring_handles.specs.declared.{identity.Identity.Identity, lending.Shared.Shared}
 
 -- what a conductor shares with its handles
 abbrev pub shared_by : ConductorSide → Shared

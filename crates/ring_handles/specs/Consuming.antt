@@ -3,10 +3,9 @@ use Rattle.std.specs.Prelude.{◌≡◌, ◌≢◌, ◌⊎◌, ℕ, ℤ, pos, Li
 use Rattle.ring_layout.specs.declared.message.Message.{Message}
 use Rattle.ring_table.specs.Views.{with_beat}
 use Rattle.ring_rings.specs.Ring.{message}
-use Rattle.ring_ends.specs.declared.copying.NextMessage.{NextMessage}
+use Rattle.ring_ends.specs.{declared.copying.NextMessage.NextMessage, Next.CopiesNext, Next.HadNone, Next.TakesNext}
 use Rattle.ring_ends.specs.declared.copying.NextMessage.TheVariants.{Copied, Nothing, TooLong}
 use Rattle.ring_ends.specs.End.{received}
-use Rattle.ring_ends.specs.Next.{CopiesNext, HadNone, TakesNext}
 use Rattle.ring_handles.specs.Side.{ByEnd, Reading}
 
 -- What was received ----------------------------------------------------------------

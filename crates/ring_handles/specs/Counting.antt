@@ -2,14 +2,11 @@
 use Rattle.std.specs.Prelude.{◌≡◌, ◌≢◌, ◌⊎◌, ◌<◌, ◌≤◌, ◌^◌, ℕ, ℤ, pos, Bool, true, false, List, [], ◌∷◌, ◌++◌, length, Option, Some, None, Ok, Err}
 use Rattle.std.specs.Arc.{arc_value}
 use Rattle.ring_layout.specs.History.{overwritten}
-use Rattle.ring_counters.specs.declared.fault.AllocateRefused.{AllocateRefused}
-use Rattle.ring_counters.specs.declared.fault.IdFault.{IdFault}
-use Rattle.ring_counters.specs.declared.manager.CountersManager.{CountersManager}
+use Rattle.ring_counters.specs.declared.fault.{AllocateRefused.AllocateRefused, IdFault.IdFault}
+use Rattle.ring_counters.specs.{declared.manager.CountersManager.CountersManager, Codes.allocate_code, Codes.id_code}
 use Rattle.ring_counters.specs.Available.{available_in, has_value}
-use Rattle.ring_counters.specs.Codes.{allocate_code, id_code}
-use Rattle.ring_counters.specs.Manager.{registry_of, shares_of, writes_of}
+use Rattle.ring_counters.specs.{Manager.registry_of, Manager.shares_of, Manager.writes_of, Views.value_write}
 use Rattle.ring_counters.specs.Registry.{Registry, allocated_in, allocation_of, answer, closed_in, counter_at, count_of, id_refusal_of, is_raised_by, new_counter, owned_ids, range_refusal_of, reclaimed_in, registered_id, value_at, value_plus, with_value}
-use Rattle.ring_counters.specs.Views.{value_write}
 use Rattle.ring_handles.specs.declared.counters.CountersSide.{CountersSide}
 
 -- the id is refused, and nothing changed

@@ -2,15 +2,10 @@
 -- returned.
 use Rattle.std.specs.Prelude.{◌≡◌, ◌≢◌, ◌⊎◌, ℕ, ℤ, pos, List, ◌++◌, length, MatchOption, None, Some, IsSome}
 use Rattle.ring_layout.specs.declared.message.Message.{Message}
-use Rattle.ring_table.specs.OpenClaims.{open_count}
-use Rattle.ring_table.specs.Owners.{OwnedHistory, all_of, owned_by}
-use Rattle.ring_table.specs.Passing.{placed_committed_of}
-use Rattle.ring_table.specs.Views.{with_consumer_of}
-use Rattle.ring_table.specs.declared.claim.PlacedMessage.{PlacedMessage}
-use Rattle.ring_table.specs.declared.claim.StagedClaim.{StagedClaim}
-use Rattle.ring_table.specs.declared.view.View.{View}
-use Rattle.ring_rings.specs.Closing.{close_code, AreOrdered}
-use Rattle.ring_rings.specs.Reading.{messages_of}
+use Rattle.ring_table.specs.{OpenClaims.open_count, Views.with_consumer_of}
+use Rattle.ring_table.specs.{Owners.OwnedHistory, Owners.all_of, Owners.owned_by, Passing.placed_committed_of}
+use Rattle.ring_table.specs.declared.{claim.PlacedMessage.PlacedMessage, claim.StagedClaim.StagedClaim, view.View.View}
+use Rattle.ring_rings.specs.{Closing.close_code, Closing.AreOrdered, Reading.messages_of}
 use Rattle.ring_handles.specs.Side.{Reading, Side, close_refusal}
 
 -- Closing ------------------------------------------------------------------------

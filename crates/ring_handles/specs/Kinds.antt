@@ -1,17 +1,11 @@
 -- What a handle holds, if it is of one kind.
 use Rattle.std.specs.Prelude.{ℕ, MatchOption}
-use Rattle.std.specs.declared.option.Option.{Option}
-use Rattle.std.specs.declared.option.Option.TheVariants.{None, Some}
-use Rattle.ring_handles.specs.declared.adders.AdderSide.{AdderSide}
-use Rattle.ring_handles.specs.declared.client.ClientSide.{ClientSide}
-use Rattle.ring_handles.specs.declared.conductor.ConductorSide.{ConductorSide}
-use Rattle.ring_handles.specs.declared.counters.CountersSide.{CountersSide}
-use Rattle.ring_handles.specs.declared.counters.ReaderSide.{ReaderSide}
-use Rattle.ring_handles.specs.declared.held.Held.{Held}
+use Rattle.std.specs.declared.option.Option.{Option, TheVariants.None, TheVariants.Some}
+use Rattle.ring_handles.specs.{declared.adders.AdderSide.AdderSide, declared.held.Held.Held, Side.Reading, Side.Side}
+use Rattle.ring_handles.specs.declared.{client.ClientSide.ClientSide, conductor.ConductorSide.ConductorSide}
+use Rattle.ring_handles.specs.declared.counters.{CountersSide.CountersSide, ReaderSide.ReaderSide}
 use Rattle.ring_handles.specs.declared.held.Held.TheVariants.{Producer, Consumer, Transmitter, Receiver, RawReceiver, Counters, Reader, Adder, Conductor, Client}
-use Rattle.ring_handles.specs.Boards.{Listening, Sending}
-use Rattle.ring_handles.specs.Raw.{Watching}
-use Rattle.ring_handles.specs.Side.{Reading, Side}
+use Rattle.ring_handles.specs.{Boards.Listening, Boards.Sending, Raw.Watching}
 
 abbrev pub a_producer : Held → Option Side
 a_producer (Producer p) = Some p

@@ -2,13 +2,10 @@
 -- is what is returned.
 use Rattle.std.specs.Prelude.{◌≡◌, ◌⊎◌, ◌<◌, ◌≤◌, ℕ, ◌+◌, ℤ, pos, [], ◌∷◌, ◌++◌, None}
 use Rattle.std.specs.Arc.{arc_value}
-use Rattle.ring_counters.specs.Manager.{registry_of, shares_of, writes_of}
-use Rattle.ring_counters.specs.Seats.{loads_of, made_of, seen_by, values_count}
+use Rattle.ring_counters.specs.{Manager.registry_of, Manager.shares_of, Manager.writes_of, ValueWrites.value_after}
+use Rattle.ring_counters.specs.{Seats.loads_of, Seats.made_of, Seats.seen_by, Seats.values_count, Views.value_load}
 use Rattle.ring_layout.specs.Lists.{Begins}
-use Rattle.ring_counters.specs.ValueWrites.{value_after}
-use Rattle.ring_counters.specs.Views.{value_load}
-use Rattle.ring_handles.specs.declared.counters.CountersSide.{CountersSide}
-use Rattle.ring_handles.specs.declared.counters.ReaderSide.{ReaderSide}
+use Rattle.ring_handles.specs.declared.counters.{CountersSide.CountersSide, ReaderSide.ReaderSide}
 use Rattle.ring_handles.specs.Serving.{conductor_of, values_in}
 
 -- a share was moved to a reader of these counters, with their number, which has seen every write so far

@@ -1,24 +1,18 @@
 -- What is made for handles: a new ring, broadcast buffer, counters, shared counter or conductor, and the code if it is
 -- refused.
 use Rattle.std.specs.Prelude.{◌≡◌, ◌⊎◌, ℕ, ℤ, pos, [], MatchOption, Bool}
-use Rattle.std.specs.declared.option.Option.{Option}
-use Rattle.std.specs.declared.option.Option.TheVariants.{None}
+use Rattle.std.specs.declared.option.Option.{Option, TheVariants.None}
 use Rattle.ring_layout.specs.Places.{is_board_capacity, is_capacity}
 use Rattle.ring_layout.specs.Refusals.{all_shares, make_code, make_refusal_of}
 use Rattle.ring_table.specs.declared.view.View.{View}
 use Rattle.ring_rings.specs.Opening.{first_consumer, first_producer}
 use Rattle.ring_board.specs.Rule.{opening_view}
 use Rattle.ring_counters.specs.Manager.{registry_of, shares_of, writes_of}
-use Rattle.ring_counters.specs.Registry.{fresh_registry}
-use Rattle.ring_counters.specs.Registry.{make_refusal_of as counters_refusal_of}
+use Rattle.ring_counters.specs.Registry.{fresh_registry, make_refusal_of as counters_refusal_of}
 use Rattle.ring_counters.specs.Codes.{make_code as counters_code}
-use Rattle.ring_handles.specs.declared.counters.CountersSide.{CountersSide}
-use Rattle.ring_handles.specs.declared.held.Held.{Held}
-use Rattle.ring_handles.specs.declared.identity.Identity.{Identity}
-use Rattle.ring_handles.specs.Adding.{IsFirst}
-use Rattle.ring_handles.specs.Conducting.{IsNewConductor}
+use Rattle.ring_handles.specs.declared.{counters.CountersSide.CountersSide, held.Held.Held, identity.Identity.Identity}
+use Rattle.ring_handles.specs.{Adding.IsFirst, Conducting.IsNewConductor, Side.Reading, Side.Side}
 use Rattle.ring_handles.specs.Kinds.{a_conductor, a_consumer, a_producer, a_transmitter, an_adder, some_counters, HoldsOne}
-use Rattle.ring_handles.specs.Side.{Reading, Side}
 
 -- Rings -------------------------------------------------------------------------
 

@@ -2,19 +2,13 @@
 use Rattle.std.specs.Prelude.{◌≡◌, ◌≢◌, ◌⊎◌, ℕ, ◌+◌, ◌<◌, ℤ, pos, List, [], ◌∷◌, ◌++◌, length, MatchOption, Bool, true, false, Result, Ok, Err}
 use Rattle.ring_layout.specs.declared.message.ClaimState.{ClaimState}
 use Rattle.ring_words.specs.Open.{ClaimAt}
-use Rattle.ring_rings.specs.declared.fault.TryFault.{TryFault}
-use Rattle.ring_table.specs.declared.claim.Stage.TheVariants.{Stored}
-use Rattle.ring_table.specs.declared.view.View.{View}
-use Rattle.ring_table.specs.Changes.{changed, staged}
-use Rattle.ring_table.specs.ServiceSteps.{DrawsId, LoadsHeartbeat}
+use Rattle.ring_rings.specs.{declared.fault.TryFault.TryFault, Joining.Joins, Joining.LoadsPositions}
+use Rattle.ring_table.specs.declared.{claim.Stage.TheVariants.Stored, view.View.View}
+use Rattle.ring_table.specs.{Changes.changed, Changes.staged, ServiceSteps.DrawsId, ServiceSteps.LoadsHeartbeat}
 use Rattle.ring_table.specs.Views.{producer_alone, with_claims, without_share}
-use Rattle.ring_rings.specs.Bodies.{PutsBytes}
-use Rattle.ring_rings.specs.Claiming.{Claims, RefusesTry, Writes}
-use Rattle.ring_rings.specs.Joining.{Joins, LoadsPositions}
-use Rattle.ring_rings.specs.Claiming.{try_code}
+use Rattle.ring_rings.specs.{Bodies.PutsBytes, Claiming.Claims, Claiming.RefusesTry, Claiming.Writes, Claiming.try_code}
 use Rattle.ring_ends.specs.Claims.{aborted, claim_numbered, without}
-use Rattle.ring_ends.specs.declared.claiming.NumberFault.{NumberFault}
-use Rattle.ring_ends.specs.declared.claiming.NumberFault.TheVariants.{NoClaim, PutRange}
+use Rattle.ring_ends.specs.declared.claiming.NumberFault.{NumberFault, TheVariants.NoClaim, TheVariants.PutRange}
 use Rattle.ring_handles.specs.Side.{Side, knowing}
 
 -- it was refused with this number, and nothing changed

@@ -2,12 +2,10 @@
 use Rattle.std.specs.Prelude.{◌≡◌, ◌⊎◌, ℕ, ◌<◌, ◌≤◌, ℤ, pos, Bool, true, List, length, take, drop, MatchOption, Option, None, Some, IsSome, if◌then◌else◌}
 use Rattle.atomic_table.specs.Seated.{TableId}
 use Rattle.ring_layout.specs.Refusals.{share_refusal_of}
-use Rattle.ring_board.specs.declared.board.RawRecord.{RawRecord}
-use Rattle.ring_board.specs.declared.fault.Lapped.{Lapped}
-use Rattle.ring_board.specs.Bodies.{GaveBody, IsRight, Validated}
+use Rattle.ring_board.specs.declared.{board.RawRecord.RawRecord, fault.Lapped.Lapped}
+use Rattle.ring_board.specs.{Bodies.GaveBody, Bodies.IsRight, Bodies.Validated, Views.Sat, Views.fewer, Views.newcomer}
 use Rattle.ring_board.specs.Receiving.{GotLapped, GotNothing, GotRecord}
 use Rattle.ring_board.specs.Seats.{len_of, place_of, type_id_of}
-use Rattle.ring_board.specs.Views.{Sat, fewer, newcomer}
 use Rattle.ring_handles.specs.Boards.{LapOut, Sending, TellsLap, knowing}
 use Rattle.ring_handles.specs.declared.identity.Identity.{Identity}
 

@@ -1,15 +1,11 @@
 -- What a call puts out about the memory that a ring left.
 use Rattle.std.specs.Prelude.{◌≡◌, ◌≢◌, ◌⊎◌, ℕ, ◌*◌, ◌<◌, ◌≤◌, ℤ, pos, List, length, MatchOption, Option}
 use Rattle.std.specs.Int.{cast_signed, w64}
-use Rattle.ring_layout.specs.Layout.{ring_words}
-use Rattle.ring_layout.specs.Places.{IsCapacity}
-use Rattle.ring_layout.specs.declared.message.Message.{Message}
+use Rattle.ring_layout.specs.{Layout.ring_words, Places.IsCapacity, declared.message.Message.Message}
 use Rattle.ring_snapshot.specs.declared.ring_finding.RingFinding.{RingFinding}
 use Rattle.ring_snapshot.specs.declared.ring_finding.RingFinding.TheVariants.{BadBodies, BadLength, BadSize, BadType, OutsideOfRecords, TailBeforeHead, TailTooFar, UnalignedPosition}
-use Rattle.ring_recovery.specs.Headers.{finding_of}
-use Rattle.ring_recovery.specs.Image.{Remains}
+use Rattle.ring_recovery.specs.{Headers.finding_of, Image.Remains, declared.recovered.Recovered.Recovered}
 use Rattle.ring_recovery.specs.Recovered.{IsRecoveredOf, Reads, all_placed, messages_left}
-use Rattle.ring_recovery.specs.declared.recovered.Recovered.{Recovered}
 use Rattle.ring_rings.specs.Reading.{messages_of}
 use Rattle.ring_handles.specs.Batch.{Batch, batch, laid, laid_end}
 

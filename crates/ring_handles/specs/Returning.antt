@@ -3,16 +3,11 @@
 use Rattle.std.specs.Prelude.{◌≡◌, ◌≢◌, ℕ, ◌+◌, ℤ, pos, MatchOption, None}
 use Rattle.std.specs.Arc.{arc_value}
 use Rattle.atomic_table.specs.Seated.{TableId}
-use Rattle.ring_board.specs.Closing.{close_refusal_of}
-use Rattle.ring_board.specs.Runs.{AreAllRuns, AreRuns}
-use Rattle.ring_board.specs.Views.{Sat, joined}
-use Rattle.ring_counters.specs.Manager.{registry_of, shares_of, writes_of}
+use Rattle.ring_board.specs.{Closing.close_refusal_of, Runs.AreAllRuns, Runs.AreRuns, Views.Sat, Views.joined}
+use Rattle.ring_counters.specs.{Manager.registry_of, Manager.shares_of, Manager.writes_of, ValueWrites.AreLoads}
 use Rattle.ring_counters.specs.Seats.{loads_of, made_of}
-use Rattle.ring_counters.specs.ValueWrites.{AreLoads}
-use Rattle.ring_handles.specs.declared.counters.CountersSide.{CountersSide}
-use Rattle.ring_handles.specs.declared.counters.ReaderSide.{ReaderSide}
-use Rattle.ring_handles.specs.Boards.{knowing, tail_in, Listening, Sending}
-use Rattle.ring_handles.specs.Raw.{Watching}
+use Rattle.ring_handles.specs.declared.counters.{CountersSide.CountersSide, ReaderSide.ReaderSide}
+use Rattle.ring_handles.specs.{Boards.knowing, Boards.tail_in, Boards.Listening, Boards.Sending, Raw.Watching}
 use Rattle.ring_handles.specs.Serving.{conductor_of, values_in}
 
 -- Receivers ----------------------------------------------------------------------

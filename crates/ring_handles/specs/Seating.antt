@@ -2,25 +2,17 @@
 -- reader, and the code is what is returned.
 use Rattle.std.specs.Prelude.{◌≡◌, ◌⊎◌, ◌≤◌, ◌+◌, ℤ, pos, [], IfSome, Option, None, Some}
 use Rattle.std.specs.Arc.{arc_value}
-use Rattle.ring_rings.specs.Joining.{Joins}
-use Rattle.ring_rings.specs.Seats.{capacity_of as ring_bytes, view_of}
-use Rattle.ring_board.specs.declared.fault.SubscribeFault.TheVariants.{NoShares}
-use Rattle.ring_board.specs.Refusals.{subscribe_refusal_of}
-use Rattle.ring_board.specs.Runs.{AreRuns}
-use Rattle.ring_board.specs.Seats.{capacity_of}
-use Rattle.ring_board.specs.Views.{Sat, fewer, joined, newcomer}
-use Rattle.ring_counters.specs.Manager.{registry_of, writes_of}
-use Rattle.ring_counters.specs.Seats.{loads_of, made_of, seen_by}
+use Rattle.ring_rings.specs.{Joining.Joins, Seats.capacity_of as ring_bytes, Seats.view_of}
+use Rattle.ring_board.specs.{declared.fault.SubscribeFault.TheVariants.NoShares, Runs.AreRuns, Seats.capacity_of}
+use Rattle.ring_board.specs.{Refusals.subscribe_refusal_of, Views.Sat, Views.fewer, Views.joined, Views.newcomer}
+use Rattle.ring_counters.specs.{Manager.registry_of, Manager.writes_of, Seats.loads_of, Seats.made_of, Seats.seen_by}
 use Rattle.ring_counters.specs.ValueWrites.{AreLoads}
 use Rattle.ring_service.specs.Asking.{client_seat, client_view}
 use Rattle.ring_service.specs.Conducting.{board_view, manager_in, value_shares_of, KeepsSeats, KeepsTheRest}
-use Rattle.ring_handles.specs.declared.client.ClientSide.{ClientSide}
-use Rattle.ring_handles.specs.declared.conductor.ConductorSide.{ConductorSide}
-use Rattle.ring_handles.specs.declared.counters.ReaderSide.{ReaderSide}
-use Rattle.ring_handles.specs.declared.lending.Shared.{Shared}
-use Rattle.ring_handles.specs.Boards.{table_of, Listening}
+use Rattle.ring_handles.specs.declared.{client.ClientSide.ClientSide, lending.Shared.Shared}
+use Rattle.ring_handles.specs.declared.{conductor.ConductorSide.ConductorSide, counters.ReaderSide.ReaderSide}
+use Rattle.ring_handles.specs.{Boards.table_of, Boards.Listening, Serving.conductor_of, Serving.IsNumberedOtherwise}
 use Rattle.ring_handles.specs.Conducting.{shared_by, KeepsProducer}
-use Rattle.ring_handles.specs.Serving.{conductor_of, IsNumberedOtherwise}
 
 -- Lending ------------------------------------------------------------------------
 

@@ -3,10 +3,8 @@ use Rattle.std.specs.Prelude.{◌≡◌, ◌≢◌, IfSome, MatchOption, Option,
 use Rattle.std.specs.Arc.{arc_value}
 use Rattle.ring_board.specs.declared.board.Board.{Board}
 use Rattle.ring_counters.specs.declared.values.seats.CounterValues.{CounterValues}
-use Rattle.ring_handles.specs.declared.identity.Identity.{Identity}
-use Rattle.ring_handles.specs.declared.lending.Shared.{Shared}
-use Rattle.ring_handles.specs.declared.lending.Lender.{Lender}
-use Rattle.ring_handles.specs.declared.lending.Lender.TheVariants.{Own, Lent}
+use Rattle.ring_handles.specs.declared.{identity.Identity.Identity, lending.Shared.Shared}
+use Rattle.ring_handles.specs.declared.lending.Lender.{Lender, TheVariants.Own, TheVariants.Lent}
 
 -- the broadcast buffer of a receiver
 abbrev pub board_in : Lender Board → Board

@@ -1,19 +1,14 @@
 -- A producer or a consumer with its ring, of either kind.
 use Rattle.std.specs.Prelude.{◌≡◌, ℕ, List, Bool, true, false, Option, None, Some}
 use Rattle.atomic_table.specs.Seated.{TableId}
-use Rattle.ring_table.specs.OpenClaims.{open_count}
-use Rattle.ring_table.specs.declared.view.View.{View}
+use Rattle.ring_table.specs.{OpenClaims.open_count, declared.view.View.View}
 use Rattle.ring_words.specs.Open.{ClaimAt}
 use Rattle.ring_rings.specs.Closing.{close_refusal_of}
-use Rattle.ring_rings.specs.declared.fault.CloseFault.{CloseFault}
-use Rattle.ring_rings.specs.declared.ring.Producer.{Producer}
-use Rattle.ring_rings.specs.Seats.{view_of}
+use Rattle.ring_rings.specs.{declared.fault.CloseFault.CloseFault, declared.ring.Producer.Producer, Seats.view_of}
 use Rattle.ring_handles.specs.declared.identity.Identity.{Identity}
-use Rattle.ring_ends.specs.Claiming.{NumberedClaims}
-use Rattle.ring_ends.specs.End.{Does, End, IsOfEnd}
-use Rattle.ring_handles.specs.declared.ring.AnyProducer.{AnyProducer}
+use Rattle.ring_ends.specs.{Claiming.NumberedClaims, End.Does, End.End, End.IsOfEnd}
+use Rattle.ring_handles.specs.declared.ring.{AnyProducer.AnyProducer, AnyConsumer.AnyConsumer}
 use Rattle.ring_handles.specs.declared.ring.AnyProducer.TheVariants as any
-use Rattle.ring_handles.specs.declared.ring.AnyConsumer.{AnyConsumer}
 use Rattle.ring_handles.specs.declared.ring.AnyConsumer.TheVariants as reader
 
 -- Numbers --------------------------------------------------------------------------

@@ -3,11 +3,8 @@ use Rattle.std.specs.Prelude.{◌≡◌, ◌⊎◌, ℕ, ◌+◌, ◌/◌, ◌^�
 use Rattle.std.specs.Int.{from_le_bytes, w64}
 use Rattle.ring_layout.specs.declared.message.Message.{Message}
 use Rattle.ring_table.specs.declared.view.View.{View}
-use Rattle.ring_rings.specs.Ring.{sent_in}
-use Rattle.ring_rings.specs.Seats.{OpensNoneAt}
-use Rattle.ring_handles.specs.Batch.{laid_end, span_in}
-use Rattle.ring_handles.specs.Producing.{IsRefused}
-use Rattle.ring_handles.specs.Side.{Side, knowing}
+use Rattle.ring_rings.specs.{Ring.sent_in, Seats.OpensNoneAt}
+use Rattle.ring_handles.specs.{Batch.laid_end, Batch.span_in, Producing.IsRefused, Side.Side, Side.knowing}
 
 -- Records ------------------------------------------------------------------------
 

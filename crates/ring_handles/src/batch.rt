@@ -2,8 +2,7 @@
 ghost use Rattle.std.specs.Prelude.{◌≡◌, ◌≢◌, ◌+◌, ◌^◌, ◌<◌, ◌≤◌, true, false, length};
 ghost use Rattle.ring_layout.specs.declared.message.Message.{Message};
 ghost use Rattle.ring_handles.specs.Batch.{batch, headed, placed, span_in, LaidNone, Lays, ReadBatch, ReadsBatch, ReceivesBatch, TookBatch, TookSome};
-ghost use Rattle.ring_ends.specs.End.{AreOfOneRing};
-ghost use Rattle.ring_ends.specs.Next.{RanOut, ReadsOn};
+ghost use Rattle.ring_ends.specs.{End.AreOfOneRing, Next.RanOut, Next.ReadsOn};
 
 use crate::code::{DONE, NO_MESSAGE, SHORT_BUFFER};
 use crate::consumer::ConsumerSide;

@@ -53,8 +53,7 @@ pub struct ReceiverSide {
 
 impl Model for ReceiverSide {
     ghost use Rattle.ring_board.specs.Seats.{capacity_of, receiver_seat, IsReceiverOf};
-    ghost use Rattle.ring_handles.specs.Boards.{table_of, Listening};
-    ghost use Rattle.ring_handles.specs.Serving.{board_in, conductor_of};
+    ghost use Rattle.ring_handles.specs.{Boards.table_of, Boards.Listening, Serving.board_in, Serving.conductor_of};
 
     ghost Value = { Listening };
 

@@ -2,8 +2,7 @@
 ghost use Rattle.std.specs.Prelude.{◌≡◌};
 ghost use Rattle.ring_layout.specs.declared.message.ClaimState.TheVariants.{Aborted, Committed};
 ghost use Rattle.ring_handles.specs.Producing.{number_code, Claimed, Put, Settled, Wrote};
-ghost use Rattle.ring_handles.specs.Side.{side};
-ghost use Rattle.ring_handles.specs.declared.identity.Identity.{Identity};
+ghost use Rattle.ring_handles.specs.{Side.side, declared.identity.Identity.Identity};
 
 use crate::code::{DONE, NO_CLAIM, OUT_OF_MEMORY, PUT_RANGE};
 use ring_ends::{ClaimRefused, NumberFault, NumberedEnd};

@@ -1,13 +1,10 @@
 //! How a ring that is no conductor's ends, also if producers are lost.
 ghost use Rattle.std.specs.Prelude.{◌≡◌, IfErr, IfOk, MatchOption, MatchResult, None, OnOk};
-ghost use Rattle.ring_table.specs.OpenClaims.{open_count};
-ghost use Rattle.ring_table.specs.Views.{with_consumer_of};
-ghost use Rattle.ring_rings.specs.Closing.{close_code, IsRefusedAs};
+ghost use Rattle.ring_table.specs.{OpenClaims.open_count, Views.with_consumer_of};
+ghost use Rattle.ring_rings.specs.{Closing.close_code, Closing.IsRefusedAs, Seats.IsConsumerOf, Seats.IsProducerOf};
 ghost use Rattle.ring_rings.specs.Seats.{capacity_of, claims_of, consumer_view, start_of, view_of};
-ghost use Rattle.ring_rings.specs.Seats.{IsConsumerOf, IsProducerOf};
 ghost use Rattle.ring_handles.specs.Finishing.{Finishes, IsNotLast, IsUnfinished, LeavesCommitted, LeavesUnread};
-ghost use Rattle.ring_handles.specs.Finishing.{TakesLast};
-ghost use Rattle.ring_handles.specs.Side.{close_refusal, IsOfThisRing};
+ghost use Rattle.ring_handles.specs.{Finishing.TakesLast, Side.close_refusal, Side.IsOfThisRing};
 
 use crate::code::{CLAIMS_OPEN, IN_USE, OTHER_RING, PRODUCERS_OUT};
 use crate::consumer::ConsumerSide;

@@ -1,8 +1,7 @@
 //! Counters in a handle.
 ghost use Rattle.std.specs.Prelude.{◌≡◌};
 ghost use Rattle.std.specs.Arc.{arc_value};
-ghost use Rattle.ring_counters.specs.Manager.{IsManagerOf};
-ghost use Rattle.ring_counters.specs.Seats.{IsReaderOf};
+ghost use Rattle.ring_counters.specs.{Manager.IsManagerOf, Seats.IsReaderOf};
 ghost use Rattle.ring_handles.specs.Serving.{values_in};
 
 use crate::identity::Identity;

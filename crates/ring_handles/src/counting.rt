@@ -1,7 +1,6 @@
 //! What a handle's counters do.
 ghost use Rattle.std.specs.Prelude.{◌≡◌, pos, negsuc};
-ghost use Rattle.ring_counters.specs.Registry.{counter_at};
-ghost use Rattle.ring_counters.specs.Counter.{deadline_of, state_of};
+ghost use Rattle.ring_counters.specs.{Registry.counter_at, Counter.deadline_of, Counter.state_of};
 ghost use Rattle.ring_handles.specs.Counting.{label_out, Asked, Asks, OwnerClosed, TellsAvailable, TellsCount, TellsFound};
 ghost use Rattle.ring_handles.specs.Counting.{TellsKey, TellsLabel, TellsOfRecord, WasAdded, WasAllocated, WasCompared};
 ghost use Rattle.ring_handles.specs.Counting.{WasFound, WasFreed, WasProposed, WasReplaced, WasSet};

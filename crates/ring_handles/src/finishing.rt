@@ -1,8 +1,7 @@
 //! How a conductor in a handle ends, also if clients and receivers are lost.
 ghost use Rattle.std.specs.Prelude.{◌≡◌, IfErr, IfOk, None};
 ghost use Rattle.ring_rings.specs.Closing.{IsRefusedAs};
-ghost use Rattle.ring_rings.specs.Seats.{capacity_of, claims_of, open_claims_of, start_of};
-ghost use Rattle.ring_rings.specs.Seats.{IsConsumerOf, IsProducerOf};
+ghost use Rattle.ring_rings.specs.Seats.{capacity_of, claims_of, open_claims_of, start_of, IsConsumerOf, IsProducerOf};
 ghost use Rattle.ring_service.specs.Conducting.{received_of, ring_view, IsConductorOf};
 ghost use Rattle.ring_service.specs.Finishing.{finish_code, refusal_to};
 ghost use Rattle.ring_handles.specs.Closing.{Concludes, EndsWith, TellsEnd, WhyNotFinished};

@@ -1,11 +1,8 @@
 //! What C keeps: a pointer that owns what it points to, or null.
 ghost use Rattle.std.specs.Prelude.{◌≡◌, ◌≢◌, pos, true, false, MatchResult};
-ghost use Rattle.std.specs.Option.{MatchOption as IfOption};
-ghost use Rattle.std.specs.declared.option.Option.{Option as Maybe};
-ghost use Rattle.std.specs.declared.option.Option.TheVariants.{None, Some};
-ghost use Rattle.std.specs.Coded.{coded_option};
-ghost use Rattle.ring_handles.specs.Owned.{handle_owns};
-ghost use Rattle.ring_handles.specs.declared.held.Held.{Held as Kept};
+ghost use Rattle.std.specs.{Option.MatchOption as IfOption, Coded.coded_option};
+ghost use Rattle.std.specs.declared.option.Option.{Option as Maybe, TheVariants.None, TheVariants.Some};
+ghost use Rattle.ring_handles.specs.{Owned.handle_owns, declared.held.Held.Held as Kept};
 ghost use Rattle.ring_handles.specs.contracts.held.Held.{the_row};
 
 use crate::code::DONE;

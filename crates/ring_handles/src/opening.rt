@@ -3,9 +3,8 @@ ghost use Rattle.std.specs.Prelude.{◌≡◌, ◌≢◌, [], pos, true, false, 
 ghost use Rattle.std.specs.declared.option.Option.TheVariants.{Some};
 ghost use Rattle.ring_ends.specs.End.{AreOfOneRing};
 ghost use Rattle.ring_handles.specs.Conducting.{IsConductorCode};
-ghost use Rattle.ring_handles.specs.Opening.{HoldFirstAdder, HoldFresh, HoldFreshCounters, HoldNewBoard};
+ghost use Rattle.ring_handles.specs.Opening.{HoldFirstAdder, HoldFresh, HoldFreshCounters, HoldNewBoard, IsMakeCode};
 ghost use Rattle.ring_handles.specs.Opening.{HoldNewConductor, HoldPair, IsAdderCode, IsBoardCode, IsCountersCode};
-ghost use Rattle.ring_handles.specs.Opening.{IsMakeCode};
 ghost use Rattle.ring_handles.specs.Side.{consumer_in, numbered_in, IsOfKind, IsReaderOfKind};
 
 use crate::adders::AdderSide;

@@ -28,8 +28,7 @@ impl Model for RawReceiverSide {
     ghost use Rattle.std.specs.Arc.{arc_value};
     ghost use Rattle.std.specs.Prelude.{IfSome};
     ghost use Rattle.ring_board.specs.Seats.{capacity_of, raw_seat, raw_view, IsAnsweredRecord, IsRawOf};
-    ghost use Rattle.ring_handles.specs.Boards.{table_of};
-    ghost use Rattle.ring_handles.specs.Raw.{Watching};
+    ghost use Rattle.ring_handles.specs.{Boards.table_of, Raw.Watching};
 
     ghost Value = { Watching };
 

@@ -1,7 +1,6 @@
 //! The messages of a ring whose process died, laid into a buffer.
 ghost use Rattle.std.specs.Prelude.{◌≡◌, ℕ, ◌+◌, ◌*◌, ◌≤◌, ℤ, length};
-ghost use Rattle.ring_layout.specs.History.{overwritten};
-ghost use Rattle.ring_layout.specs.declared.message.Message.{Message};
+ghost use Rattle.ring_layout.specs.{History.overwritten, declared.message.Message.Message};
 ghost use Rattle.ring_recovery.specs.Recovered.{messages_left};
 ghost use Rattle.ring_handles.specs.Batch.{batch, laid, laid_end, placed, span_in, Batch};
 ghost use Rattle.ring_handles.specs.Recovering.{recovery, still_to_come, Finds, LaysAll, Recovers};

@@ -1,12 +1,9 @@
 //! Batches that a producer writes, from bytes in which their messages lie one after another.
 ghost use Rattle.std.specs.Prelude.{◌≡◌, ℕ, ◌+◌, ◌*◌, ◌^◌, ◌≤◌, ◌<◌, ◌++◌, IfErr, IfOk, List, OnOk, length, take as first_of};
 ghost use Rattle.ring_layout.specs.declared.message.Message.{Message};
-ghost use Rattle.ring_ends.specs.Claiming.{KeepsNumbered};
-ghost use Rattle.ring_ends.specs.End.{sent};
-ghost use Rattle.ring_handles.specs.Batch.{span_in};
-ghost use Rattle.ring_handles.specs.Side.{side};
+ghost use Rattle.ring_ends.specs.{Claiming.KeepsNumbered, End.sent};
+ghost use Rattle.ring_handles.specs.{Batch.span_in, Side.side, declared.identity.Identity.Identity};
 ghost use Rattle.ring_handles.specs.WritingBatch.{message_at, word_at, Begins, HasRest, HasType, IsBadRecord, IsBatch, IsInside, IsNoBatch, IsRecord, StopsAt, WritesSome, WroteBatch};
-ghost use Rattle.ring_handles.specs.declared.identity.Identity.{Identity};
 ghost use Rattle.ring_table.specs.RunBodies.{message_of, messages_of as batch_of};
 
 use crate::batch::span_in;

@@ -1,15 +1,10 @@
 -- The claims that the consumer passes.
-use Rattle.std.proofs.Common.{◌≡◌, ℕ, ◌+◌, ◌<◌, ◌≤◌, List, [], ◌∷◌, ◌++◌, length, drop, get_or, true, false, sym, refl, ap, ◌∙◌, ⊎_elim, subst, arith, nat_le, Some, None, Option}
-use Rattle.std.specs.List.{All}
-use Rattle.std.specs.Option.{MatchOption}
-use Rattle.std.proofs.lemmas.List.{drop_more}
-use Rattle.std.proofs.lemmas.List.Elements.{All-head, All-tail}
+use Rattle.std.proofs.Common.{◌≡◌, ℕ, ◌+◌, ◌<◌, ◌≤◌, List, [], ◌∷◌, ◌++◌, length, drop, get_or, true, false, sym, refl, ap, ◌∙◌, ⊎_elim, subst, arith, nat_le, Some, None, Option, All, MatchOption}
+use Rattle.std.proofs.lemmas.List.{drop_more, Elements.All-head, Elements.All-tail}
 use Rattle.std.proofs.lemmas.Bool.{cond-true, cond-false, cond_both, cases_Bool, MatchBool-at_true, MatchBool-at_false}
 use Rattle.ring_layout.specs.Lists.{or_else}
-use Rattle.ring_judge.specs.declared.ring.Fate.{Fate}
-use Rattle.ring_judge.specs.declared.ring.Fate.TheVariants.{Open, Committed, Aborted}
-use Rattle.ring_judge.specs.declared.ring.RingClaim.{RingClaim}
-use Rattle.ring_judge.specs.declared.ring.RingCopy.{RingCopy}
+use Rattle.ring_judge.specs.declared.ring.Fate.{Fate, TheVariants.Open, TheVariants.Committed, TheVariants.Aborted}
+use Rattle.ring_judge.specs.declared.ring.{RingClaim.RingClaim, RingCopy.RingCopy}
 use Rattle.ring_judge.specs.Ring.{IsCopyOf, unaborted, is_aborted, is_open, first_open, IsHead, claims_from, end_of_claim, end_of_claims}
 use Rattle.ring_judge.specs.Judged.{AreInOrder, IsCursor}
 

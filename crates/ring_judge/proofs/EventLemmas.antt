@@ -1,11 +1,8 @@
 -- Where each event of a receiver leads.
-use Rattle.std.proofs.Common.{◌≡◌, ℕ, ◌+◌, ◌-◌, ◌<◌, ◌≤◌, List, [], ◌∷◌, length, Some, Bool, true, false, sym, refl, ap, ◌∙◌, subst, arith}
-use Rattle.std.specs.Bool.{MatchBool}
-use Rattle.std.specs.List.{slice_get}
+use Rattle.std.proofs.Common.{◌≡◌, ℕ, ◌+◌, ◌-◌, ◌<◌, ◌≤◌, List, [], ◌∷◌, length, Some, Bool, true, false, sym, refl, ap, ◌∙◌, subst, arith, MatchBool, slice_get}
 use Rattle.std.proofs.lemmas.Option.{slice_get_within}
-use Rattle.ring_judge.specs.declared.broadcast.MessageCopy.{MessageCopy}
+use Rattle.ring_judge.specs.declared.broadcast.{MessageCopy.MessageCopy, place.Place.Place}
 use Rattle.ring_judge.specs.declared.broadcast.ReceiverEvent.TheVariants.{Copied, Lapped, Empty}
-use Rattle.ring_judge.specs.declared.broadcast.place.Place.{Place}
 use Rattle.ring_judge.specs.Broadcast.{Receives, LeadsTo, EndsAt}
 
 -- the message can be the next one of a receiver at this place

@@ -1,18 +1,12 @@
 -- The first claims of lists of lines.
-use Rattle.std.proofs.Common.{◌≡◌, ℕ, ◌+◌, ◌≤◌, List, [], ◌∷◌, ◌++◌, sym, refl, ap, ◌∙◌, ⊎_elim, subst, Option, Some, None}
-use Rattle.std.specs.List.{All}
-use Rattle.std.specs.Option.{MatchOption}
+use Rattle.std.proofs.Common.{◌≡◌, ℕ, ◌+◌, ◌≤◌, List, [], ◌∷◌, ◌++◌, sym, refl, ap, ◌∙◌, ⊎_elim, subst, Option, Some, None, All, MatchOption}
 use Rattle.std.proofs.lemmas.Bool.{cases_eq}
 use Rattle.std.proofs.lemmas.List.Elements.{All-cons, All-head, All-nil, All-tail}
 use Rattle.ring_layout.specs.Lists.{or_else}
-use Rattle.ring_judge.specs.declared.ring.RingClaim.{RingClaim}
-use Rattle.ring_judge.specs.declared.ring.RingLine.{RingLine}
+use Rattle.ring_judge.specs.declared.ring.{RingClaim.RingClaim, RingLine.RingLine, order.NumberedLine.NumberedLine}
 use Rattle.ring_judge.specs.declared.ring.RingLine.TheVariants.{Claimed, Full, Got, Head, Positions, Word, Rest, Empty, Blank}
-use Rattle.ring_judge.specs.declared.ring.order.NumberedLine.{NumberedLine}
-use Rattle.ring_judge.specs.Threads.{lines_of, thread_of}
-use Rattle.ring_judge.specs.Merged.{claim_of, first_claim}
-use Rattle.ring_judge.proofs.HistoryLemmas.{IsFrom}
-use Rattle.ring_judge.proofs.ThreadLemmas.{other, own}
+use Rattle.ring_judge.specs.{Threads.lines_of, Threads.thread_of, Merged.claim_of, Merged.first_claim}
+use Rattle.ring_judge.proofs.{HistoryLemmas.IsFrom, ThreadLemmas.other, ThreadLemmas.own}
 
 or_else-assoc : (a b c : Option RingClaim) → or_else a (or_else b c) ≡ or_else (or_else a b) c
 or_else-assoc (Some x) b c = refl

@@ -1,12 +1,9 @@
 -- What a line of the consumer takes from the messages that are left.
-use Rattle.std.proofs.Common.{◌≡◌, ℕ, ◌+◌, ◌<◌, ◌≤◌, List, [], ◌∷◌, ◌++◌, length, take, drop, get_or, sym, refl, ap, ◌∙◌, ⊎_elim, append_assoc, subst}
-use Rattle.std.proofs.lemmas.Bool.{cases_eq}
-use Rattle.std.proofs.lemmas.List.{take_more, take-append-drop, append-nil, take_all}
-use Rattle.ring_judge.specs.declared.message.Message.{Message}
-use Rattle.ring_judge.specs.declared.queue.QueueLine.{QueueLine}
-use Rattle.ring_judge.specs.declared.queue.QueueLine.TheVariants.{Got, Empty}
+use Rattle.std.proofs.Common.{◌≡◌, ℕ, ◌+◌, ◌<◌, ◌≤◌, List, [], ◌∷◌, ◌++◌, length, take, drop, get_or, sym, refl, ap, ◌∙◌, ⊎_elim, append_assoc, subst, take-append-drop, append-nil, take_all}
+use Rattle.std.proofs.lemmas.{Bool.cases_eq, List.take_more}
+use Rattle.ring_judge.specs.{declared.message.Message.Message, Verdicts.IsFirstUnexplained}
+use Rattle.ring_judge.specs.declared.queue.QueueLine.{QueueLine, TheVariants.Got, TheVariants.Empty}
 use Rattle.ring_judge.specs.Queue.{part_of, sent_in, IsExplained, CanShow, Follows, Refuses}
-use Rattle.ring_judge.specs.Verdicts.{IsFirstUnexplained}
 use Rattle.ring_judge.proofs.PartLemmas.{part_of-own, part_of-other, IsWithout, none_left, some_left}
 
 -- a message that is the first of its producer's is taken

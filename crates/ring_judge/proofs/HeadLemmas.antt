@@ -1,15 +1,11 @@
 -- The positions at which the head can be while a ring has its claims.
-use Rattle.std.proofs.Common.{◌≡◌, ℕ, ◌+◌, ◌<◌, ◌≤◌, ◌⊎◌, List, [], ◌∷◌, ◌++◌, length, take, drop, get_or, true, false, zero, suc, inl, inr, sym, refl, ap, ◌∙◌, ⊎_elim, subst, arith}
+use Rattle.std.proofs.Common.{◌≡◌, ℕ, ◌+◌, ◌<◌, ◌≤◌, ◌⊎◌, List, [], ◌∷◌, ◌++◌, length, take, drop, get_or, true, false, zero, suc, inl, inr, sym, refl, ap, ◌∙◌, ⊎_elim, subst, arith, All}
 use Rattle.std.proofs.lemmas.Bool.{cases_lt}
-use Rattle.std.specs.List.{All}
-use Rattle.std.proofs.lemmas.List.{drop_more, drop_all}
-use Rattle.std.proofs.lemmas.List.Elements.{All-head, All-tail}
-use Rattle.ring_layout.specs.History.{span}
-use Rattle.ring_layout.specs.Places.{next_place}
+use Rattle.std.proofs.lemmas.List.{drop_more, drop_all, Elements.All-head, Elements.All-tail}
+use Rattle.ring_layout.specs.{History.span, Places.next_place}
 use Rattle.ring_layout.proofs.PlaceLemmas.{next_cases, next_le}
-use Rattle.ring_judge.specs.declared.ring.RingClaim.{RingClaim}
+use Rattle.ring_judge.specs.{declared.ring.RingClaim.RingClaim, Judged.AreInOrder, Judged.IsBehind, Judged.IsLeastHead}
 use Rattle.ring_judge.specs.Ring.{CanReach, is_open, end_of_claim, end_of_claims}
-use Rattle.ring_judge.specs.Judged.{AreInOrder, IsBehind, IsLeastHead}
 
 -- the head can be beyond the place at which these claims begin
 abbrev pub IsBeyond : ℕ → List RingClaim → Type 0

@@ -1,24 +1,13 @@
 -- A line of a producer before the lines of other threads.
-use Rattle.std.proofs.Common.{◌≡◌, ℕ, ◌+◌, ◌≤◌, List, [], ◌∷◌, ◌++◌, length, take, drop, true, false, inl, ◌⊎◌, sym, refl, ap, ◌∙◌, ⊎_elim, subst, arith, nat_le, Option, Some, None, Bool}
-use Rattle.std.specs.List.{All}
-use Rattle.std.specs.Bool.{MatchBool}
-use Rattle.std.specs.Option.{MatchOption}
-use Rattle.std.proofs.lemmas.Option.{MatchOption-from_none}
-use Rattle.std.proofs.lemmas.Bool.{cases_Bool, cond-true, cond-false, MatchBool-at_true, MatchBool-at_false, le-leb}
-use Rattle.std.proofs.lemmas.List.{drop-append-le, take-append-le, length-append}
+use Rattle.std.proofs.Common.{◌≡◌, ℕ, ◌+◌, ◌≤◌, List, [], ◌∷◌, ◌++◌, length, take, drop, true, false, inl, ◌⊎◌, sym, refl, ap, ◌∙◌, ⊎_elim, subst, arith, nat_le, Option, Some, None, Bool, All, MatchBool, MatchOption, le-leb, length-append}
+use Rattle.std.proofs.lemmas.{Option.MatchOption-from_none, List.drop-append-le, List.take-append-le}
+use Rattle.std.proofs.lemmas.Bool.{cases_Bool, cond-true, cond-false, MatchBool-at_true, MatchBool-at_false}
 use Rattle.std.proofs.lemmas.List.Elements.{All-cons, All-head, All-nil, All-push, All-tail, All-weaker}
-use Rattle.ring_layout.specs.History.{span}
-use Rattle.ring_layout.specs.Places.{next_place}
-use Rattle.ring_layout.proofs.PlaceLemmas.{next_le}
-use Rattle.ring_judge.specs.declared.ring.RingClaim.{RingClaim}
-use Rattle.ring_judge.specs.declared.ring.RingCopy.{RingCopy}
-use Rattle.ring_judge.specs.declared.ring.RingLine.{RingLine}
+use Rattle.ring_layout.{specs.History.span, specs.Places.next_place, proofs.PlaceLemmas.next_le}
+use Rattle.ring_judge.specs.declared.ring.{RingClaim.RingClaim, RingCopy.RingCopy, RingLine.RingLine}
 use Rattle.ring_judge.specs.declared.ring.RingLine.TheVariants.{Claimed, Full, Got, Head, Positions, Word, Rest, Empty, Blank}
 use Rattle.ring_judge.specs.Ring.{Allows, CanClaim, CanRefuse, IsFull, IsHead, Records, RingState, Shows, after, claimed, claims_from, end_of_claim, end_of_claims, first_open, is_aborted, moved, passed, tail_of, unaborted}
-use Rattle.ring_judge.specs.Judged.{AreInOrder}
-use Rattle.ring_judge.specs.Histories.{is_late}
-use Rattle.ring_judge.specs.Merged.{claim_of}
-use Rattle.ring_judge.specs.Threads.{thread_of}
+use Rattle.ring_judge.specs.{Judged.AreInOrder, Histories.is_late, Merged.claim_of, Threads.thread_of}
 use Rattle.ring_judge.proofs.HeadLemmas.{end_append, next_in_order}
 use Rattle.ring_judge.proofs.ClaimLemmas.{end-claims_from, end-unaborted, first_open-claims_from, first_open-shown, first_open-unaborted, order-claims_from, order-unaborted}
 

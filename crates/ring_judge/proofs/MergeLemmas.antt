@@ -1,15 +1,10 @@
 -- Lines that are taken from several lists, in the order of their claims.
-use Rattle.std.proofs.Common.{◌≡◌, ℕ, ◌+◌, ◌-◌, ◌<◌, ◌≤◌, ◌⊎◌, List, [], ◌∷◌, ◌++◌, length, take, drop, get_or, set, zero, suc, inl, inr, sym, refl, ap, ◌∙◌, ⊎_elim, subst, arith, append_assoc, get_or-set_other, get_or-set_same, Some, None}
-use Rattle.std.specs.List.{All}
-use Rattle.std.specs.Option.{MatchOption}
-use Rattle.std.proofs.lemmas.Bool.{cases_eq, cases_lt}
-use Rattle.std.proofs.lemmas.List.{append-nil, drop-drop, drop_all, get_or-drop, get_or_past, length-drop, length-set, take-append-drop, take_more}
+use Rattle.std.proofs.Common.{◌≡◌, ℕ, ◌+◌, ◌-◌, ◌<◌, ◌≤◌, ◌⊎◌, List, [], ◌∷◌, ◌++◌, length, take, drop, get_or, set, zero, suc, inl, inr, sym, refl, ap, ◌∙◌, ⊎_elim, subst, arith, append_assoc, get_or-set_other, get_or-set_same, Some, None, All, MatchOption, append-nil, drop-drop, get_or-drop, length-drop, length-set, take-append-drop}
+use Rattle.std.proofs.lemmas.{Bool.cases_eq, Bool.cases_lt, List.drop_all, List.get_or_past, List.take_more}
 use Rattle.std.proofs.lemmas.List.Elements.{All-append, All-drop, All-head, All-nil, All-tail, All-take}
 use Rattle.ring_layout.specs.Lists.{or_else}
-use Rattle.ring_judge.specs.declared.ring.RingClaim.{RingClaim}
-use Rattle.ring_judge.specs.declared.ring.RingLine.TheVariants.{Claimed}
-use Rattle.ring_judge.specs.declared.ring.order.NumberedLine.{NumberedLine}
-use Rattle.ring_judge.specs.declared.ring.merged.Merging.{Merging}
+use Rattle.ring_judge.specs.declared.ring.{RingClaim.RingClaim, merged.Merging.Merging}
+use Rattle.ring_judge.specs.declared.ring.{RingLine.TheVariants.Claimed, order.NumberedLine.NumberedLine}
 use Rattle.ring_judge.specs.Threads.{lines_of, thread_of}
 use Rattle.ring_judge.specs.Merged.{AreLeft, AreLists, AreMerged, IsArranged, IsNextClaim, IsTurn, NoClaims, NoneBefore, TakesTo, block_of, claim_of, first_claim, left_in, left_of}
 use Rattle.ring_judge.proofs.ThreadLemmas.{lines_of-append, no_lines_in_threads, other, other_lines, own, own_lines}

@@ -1,21 +1,13 @@
 -- If the threads can have made their calls in some order, they can have made the calls in an arranged order.
-use Rattle.std.specs.Prelude.{◌==◌}
-use Rattle.std.proofs.Common.{◌≡◌, ℕ, ◌+◌, ◌<◌, ◌≤◌, List, [], ◌∷◌, ◌++◌, length, take, drop, true, false, sym, refl, ap, ◌∙◌, ⊎_elim, subst, arith, Option, Some, None}
-use Rattle.std.specs.List.{All}
-use Rattle.std.specs.Option.{MatchOption}
-use Rattle.std.proofs.lemmas.Bool.{cases_Bool, cases_eq}
-use Rattle.std.proofs.lemmas.List.{length-map, map-append, take-append-drop, take-map, take_all}
+use Rattle.std.proofs.Common.{◌≡◌, ℕ, ◌+◌, ◌<◌, ◌≤◌, List, [], ◌∷◌, ◌++◌, length, take, drop, true, false, sym, refl, ap, ◌∙◌, ⊎_elim, subst, arith, Option, Some, None, ◌==◌, All, MatchOption, take-append-drop, take_all}
+use Rattle.std.proofs.lemmas.{Bool.cases_Bool, Bool.cases_eq, List.length-map, List.map-append, List.take-map}
 use Rattle.std.proofs.lemmas.List.Elements.{All-cons, All-filter, All-head, All-map, All-nil, All-tail, All-weaker}
 use Rattle.ring_layout.specs.Lists.{or_else}
-use Rattle.ring_judge.specs.declared.ring.RingClaim.{RingClaim}
-use Rattle.ring_judge.specs.declared.ring.RingLine.{RingLine}
+use Rattle.ring_judge.specs.declared.ring.{RingClaim.RingClaim, RingLine.RingLine, order.NumberedLine.NumberedLine}
 use Rattle.ring_judge.specs.declared.ring.RingLine.TheVariants.{Claimed, Full, Got, Head, Positions, Word, Rest, Empty, Blank}
-use Rattle.ring_judge.specs.declared.ring.order.NumberedLine.{NumberedLine}
-use Rattle.ring_judge.specs.declared.verdict.Verdict.{Verdict}
-use Rattle.ring_judge.specs.declared.verdict.Verdict.TheVariants.{Yes, No}
-use Rattle.ring_judge.specs.Verdicts.{IsRightVerdict}
+use Rattle.ring_judge.specs.declared.verdict.Verdict.{Verdict, TheVariants.Yes, TheVariants.No}
+use Rattle.ring_judge.specs.{Verdicts.IsRightVerdict, Threads.SameThreads, Threads.lines_of, Threads.thread_of}
 use Rattle.ring_judge.specs.Ring.{Allows, JudgesRing, Records, RingState, after, claimed, end_of_claim, fresh}
-use Rattle.ring_judge.specs.Threads.{SameThreads, lines_of, thread_of}
 use Rattle.ring_judge.specs.Histories.{EndsLate, HasHistory, IsBest, IsHistory, calls, is_late}
 use Rattle.ring_judge.specs.Merged.{IsArranged, IsTurn, NoneBefore, claim_of, first_claim}
 use Rattle.ring_judge.proofs.HistoryLemmas.{IsFrom, IsOrdered, claim_first, from_tail, ordered-after, refusal_first, tail-claimed}

@@ -1,8 +1,7 @@
 -- The parts of producers.
-use Rattle.std.proofs.Common.{◌≡◌, ℕ, List, [], ◌∷◌, ◌++◌, length, eqb, sym, refl, ap, ◌∙◌, ⊎_elim, suc}
-use Rattle.std.proofs.lemmas.Bool.{cases_eq, cond-true, cond-false, eq-eqb, ne_eqb}
-use Rattle.ring_judge.specs.declared.message.Message.{Message}
-use Rattle.ring_judge.specs.Queue.{part_of, SameParts}
+use Rattle.std.proofs.Common.{◌≡◌, ℕ, List, [], ◌∷◌, ◌++◌, length, eqb, sym, refl, ap, ◌∙◌, ⊎_elim, suc, eq-eqb, ne_eqb}
+use Rattle.std.proofs.lemmas.Bool.{cases_eq, cond-true, cond-false}
+use Rattle.ring_judge.specs.{declared.message.Message.Message, Queue.part_of, Queue.SameParts}
 
 -- a message is in the part of its producer
 pub part_of-own : (p : ℕ) (m : Message) (ms : List Message) → m.producer ≡ p → part_of p (m ∷ ms) ≡ m ∷ part_of p ms

@@ -1,9 +1,7 @@
 -- Where a line leads all receivers.
-use Rattle.std.proofs.Common.{◌≡◌, ℕ, ◌+◌, ◌<◌, ◌≤◌, List, [], ◌∷◌, ◌++◌, length, take, get_or, set, Bool, true, false, zero, suc, eqb, sym, refl, ap, ◌∙◌, ⊎_elim, subst, append_assoc, arith, get_or-set_other, get_or-set_same}
-use Rattle.std.proofs.lemmas.Bool.{cases_eq, cond-true, cond-false, eq-eqb, ne_eqb}
-use Rattle.std.proofs.lemmas.List.{take_more}
-use Rattle.ring_judge.specs.declared.broadcast.ReceiverEvent.{ReceiverEvent}
-use Rattle.ring_judge.specs.declared.broadcast.BroadcastLine.{BroadcastLine}
+use Rattle.std.proofs.Common.{◌≡◌, ℕ, ◌+◌, ◌<◌, ◌≤◌, List, [], ◌∷◌, ◌++◌, length, take, get_or, set, Bool, true, false, zero, suc, eqb, sym, refl, ap, ◌∙◌, ⊎_elim, subst, append_assoc, arith, get_or-set_other, get_or-set_same, eq-eqb, ne_eqb}
+use Rattle.std.proofs.lemmas.{Bool.cases_eq, Bool.cond-true, Bool.cond-false, List.take_more}
+use Rattle.ring_judge.specs.declared.broadcast.{ReceiverEvent.ReceiverEvent, BroadcastLine.BroadcastLine}
 use Rattle.ring_judge.specs.declared.broadcast.BroadcastLine.TheVariants.{Transmitted, Receiver, Blank}
 use Rattle.ring_judge.specs.declared.broadcast.place.Place.{Place}
 use Rattle.ring_judge.specs.Broadcast.{transmitted_in, events_of, CanNote, LeadsTo, EndsAt, AnswersEvent, AnswersLine, AreWithin, IsOfReceiverBelow, anywhere, place_of}

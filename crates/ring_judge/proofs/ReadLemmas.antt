@@ -1,11 +1,8 @@
 -- What the lines of a run that were read explain.
-use Rattle.std.proofs.Common.{◌≡◌, ℕ, ◌+◌, ◌<◌, ◌≤◌, List, [], ◌∷◌, ◌++◌, length, take, drop, get_or, sym, ap, ◌∙◌, subst, append_assoc, arith}
-use Rattle.std.proofs.lemmas.List.{take-append-drop, append-nil, take_all}
-use Rattle.ring_judge.specs.declared.broadcast.ReceiverEvent.{ReceiverEvent}
-use Rattle.ring_judge.specs.declared.broadcast.BroadcastLine.{BroadcastLine}
-use Rattle.ring_judge.specs.declared.broadcast.place.Place.{Place}
+use Rattle.std.proofs.Common.{◌≡◌, ℕ, ◌+◌, ◌<◌, ◌≤◌, List, [], ◌∷◌, ◌++◌, length, take, drop, get_or, sym, ap, ◌∙◌, subst, append_assoc, arith, take-append-drop, append-nil, take_all}
+use Rattle.ring_judge.specs.declared.broadcast.{ReceiverEvent.ReceiverEvent, BroadcastLine.BroadcastLine}
+use Rattle.ring_judge.specs.{declared.broadcast.place.Place.Place, Verdicts.IsFirstUnexplained}
 use Rattle.ring_judge.specs.Broadcast.{transmitted_in, events_of, Receives, IsExplained, CanNote, LeadsTo, EndsAt, AreWithin, anywhere, place_of}
-use Rattle.ring_judge.specs.Verdicts.{IsFirstUnexplained}
 use Rattle.ring_judge.proofs.EventLemmas.{can_be_next}
 use Rattle.ring_judge.proofs.PlaceLemmas.{events_of-append, events_more, joined, stays}
 

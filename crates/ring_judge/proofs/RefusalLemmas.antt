@@ -1,15 +1,10 @@
 -- When a ring can have been full.
-use Rattle.std.proofs.Common.{◌≡◌, ℕ, ◌+◌, ◌-◌, ◌<◌, ◌≤◌, ◌⊎◌, ◌↔◌, List, [], ◌∷◌, ◌++◌, length, take, drop, get_or, Bool, true, false, Option, None, inl, inr, sym, refl, ap, ◌∙◌, ⊎_elim, subst, arith, pos}
-use Rattle.std.specs.List.{All}
-use Rattle.std.specs.Bool.{MatchBool, IsTrue}
-use Rattle.std.proofs.Math.Nat.{eq-or-lt_of_le}
+use Rattle.std.proofs.Common.{◌≡◌, ℕ, ◌+◌, ◌-◌, ◌<◌, ◌≤◌, ◌⊎◌, ◌↔◌, List, [], ◌∷◌, ◌++◌, length, take, drop, get_or, Bool, true, false, Option, None, inl, inr, sym, refl, ap, ◌∙◌, ⊎_elim, subst, arith, pos, All, MatchBool, IsTrue, eq-or-lt_of_le, take_all, length-append, get_or-drop, length-drop}
 use Rattle.std.proofs.lemmas.List.Elements.{All-same, All-cons}
-use Rattle.std.proofs.lemmas.List.{drop_more, take_more, take_all, take-append-le, length-append, get_or_append_left, get_or_at, get_or-drop, length-drop}
+use Rattle.std.proofs.lemmas.List.{drop_more, take_more, take-append-le, get_or_append_left, get_or_at}
 use Rattle.std.proofs.lemmas.Bool.{cases_lt, cases_order, iff_false}
-use Rattle.ring_layout.specs.History.{span}
-use Rattle.ring_layout.specs.Places.{end_after}
-use Rattle.ring_judge.specs.declared.ring.Fate.TheVariants.{Open}
-use Rattle.ring_judge.specs.declared.ring.RingClaim.{RingClaim}
+use Rattle.ring_layout.specs.{History.span, Places.end_after}
+use Rattle.ring_judge.specs.declared.ring.{Fate.TheVariants.Open, RingClaim.RingClaim}
 use Rattle.ring_judge.specs.Ring.{RingState, CanRefuse, IsFull, end_of_claim, end_of_claims}
 use Rattle.ring_judge.specs.Judged.{AreLeastHeads, FindsHead, IsLeastHead}
 use Rattle.ring_judge.proofs.HeadLemmas.{end_append}

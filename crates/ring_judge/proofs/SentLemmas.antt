@@ -1,9 +1,8 @@
 -- What the lines of producers say, one line more.
 use Rattle.std.proofs.Common.{◌≡◌, ℕ, ◌+◌, ◌<◌, ◌≤◌, List, [], ◌∷◌, ◌++◌, length, take, get_or, refl, ap, ◌∙◌, arith}
 use Rattle.std.proofs.lemmas.List.{take_more, length-append}
-use Rattle.ring_judge.specs.declared.queue.QueueLine.{QueueLine}
+use Rattle.ring_judge.specs.{declared.queue.QueueLine.QueueLine, Queue.IsBelow, Queue.part_of, Queue.sent_in}
 use Rattle.ring_judge.specs.declared.queue.QueueLine.TheVariants.{Sent, Refused, Got, Empty, Blank}
-use Rattle.ring_judge.specs.Queue.{IsBelow, part_of, sent_in}
 use Rattle.ring_judge.proofs.PartLemmas.{part_of-append}
 
 pub IsBelow-larger : (count larger : ℕ) (line : QueueLine) → count ≤ larger → IsBelow count line → IsBelow larger line

@@ -1,9 +1,7 @@
 -- The lines of a run of a ring, one after another.
-use Rattle.std.proofs.Common.{◌≡◌, ℕ, ◌+◌, ◌<◌, ◌≤◌, List, [], ◌∷◌, ◌++◌, length, take, drop, get_or, sym, refl, ap, ◌∙◌, subst, append_assoc, pos}
-use Rattle.std.proofs.lemmas.List.{take_more, take-append-drop, take_all}
-use Rattle.ring_judge.specs.declared.ring.RingLine.{RingLine}
-use Rattle.ring_judge.specs.declared.ring.RingLine.TheVariants.{Claimed}
-use Rattle.ring_judge.specs.declared.ring.Fate.TheVariants.{Open}
+use Rattle.std.proofs.Common.{◌≡◌, ℕ, ◌+◌, ◌<◌, ◌≤◌, List, [], ◌∷◌, ◌++◌, length, take, drop, get_or, sym, refl, ap, ◌∙◌, subst, append_assoc, pos, take-append-drop, take_all}
+use Rattle.std.proofs.lemmas.List.{take_more}
+use Rattle.ring_judge.specs.declared.ring.{RingLine.RingLine, RingLine.TheVariants.Claimed, Fate.TheVariants.Open}
 use Rattle.ring_judge.specs.Ring.{RingState, Allows, Records, after, after_all, fresh, IsExplained}
 use Rattle.ring_judge.specs.Verdicts.{IsFirstUnexplained}
 

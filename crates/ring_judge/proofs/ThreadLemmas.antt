@@ -1,12 +1,8 @@
 -- The lines of threads.
-use Rattle.std.specs.Prelude.{◌==◌}
-use Rattle.std.proofs.Common.{◌≡◌, ℕ, ◌+◌, ◌<◌, List, [], ◌∷◌, ◌++◌, length, take, get_or, set, eqb, true, sym, refl, ap, ◌∙◌, ⊎_elim, arith, get_or-set_other, get_or-set_same}
-use Rattle.std.specs.List.{All}
-use Rattle.std.proofs.lemmas.Bool.{cases_eq, cond-true, cond-false, eq-eqb, ne_eqb, eqb-true}
-use Rattle.std.proofs.lemmas.List.{take_more, append-nil, length-take-le}
+use Rattle.std.proofs.Common.{◌≡◌, ℕ, ◌+◌, ◌<◌, List, [], ◌∷◌, ◌++◌, length, take, get_or, set, eqb, true, sym, refl, ap, ◌∙◌, ⊎_elim, arith, get_or-set_other, get_or-set_same, ◌==◌, All, eq-eqb, ne_eqb, eqb-true, append-nil, length-take-le}
+use Rattle.std.proofs.lemmas.{Bool.cases_eq, Bool.cond-true, Bool.cond-false, List.take_more}
 use Rattle.std.proofs.lemmas.List.Elements.{All-cons, All-head, All-nil, All-tail, All-weaker, filter-append, filter_passes}
-use Rattle.ring_judge.specs.declared.ring.RingLine.{RingLine}
-use Rattle.ring_judge.specs.declared.ring.order.NumberedLine.{NumberedLine}
+use Rattle.ring_judge.specs.declared.ring.{RingLine.RingLine, order.NumberedLine.NumberedLine}
 use Rattle.ring_judge.specs.Threads.{lines_of, numbered, thread_of}
 
 numbered-append : (n : ℕ) (xs ys : List RingLine) → numbered n (xs ++ ys) ≡ numbered n xs ++ numbered (n + length xs) ys

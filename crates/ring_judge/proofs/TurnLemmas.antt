@@ -1,21 +1,14 @@
 -- The turns of lists, in a heap.
-use Rattle.std.proofs.Common.{◌≡◌, ℕ, ◌+◌, ◌<◌, ◌≤◌, List, [], ◌∷◌, ◌++◌, length, get_or, set, false, sym, refl, ap, ◌∙◌, ⊎_elim, subst, arith, append_assoc, Option, Some, None}
-use Rattle.std.specs.List.{All, Contains}
-use Rattle.std.specs.List.Sorted.{IsPermutation}
-use Rattle.std.specs.Option.{MatchOption}
-use Rattle.std.specs.Ordering.{is_lt, nat_cmp, ordering_then}
-use Rattle.std.specs.BinaryHeap.{IsHeap, IsUpperBound}
-use Rattle.std.specs.declared.cmp.Ordering.{Ordering}
-use Rattle.std.specs.declared.cmp.Ordering.TheVariants.{Less, Equal, Greater}
+use Rattle.std.proofs.Common.{◌≡◌, ℕ, ◌+◌, ◌<◌, ◌≤◌, List, [], ◌∷◌, ◌++◌, length, get_or, set, false, sym, refl, ap, ◌∙◌, ⊎_elim, subst, arith, append_assoc, Option, Some, None, All, Contains, IsPermutation, MatchOption, is_lt, nat_cmp}
+use Rattle.std.specs.{Ordering.ordering_then, BinaryHeap.IsHeap, BinaryHeap.IsUpperBound}
+use Rattle.std.specs.declared.cmp.Ordering.{Ordering, TheVariants.Less, TheVariants.Equal, TheVariants.Greater}
 use Rattle.std.proofs.lemmas.Bool.{cases_eq}
 use Rattle.std.proofs.lemmas.List.Elements.{All-cons, All-contains, All-from_recursion, All-head, All-nil, All-tail, All-weaker, Contains-append_cases, Contains-append_right}
 use Rattle.std.proofs.lemmas.List.Sorted.{All-permutation, Contains-permutation, le_from_greatest}
-use Rattle.ring_judge.specs.declared.ring.RingClaim.{RingClaim}
-use Rattle.ring_judge.specs.declared.ring.order.NumberedLine.{NumberedLine}
+use Rattle.ring_judge.specs.declared.ring.{RingClaim.RingClaim, order.NumberedLine.NumberedLine}
 use Rattle.ring_judge.specs.Threads.{thread_of}
 use Rattle.ring_judge.specs.Merged.{AddsTurn, AreLeft, AreLists, AreMerged, HasTurn, HaveTurns, Turn, IsArranged, IsNextClaim, NoneBefore, block_of, claim_of, compare_turns, first_claim, left_of}
-use Rattle.ring_judge.proofs.FirstLemmas.{thread_of-claim}
-use Rattle.ring_judge.proofs.ListLemmas.{all_front, all_later}
+use Rattle.ring_judge.proofs.{FirstLemmas.thread_of-claim, ListLemmas.all_front, ListLemmas.all_later}
 use Rattle.ring_judge.proofs.MergeLemmas.{block_arranged, block_of_thread, left_before, left_of-other, more_merged, next_is_first}
 
 first_not_lt : (a b : Ordering) → is_lt (ordering_then a b) ≡ false → is_lt a ≡ false

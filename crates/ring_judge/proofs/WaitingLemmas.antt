@@ -1,17 +1,12 @@
 -- What a line takes from the lists of the producers.
-use Rattle.std.proofs.Common.{◌≡◌, ℕ, ◌+◌, ◌-◌, ◌<◌, ◌≤◌, List, [], ◌∷◌, length, drop, get_or, set, Some, Global, Vec, sym, ap, ◌∙◌, ⊎_elim, zero, suc, eqb, Bool, true, false, subst, arith, get_or-set_other, get_or-set_same}
-use Rattle.std.specs.List.{slice_get}
-use Rattle.std.specs.Bool.{MatchBool}
-use Rattle.std.proofs.lemmas.Bool.{cases_eq, cases_Bool, eqb-true, eqb-false}
-use Rattle.std.proofs.lemmas.List.{drop_more, length-set, length-map, get_or_default, nil_from_length}
+use Rattle.std.proofs.Common.{◌≡◌, ℕ, ◌+◌, ◌-◌, ◌<◌, ◌≤◌, List, [], ◌∷◌, length, drop, get_or, set, Some, Global, Vec, sym, ap, ◌∙◌, ⊎_elim, zero, suc, eqb, Bool, true, false, subst, arith, get_or-set_other, get_or-set_same, slice_get, MatchBool, eqb-true, length-set}
+use Rattle.std.proofs.lemmas.Bool.{cases_eq, cases_Bool, eqb-false}
+use Rattle.std.proofs.lemmas.List.{drop_more, length-map, get_or_default, nil_from_length}
 use Rattle.std.proofs.lemmas.Option.{slice_get_within, get_or_from_slice_get}
-use Rattle.ring_judge.specs.Lists.{lists_of}
-use Rattle.ring_judge.proofs.ListLemmas.{lists_of-at}
-use Rattle.ring_judge.specs.declared.message.Message.{Message}
-use Rattle.ring_judge.specs.declared.queue.QueueLine.TheVariants.{Got, Empty}
-use Rattle.ring_judge.specs.declared.queue.QueueLine.{QueueLine}
+use Rattle.ring_judge.specs.{Lists.lists_of, declared.message.Message.Message}
+use Rattle.ring_judge.proofs.{ListLemmas.lists_of-at, PartLemmas.without}
+use Rattle.ring_judge.specs.declared.queue.QueueLine.{TheVariants.Got, TheVariants.Empty, QueueLine}
 use Rattle.ring_judge.specs.Queue.{part_of, AreWaiting, AnswersLine, Follows, Refuses}
-use Rattle.ring_judge.proofs.PartLemmas.{without}
 use Rattle.ring_judge.proofs.FollowLemmas.{follows_got, refuses_got, follows_empty, refuses_empty}
 
 pub drop_from_get : (xs : List Message) (i : ℕ) (m : Message) → slice_get xs i ≡ Some m → drop i xs ≡ m ∷ drop (i + 1) xs

@@ -1,17 +1,12 @@
 -- The words that claims make.
-use Rattle.std.specs.Prelude.{◌==◌, if◌then◌else◌}
-use Rattle.std.proofs.Common.{◌≡◌, ℕ, ◌+◌, ◌-◌, ◌/◌, ◌%◌, ◌^◌, ◌<◌, ◌≤◌, ◌↔◌, ℤ, pos, neg_ℤ, FitsSigned, List, ◌∷◌, length, drop, get_or, Bool, true, false, inl, inr, sym, refl, ap, ◌∙◌, ⊎_elim, subst, arith, nat_lt, eqb}
-use Rattle.std.specs.Bool.{MatchBool}
-use Rattle.std.specs.Int.{cast_signed, w32}
-use Rattle.std.proofs.lemmas.Int.{ints}
-use Rattle.std.proofs.lemmas.Bool.{cases_eq, cases_lt, cond-true, cond-false, eq-eqb, ne_eqb, lt-ltb, le-ltb, MatchBool-at_true, MatchBool-at_false}
-use Rattle.std.proofs.lemmas.List.{drop_more, drop_all}
+use Rattle.std.proofs.Common.{◌≡◌, ℕ, ◌+◌, ◌-◌, ◌/◌, ◌%◌, ◌^◌, ◌<◌, ◌≤◌, ◌↔◌, ℤ, pos, neg_ℤ, FitsSigned, List, ◌∷◌, length, drop, get_or, Bool, true, false, inl, inr, sym, refl, ap, ◌∙◌, ⊎_elim, subst, arith, nat_lt, eqb, ◌==◌, if◌then◌else◌, MatchBool, w32, eq-eqb, ne_eqb, lt-ltb, le-ltb}
+use Rattle.std.specs.Int.{cast_signed}
+use Rattle.std.proofs.lemmas.{Int.ints, List.drop_more, List.drop_all}
+use Rattle.std.proofs.lemmas.Bool.{cases_eq, cases_lt, cond-true, cond-false, MatchBool-at_true, MatchBool-at_false}
 use Rattle.ring_layout.specs.Headers.{header, padding_header, padding_type}
 use Rattle.ring_layout.proofs.HeaderLemmas.{len_of-header, fits_pos, fits_neg}
-use Rattle.ring_judge.specs.declared.ring.Fate.{Fate}
-use Rattle.ring_judge.specs.declared.ring.Fate.TheVariants.{Open, Committed, Aborted}
-use Rattle.ring_judge.specs.declared.ring.RingClaim.{RingClaim}
-use Rattle.ring_judge.specs.declared.ring.words.Cursor.{Cursor}
+use Rattle.ring_judge.specs.declared.ring.Fate.{Fate, TheVariants.Open, TheVariants.Committed, TheVariants.Aborted}
+use Rattle.ring_judge.specs.declared.ring.{RingClaim.RingClaim, words.Cursor.Cursor}
 use Rattle.ring_judge.specs.Ring.{CanBeWord, end_of_claim, header_of_claim}
 use Rattle.ring_judge.specs.Judged.{AreInOrder, HasHeader, IsClearTo}
 

@@ -1,11 +1,9 @@
 -- What a recorded run of a broadcast buffer says, and what explains it.
 use Rattle.std.specs.Prelude.{◌≡◌, ℕ, ◌+◌, ◌<◌, ◌≤◌, ◌==◌, List, [], ◌∷◌, ◌++◌, length, Some, slice_get, slice_index_or, Bool, true, if◌then◌else◌, MatchBool}
-use Rattle.ring_judge.specs.declared.broadcast.ReceiverEvent.{ReceiverEvent}
+use Rattle.ring_judge.specs.declared.broadcast.{ReceiverEvent.ReceiverEvent, BroadcastLine.BroadcastLine}
 use Rattle.ring_judge.specs.declared.broadcast.ReceiverEvent.TheVariants.{Copied, Lapped, Empty}
-use Rattle.ring_judge.specs.declared.broadcast.BroadcastLine.{BroadcastLine}
 use Rattle.ring_judge.specs.declared.broadcast.BroadcastLine.TheVariants.{Transmitted, Receiver, Blank}
-use Rattle.ring_judge.specs.declared.broadcast.place.Place.{Place}
-use Rattle.ring_judge.specs.declared.verdict.Verdict.{Verdict}
+use Rattle.ring_judge.specs.declared.{broadcast.place.Place.Place, verdict.Verdict.Verdict}
 use Rattle.ring_judge.specs.Verdicts.{IsRightVerdict}
 
 -- the bodies of the messages that were transmitted, of which the first is message 0

@@ -1,12 +1,9 @@
 -- The orders in which threads can have made the calls of a recorded run.
 use Rattle.std.specs.Prelude.{◌≡◌, ℕ, List, [], ◌∷◌, All, Bool, true, false, map, take}
-use Rattle.ring_judge.specs.declared.ring.RingLine.{RingLine}
+use Rattle.ring_judge.specs.{declared.ring.RingLine.RingLine, Verdicts.IsRightVerdict}
 use Rattle.ring_judge.specs.declared.ring.RingLine.TheVariants.{Claimed, Full, Got, Head, Positions, Word, Rest, Empty, Blank}
-use Rattle.ring_judge.specs.declared.ring.order.NumberedLine.{NumberedLine}
-use Rattle.ring_judge.specs.declared.ring.judgement.Judgement.{Judgement}
-use Rattle.ring_judge.specs.Ring.{Records, fresh}
-use Rattle.ring_judge.specs.Threads.{KeepsThreads, SameThreads, thread_of}
-use Rattle.ring_judge.specs.Verdicts.{IsRightVerdict}
+use Rattle.ring_judge.specs.declared.ring.{order.NumberedLine.NumberedLine, judgement.Judgement.Judgement}
+use Rattle.ring_judge.specs.{Ring.Records, Ring.fresh, Threads.KeepsThreads, Threads.SameThreads, Threads.thread_of}
 
 -- the consumer noted the line after all producers had returned
 abbrev pub is_late : RingLine → Bool

@@ -2,10 +2,8 @@
 use Rattle.std.specs.Prelude.{◌≡◌, ℕ, ◌+◌, ◌/◌, ◌^◌, ◌<◌, ◌≤◌, ◌⊎◌, ◌↔◌, List, [], ◌∷◌, length, take, drop, All, Option, None, Bool, false, IsTrue, MatchBool, MatchOption, slice_index_or}
 use Rattle.std.specs.Int.{is_power_of_two}
 use Rattle.ring_layout.specs.Places.{max_position}
-use Rattle.ring_judge.specs.declared.ring.RingClaim.{RingClaim}
+use Rattle.ring_judge.specs.declared.ring.{RingClaim.RingClaim, judged.Judged.Judged, words.Cursor.Cursor}
 use Rattle.ring_judge.specs.declared.ring.RingLine.{RingLine}
-use Rattle.ring_judge.specs.declared.ring.judged.Judged.{Judged}
-use Rattle.ring_judge.specs.declared.ring.words.Cursor.{Cursor}
 use Rattle.ring_judge.specs.Ring.{RingState, Allows, AreClear, CanBeWord, CanReach, after, end_of_claim, end_of_claims, first_open, is_open, read_to, IsHead, claims_from}
 
 -- the state of the ring

@@ -3,8 +3,7 @@ use Rattle.std.specs.Prelude.{◌≤◌, ◌^◌, IsTrue}
 use Rattle.std.specs.Int.{is_power_of_two}
 use Rattle.ring_layout.specs.Places.{max_position}
 use Rattle.ring_judge.specs.declared.format.kind.RingShape.{RingShape}
-use Rattle.ring_judge.specs.declared.format.kind.Kind.{Kind}
-use Rattle.ring_judge.specs.declared.format.kind.Kind.TheVariants.{Queue, Broadcast, Ring}
+use Rattle.ring_judge.specs.declared.format.kind.Kind.{Kind, TheVariants.Queue, TheVariants.Broadcast, TheVariants.Ring}
 
 -- a ring of this shape can be judged
 pub record IsJudgeableShape (shape : RingShape) : Type 0 where

@@ -1,16 +1,11 @@
 -- Lists of lines that are merged into one list, which has the claims in the order of their places.
 use Rattle.std.specs.Prelude.{◌≡◌, ℕ, ◌+◌, ◌-◌, ◌<◌, ◌≤◌, List, [], ◌∷◌, ◌++◌, Option, Some, None, MatchOption, length, take, drop, All, Contains, slice_index, slice_index_or, slice_set}
-use Rattle.std.specs.declared.cmp.Ordering.{Ordering}
-use Rattle.std.specs.declared.cmp.Reverse.{Reverse}
-use Rattle.std.specs.Ordering.{nat_cmp, ordering_then}
-use Rattle.std.specs.BinaryHeap.{IsHeap, heap_items}
+use Rattle.std.specs.declared.cmp.{Ordering.Ordering, Reverse.Reverse}
+use Rattle.std.specs.{Ordering.nat_cmp, Ordering.ordering_then, BinaryHeap.IsHeap, BinaryHeap.heap_items}
 use Rattle.ring_layout.specs.Lists.{or_else}
-use Rattle.ring_judge.specs.declared.ring.RingClaim.{RingClaim}
-use Rattle.ring_judge.specs.declared.ring.RingLine.{RingLine}
+use Rattle.ring_judge.specs.declared.ring.{RingClaim.RingClaim, order.NumberedLine.NumberedLine, merged.Merging.Merging}
+use Rattle.ring_judge.specs.{declared.ring.RingLine.RingLine, Threads.lines_of, Threads.thread_of}
 use Rattle.ring_judge.specs.declared.ring.RingLine.TheVariants.{Claimed, Full, Got, Head, Positions, Word, Rest, Empty, Blank}
-use Rattle.ring_judge.specs.declared.ring.order.NumberedLine.{NumberedLine}
-use Rattle.ring_judge.specs.declared.ring.merged.Merging.{Merging}
-use Rattle.ring_judge.specs.Threads.{lines_of, thread_of}
 
 abbrev pub claim_of : RingLine → Option RingClaim
 claim_of (Claimed c) = Some c

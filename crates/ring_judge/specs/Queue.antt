@@ -1,9 +1,7 @@
 -- What a recorded run of a queue says, and what explains it.
 use Rattle.std.specs.Prelude.{◌≡◌, ℕ, ◌<◌, ◌==◌, List, [], ◌∷◌, length, drop, slice_index, slice_index_or, Bool, if◌then◌else◌, MatchBool}
-use Rattle.ring_judge.specs.declared.message.Message.{Message}
-use Rattle.ring_judge.specs.declared.queue.QueueLine.{QueueLine}
+use Rattle.ring_judge.specs.declared.{message.Message.Message, queue.QueueLine.QueueLine, verdict.Verdict.Verdict}
 use Rattle.ring_judge.specs.declared.queue.QueueLine.TheVariants.{Sent, Refused, Got, Empty, Blank}
-use Rattle.ring_judge.specs.declared.verdict.Verdict.{Verdict}
 use Rattle.ring_judge.specs.Verdicts.{IsRightVerdict}
 
 -- the messages that one producer sent, of these

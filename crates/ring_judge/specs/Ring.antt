@@ -1,16 +1,11 @@
 -- What a recorded run of a ring says, and which runs a ring can have. C is the capacity.
 use Rattle.std.specs.Prelude.{◌≡◌, ℕ, ◌+◌, ◌-◌, ◌/◌, ◌%◌, ◌<◌, ◌≤◌, ◌==◌, ◌⊎◌, ◌≤ℤ◌, pos, List, [], ◌∷◌, ◌++◌, Option, Some, None, MatchOption, Bool, true, false, nat_le, nat_lt, if◌then◌else◌, MatchBool, All, take, drop, length}
-use Rattle.ring_layout.specs.History.{span}
+use Rattle.ring_layout.specs.{History.span, Places.next_place, Places.end_after, Places.max_position}
 use Rattle.ring_layout.specs.Headers.{aborted_header, committed_header, open_header, padding_header}
-use Rattle.ring_layout.specs.Places.{next_place, end_after, max_position}
-use Rattle.ring_judge.specs.declared.ring.Fate.{Fate}
-use Rattle.ring_judge.specs.declared.ring.Fate.TheVariants.{Open, Committed, Aborted}
-use Rattle.ring_judge.specs.declared.ring.RingClaim.{RingClaim}
-use Rattle.ring_judge.specs.declared.ring.RingCopy.{RingCopy}
-use Rattle.ring_judge.specs.declared.ring.RingLine.{RingLine}
+use Rattle.ring_judge.specs.declared.ring.Fate.{Fate, TheVariants.Open, TheVariants.Committed, TheVariants.Aborted}
+use Rattle.ring_judge.specs.declared.ring.{RingClaim.RingClaim, RingCopy.RingCopy, RingLine.RingLine}
 use Rattle.ring_judge.specs.declared.ring.RingLine.TheVariants.{Claimed, Full, Got, Head, Positions, Word, Rest, Empty, Blank}
-use Rattle.ring_judge.specs.declared.verdict.Verdict.{Verdict}
-use Rattle.ring_judge.specs.Verdicts.{IsRightVerdict}
+use Rattle.ring_judge.specs.{declared.verdict.Verdict.Verdict, Verdicts.IsRightVerdict}
 
 -- A ring between two lines: the position at which it began, all claims so far, the oldest first, the head, the claims
 -- that the consumer has not passed, and the position up to which the words of the buffer were read.

@@ -1,8 +1,7 @@
 -- The lines of each thread of a ring's run.
 use Rattle.std.specs.Prelude.{◌≡◌, ◌==◌, ℕ, ◌+◌, List, [], ◌∷◌, filter}
-use Rattle.ring_judge.specs.declared.ring.RingLine.{RingLine}
+use Rattle.ring_judge.specs.declared.ring.{RingLine.RingLine, order.NumberedLine.NumberedLine}
 use Rattle.ring_judge.specs.declared.ring.RingLine.TheVariants.{Claimed, Full, Got, Head, Positions, Word, Rest, Empty, Blank}
-use Rattle.ring_judge.specs.declared.ring.order.NumberedLine.{NumberedLine}
 
 -- the thread that noted a line: p + 1 for the producer p, and 0 for the consumer
 abbrev pub thread_of : RingLine → ℕ

@@ -1,7 +1,6 @@
 -- The right verdict on a recorded run. `Explained run lines` says that something explains these first lines of the run.
 use Rattle.std.specs.Prelude.{ℕ, ◌+◌, ◌<◌, List, length, take}
-use Rattle.ring_judge.specs.declared.verdict.Verdict.{Verdict}
-use Rattle.ring_judge.specs.declared.verdict.Verdict.TheVariants.{Yes, No}
+use Rattle.ring_judge.specs.declared.verdict.Verdict.{Verdict, TheVariants.Yes, TheVariants.No}
 
 -- Nothing explains the run. Something explains the lines before the k-th one, and nothing the lines up to that one
 pub record IsFirstUnexplained {L : Type 0} (Explained : List L → List L → Type 0) (run : List L) (k : ℕ) : Type 0 where

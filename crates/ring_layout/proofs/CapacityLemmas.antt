@@ -1,9 +1,8 @@
 -- Valid capacities: multiples of 128, the test for them, and masks.
-use Rattle.std.proofs.Common.{◌≡◌, ℕ, ◌+◌, ◌-◌, ◌*◌, ◌/◌, ◌%◌, ◌^◌, ◌<◌, ◌&&◌, nat_le, true, zero, suc, ap, sym, ◌∙◌, arith, inl, inr, IsTrue}
-use Rattle.std.specs.Int.{is_power_of_two, IsPowerOfTwo}
-use Rattle.std.specs.Int.RustNames.{bit_and, count_ones}
-use Rattle.std.proofs.lemmas.Nat.{and_mask, ones_cat, pow-add, zero_from_ones, div-add-mod', mod_below}
-use Rattle.std.proofs.lemmas.Bool.{cases_eq, eqb-true, and_from, le-leb}
+use Rattle.std.proofs.Common.{◌≡◌, ℕ, ◌+◌, ◌-◌, ◌*◌, ◌/◌, ◌%◌, ◌^◌, ◌<◌, ◌&&◌, nat_le, true, zero, suc, ap, sym, ◌∙◌, arith, inl, inr, IsTrue, bit_and, pow-add, div-add-mod', eqb-true, le-leb}
+use Rattle.std.specs.Int.{is_power_of_two, IsPowerOfTwo, RustNames.count_ones}
+use Rattle.std.proofs.lemmas.Nat.{and_mask, ones_cat, zero_from_ones, mod_below}
+use Rattle.std.proofs.lemmas.Bool.{cases_eq, and_from}
 use Rattle.ring_layout.specs.Places.{is_capacity, IsCapacity}
 
 pub capacity_blocks : (c : ℕ) → IsCapacity c → c % 128 ≡ 0

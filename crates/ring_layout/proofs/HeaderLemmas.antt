@@ -1,8 +1,7 @@
 -- Headers give their length and type id back.
-use Rattle.std.proofs.Common.{◌≡◌, ℕ, ◌/◌, ◌%◌, ◌^◌, ◌<◌, ap, ◌∙◌, arith, ℤ, pos, negsuc, neg_ℤ, ◌-ℤ◌, to_z, of_z, FitsSigned, zero, suc, ◌<ℤ◌, ◌≤ℤ◌}
-use Rattle.std.specs.Int.{cast_signed, cast_unsigned, w32}
-use Rattle.std.proofs.lemmas.Int.{to_z-of_z, to_z_pos, ints}
-use Rattle.std.proofs.lemmas.Nat.{mod_low, shr_high}
+use Rattle.std.proofs.Common.{◌≡◌, ℕ, ◌/◌, ◌%◌, ◌^◌, ◌<◌, ap, ◌∙◌, arith, ℤ, pos, negsuc, neg_ℤ, ◌-ℤ◌, to_z, of_z, FitsSigned, zero, suc, ◌<ℤ◌, ◌≤ℤ◌, w32}
+use Rattle.std.specs.Int.{cast_signed, cast_unsigned}
+use Rattle.std.proofs.lemmas.{Int.to_z-of_z, Int.to_z_pos, Int.ints, Nat.mod_low, Nat.shr_high}
 use Rattle.ring_layout.specs.Headers.{header}
 
 pub pattern_below : (z : ℤ) → FitsSigned w32 z → cast_unsigned w32 z < 2 ^ 32

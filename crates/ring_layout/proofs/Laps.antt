@@ -1,9 +1,7 @@
 -- Remainders by the capacity.
 use Rattle.std.proofs.Common.{◌≡◌, ℕ, ◌+◌, ◌-◌, ◌*◌, ◌/◌, ◌%◌, ◌<◌, ◌≤◌, ap, sym, ◌∙◌, arith, ◌⊎◌, inl, inr}
-use Rattle.std.proofs.lemmas.Nat.{mod-mul-add, div-add-mod', mod_below}
-use Rattle.std.proofs.lemmas.Nat.Gcd.{dvd_of_mod-eq-zero}
-use Rattle.std.proofs.Math.Nat.{mod-mod_of_dvd, add-mod_right, mul-mod_left}
-use Rattle.std.proofs.lemmas.Bool.{cases_lt}
+use Rattle.std.proofs.lemmas.Nat.{mod-mul-add, div-add-mod', mod_below, Gcd.dvd_of_mod-eq-zero}
+use Rattle.std.proofs.{Math.Nat.mod-mod_of_dvd, Math.Nat.add-mod_right, Math.Nat.mul-mod_left, lemmas.Bool.cases_lt}
 
 -- a step that does not reach the next_place multiple of c
 pub mod_step : (c p d : ℕ) → p % c + d < c → (p + d) % c ≡ p % c + d

@@ -2,8 +2,7 @@
 use Rattle.std.proofs.Common.{◌≡◌, ℕ, ◌-◌, ◌<◌, ◌≤◌, List, [], ◌∷◌, ◌++◌, refl, ap, sym, ◌∙◌, arith, inl, inr, pos}
 use Rattle.std.proofs.lemmas.Bool.{cases_lt, cases_eq, lt-ltb, le-ltb, eq-eqb, ne_eqb, cond-true, cond-false}
 use Rattle.ring_layout.specs.History.{Claim, span_of}
-use Rattle.ring_layout.specs.Places.{next_place, end_after, end_of}
-use Rattle.ring_layout.specs.Headers.{header, padding_type}
+use Rattle.ring_layout.specs.{Places.next_place, Places.end_after, Places.end_of, Headers.header, Headers.padding_type}
 use Rattle.ring_layout.specs.Picture.{word_at, claim_word, ShowsClaim, ShowsNothingElse}
 use Rattle.ring_layout.proofs.PlaceLemmas.{next_le, end_of_le}
 

@@ -1,7 +1,6 @@
 -- Where claims are placed.
-use Rattle.std.proofs.Common.{◌≡◌, ℕ, ◌+◌, ◌-◌, ◌%◌, ◌<◌, ◌≤◌, List, [], ◌∷◌, ◌++◌, refl, ap, sym, ◌∙◌, arith, ◌⊎◌, inl, inr}
-use Rattle.std.proofs.lemmas.Nat.{mod_below}
-use Rattle.std.proofs.lemmas.Bool.{cases_lt, le-leb, lt-leb, cond-true, cond-false}
+use Rattle.std.proofs.Common.{◌≡◌, ℕ, ◌+◌, ◌-◌, ◌%◌, ◌<◌, ◌≤◌, List, [], ◌∷◌, ◌++◌, refl, ap, sym, ◌∙◌, arith, ◌⊎◌, inl, inr, le-leb}
+use Rattle.std.proofs.lemmas.{Nat.mod_below, Bool.cases_lt, Bool.lt-leb, Bool.cond-true, Bool.cond-false}
 use Rattle.ring_layout.specs.History.{Claim, span, span_of}
 use Rattle.ring_layout.specs.Places.{room, next_place, end_after, end_of}
 use Rattle.ring_layout.proofs.Laps.{mod_step, mod_room, mod_aligned}

@@ -1,9 +1,8 @@
 -- The words that claims make, by position.
 use Rattle.std.specs.Prelude.{◌≡◌, ℕ, ◌+◌, ◌-◌, ◌%◌, ◌<◌, ◌≤◌, List, [], ◌∷◌, drop, ◌++◌, if◌then◌else◌, nat_lt, ◌==◌}
 use Rattle.std.specs.Int.{from_le_bytes, w64}
-use Rattle.ring_layout.specs.History.{Claim, span_of}
+use Rattle.ring_layout.specs.{History.Claim, History.span_of, Headers.header_of, Headers.padding_header}
 use Rattle.ring_layout.specs.Places.{index, next_place, place_behind, end_of}
-use Rattle.ring_layout.specs.Headers.{header_of, padding_header}
 
 -- The word of a claim k bytes from its place. It is the header, and after that the body's bytes, little-endian, with
 -- zeros after them.

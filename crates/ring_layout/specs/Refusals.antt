@@ -1,10 +1,8 @@
 -- Refusals of a ring, a broadcast buffer or a message. They say what a result is with and without a refusal.
 use Rattle.std.specs.Prelude.{◌≡◌, ℕ, ◌/◌, ◌%◌, ◌^◌, ◌==◌, ◌||◌, Bool, not, nat_lt, int_lt, if◌then◌else◌, ℤ, pos}
 use Rattle.std.specs.Prelude.{Option, Some, None, Result, Err, MatchOption, IsOk, IsOkUnless}
-use Rattle.ring_layout.specs.declared.make_fault.MakeFault.{MakeFault}
+use Rattle.ring_layout.specs.{declared.make_fault.MakeFault.MakeFault, declared.share.NoShares.NoShares, History.span}
 use Rattle.ring_layout.specs.declared.make_fault.MakeFault.TheVariants.{BadCapacity, BadStart, OutOfMemory}
-use Rattle.ring_layout.specs.declared.share.NoShares.{NoShares}
-use Rattle.ring_layout.specs.History.{span}
 use Rattle.ring_layout.specs.Places.{end_after, max_position}
 
 -- the result is the refusal, or Ok if there is none

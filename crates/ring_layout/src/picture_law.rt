@@ -1,7 +1,6 @@
 //! A law about what one word of the picture of a ring depends on.
 ghost use Rattle.std.specs.Prelude.{ℕ, List};
-ghost use Rattle.ring_layout.specs.History.{Claim};
-ghost use Rattle.ring_layout.specs.Picture.{ShowsClaim, ShowsNothingElse};
+ghost use Rattle.ring_layout.specs.{History.Claim, Picture.ShowsClaim, Picture.ShowsNothingElse};
 
 /// States that a word of the picture depends only on the one claim, padding or unclaimed room at its position. The
 /// function computes nothing.

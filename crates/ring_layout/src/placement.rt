@@ -1,8 +1,7 @@
 //! The places of records in a buffer.
 ghost use Rattle.std.specs.Prelude.{◌≡◌, ◌+◌, ◌/◌, ◌%◌, ◌≤◌, IsTrue};
 ghost use Rattle.std.specs.Int.{is_power_of_two};
-ghost use Rattle.ring_layout.specs.History.{span};
-ghost use Rattle.ring_layout.specs.Places.{index, max_position, next_place};
+ghost use Rattle.ring_layout.specs.{History.span, Places.index, Places.max_position, Places.next_place};
 
 use crate::record_descriptor;
 

@@ -1,8 +1,7 @@
 //! Bytes inside a word, of which the first byte is the lowest, and bytes in several words.
 ghost use Rattle.std.specs.Prelude.{◌≡◌, ℕ, ◌+◌, ◌-◌, ◌*◌, ◌/◌, ◌%◌, ◌^◌, ◌<◌, ◌≤◌, length, slice_index, take};
 ghost use Rattle.std.specs.Int.{from_le_bytes, to_le_bytes, w64};
-ghost use Rattle.ring_layout.specs.Bytes.{HoldsBytes};
-ghost use Rattle.ring_layout.specs.History.{overwritten};
+ghost use Rattle.ring_layout.specs.{Bytes.HoldsBytes, History.overwritten};
 
 /// Returns the word in which these bytes replace the bytes from `at` on. The bytes are inside the word.
 pub fn put_bytes_word(word: u64, at: usize, bytes: &[u8]) -> u64

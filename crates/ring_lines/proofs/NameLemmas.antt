@@ -2,16 +2,12 @@
 use Rattle.std.proofs.Common.{◌≡◌, ◌∙◌, ◌≢◌, ℕ, ◌+◌, ◌*◌, ◌==◌, List, [], ◌∷◌, Option, None, Some, codes, refl, sym, ap, subst, if◌then◌else◌}
 use Rattle.ring_protocol.specs.Command.{OwnedRequest}
 use Rattle.ring_protocol.specs.declared.command.Request.TheVariants as request
-use Rattle.ring_lines.specs.declared.call.Call.{Call}
+use Rattle.ring_lines.specs.declared.{call.Call.Call, name.Name.Name, service_call.ServiceCall.ServiceCall}
 use Rattle.ring_lines.specs.declared.call.Call.TheVariants as call
-use Rattle.ring_lines.specs.declared.name.Name.{Name}
 use Rattle.ring_lines.specs.declared.name.Name.TheVariants.{Write, Claim, Put, Commit, Abort, Read, Control, Positions, Correlation, Beat, Heartbeat, Transmit, Subscribe, Receive, Leave, Storm, Send, Allocate, Own, Free, Set, Close, Work, Listen, Hear, Counters, Owner, Watch, Peek, Unwatch}
-use Rattle.ring_lines.specs.declared.service_call.ServiceCall.{ServiceCall}
 use Rattle.ring_lines.specs.declared.service_call.ServiceCall.TheVariants as asks
-use Rattle.ring_lines.specs.Forms.{AreOf, kinds_of, spelled}
+use Rattle.ring_lines.specs.{Forms.AreOf, Forms.kinds_of, Forms.spelled, Requests.AsksToSend, ServiceLines.AsksToServe}
 use Rattle.ring_lines.specs.Lines.{AsksFor}
-use Rattle.ring_lines.specs.Requests.{AsksToSend}
-use Rattle.ring_lines.specs.ServiceLines.{AsksToServe}
 
 -- the words are this name, and words of its kinds
 abbrev pub IsForm : Name → List (List ℕ) → Type 0

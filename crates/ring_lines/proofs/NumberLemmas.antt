@@ -1,12 +1,8 @@
 -- Words that `parse` refuses spell no number.
-use Rattle.std.proofs.Common.{◌≡◌, ◌∙◌, ℕ, suc, zero, ℤ, pos, ◌<◌, ◌==◌, ◌++◌, ◌^◌, Bool, true, false, cond, List, [], ◌∷◌, drop, slice_index, FitsSigned, inl, inr, refl, sym, ap, subst, arith}
-use Rattle.std.specs.Int.{Width}
-use Rattle.std.specs.Str.{IsAscii, IsUtf8}
-use Rattle.std.specs.Char.{digit_value}
+use Rattle.std.proofs.Common.{◌≡◌, ◌∙◌, ℕ, suc, zero, ℤ, pos, ◌<◌, ◌==◌, ◌++◌, ◌^◌, Bool, true, false, cond, List, [], ◌∷◌, drop, slice_index, FitsSigned, inl, inr, refl, sym, ap, subst, arith, IsAscii, IsUtf8}
+use Rattle.std.specs.{Int.Width, Char.digit_value, declared.num.ParseIntError.ParseIntError}
 use Rattle.std.specs.Str.Parse.{ExplainsSignedError, ExplainsUnsignedError, HasSignedDigitsIfOk, HasUnsignedDigitsIfOk, IsNumeral, ParsesSigned, ParsesUnsigned, digits_value, signed_digits_value, starts_with_minus, without_leading_plus, without_leading_sign}
-use Rattle.std.specs.declared.num.ParseIntError.{ParseIntError}
-use Rattle.std.proofs.lemmas.Fmt.{IsAscii-from_digits}
-use Rattle.std.proofs.lemmas.Str.{IsUtf8-append, IsUtf8-from_ascii}
+use Rattle.std.proofs.lemmas.{Fmt.IsAscii-from_digits, Str.IsUtf8-append, Str.IsUtf8-from_ascii}
 use Rattle.ring_lines.specs.Words.{RefusedBy, SpellsSigned, SpellsUnsigned}
 
 -- digits do not begin with `+`

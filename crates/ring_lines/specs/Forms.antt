@@ -1,11 +1,8 @@
 -- The words that a call takes after its name.
 use Rattle.std.specs.Prelude.{◌≡◌, ◌≢◌, ℕ, ℤ, List, [], ◌∷◌, codes}
 use Rattle.ring_words.specs.declared.read.action.Action.{Action}
-use Rattle.ring_lines.specs.declared.fault.LineFault.{LineFault}
-use Rattle.ring_lines.specs.declared.fault.LineFault.TheVariants.{OutOfMemory}
-use Rattle.ring_lines.specs.declared.lines.Words.{Words}
-use Rattle.ring_lines.specs.declared.moment.Moment.{Moment}
-use Rattle.ring_lines.specs.declared.name.Name.{Name}
+use Rattle.ring_lines.specs.declared.fault.LineFault.{LineFault, TheVariants.OutOfMemory}
+use Rattle.ring_lines.specs.declared.{lines.Words.Words, moment.Moment.Moment, name.Name.Name}
 use Rattle.ring_lines.specs.declared.name.Name.TheVariants.{Write, Claim, Put, Commit, Abort, Read, Control, Positions, Correlation, Beat, Heartbeat, Transmit, Subscribe, Receive, Leave, Storm, Send, Allocate, Own, Free, Set, Close, Work, Listen, Hear, Counters, Owner, Watch, Peek, Unwatch}
 use Rattle.ring_lines.specs.Taking.{words_in}
 use Rattle.ring_lines.specs.Words.{SpellsActions, SpellsBytes, SpellsI32, SpellsI64, SpellsUnsigned}

@@ -1,8 +1,6 @@
 -- The part of a line or a text that has not been taken yet.
 use Rattle.std.specs.Prelude.{◌≡◌, ℕ, List, ◌∷◌}
-use Rattle.ring_lines.specs.declared.lines.Lines.{Lines}
-use Rattle.ring_lines.specs.declared.lines.Words.{Words}
-use Rattle.ring_lines.specs.Text.{lines_of, words_of}
+use Rattle.ring_lines.specs.{declared.lines.Lines.Lines, declared.lines.Words.Words, Text.lines_of, Text.words_of}
 
 -- the lines that were not taken
 abbrev pub lines_in : Lines → List (List ℕ)

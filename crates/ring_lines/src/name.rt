@@ -37,8 +37,7 @@ pub enum Name {
 }
 
 impl Name {
-    ghost use Rattle.ring_lines.specs.declared.name.Name.{Name};
-    ghost use Rattle.ring_lines.specs.Forms.{spelled};
+    ghost use Rattle.ring_lines.specs.{declared.name.Name.Name, Forms.spelled};
 
     /// Returns the name that a word spells.
     pub fn of(word: &[u8]) -> Option<Name>

@@ -1,6 +1,5 @@
 //! The calls of the conductor's side that a line asks for. Commands are among them.
-ghost use Rattle.ring_lines.specs.Forms.{kinds_of, Refuses};
-ghost use Rattle.ring_lines.specs.Text.{words_of};
+ghost use Rattle.ring_lines.specs.{Forms.kinds_of, Forms.Refuses, Text.words_of};
 ghost use Rattle.std.specs.Prelude.{◌∷◌, IfErr, IfOk, codes};
 
 use crate::fault::LineFault;

@@ -1,9 +1,7 @@
 -- What is read by its type id.
-use Rattle.std.proofs.Common.{◌≡◌, ◌≢◌, ℤ, Bool, true, false, cond, List, ℕ, Option, Some, None, Result, Ok, Err, Decides, refl, sym, subst}
-use Rattle.std.specs.Ordering.{int_eq}
+use Rattle.std.proofs.Common.{◌≡◌, ◌≢◌, ℤ, Bool, true, false, cond, List, ℕ, Option, Some, None, Result, Ok, Err, Decides, refl, sym, subst, int_eq}
 use Rattle.std.proofs.lemmas.Bool.Decides.{Decides-int_eq, not_from_Decides}
-use Rattle.ring_protocol.specs.declared.fault.Bad.{Bad}
-use Rattle.ring_protocol.specs.declared.fault.Bad.TheVariants.{Malformed}
+use Rattle.ring_protocol.specs.declared.fault.Bad.{Bad, TheVariants.Malformed}
 use Rattle.ring_protocol.specs.Bad.{correlation_of, or_malformed, IsFaultOf}
 use Rattle.ring_protocol.specs.Field.{AreBytes, Reader, whole}
 use Rattle.ring_protocol.proofs.Readers.{IsReaderOf, whole_takes}

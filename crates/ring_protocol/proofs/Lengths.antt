@@ -1,6 +1,5 @@
 -- The length of each encoding.
-use Rattle.std.proofs.Common.{◌≡◌, ℕ, ℤ, ◌+◌, ◌≤◌, List, ◌++◌, length, refl, sym, ◌∙◌, arith}
-use Rattle.std.proofs.lemmas.List.{length-append}
+use Rattle.std.proofs.Common.{◌≡◌, ℕ, ℤ, ◌+◌, ◌≤◌, List, ◌++◌, length, refl, sym, ◌∙◌, arith, length-append}
 use Rattle.ring_protocol.specs.Field.{u32_field, u64_field, i32_field, i64_field, sized_field}
 use Rattle.ring_protocol.specs.Command.{Instruction, Request, Allocate, Free, Set, AllocateOwned, Close, fields_of, spelling_of, with_id, HasLawfulTexts}
 

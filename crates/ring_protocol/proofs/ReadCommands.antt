@@ -1,11 +1,7 @@
 -- Each command is read from its encoding, and from no other bytes.
-use Rattle.std.proofs.Common.{◌≡◌, ◌≢◌, ℕ, ℤ, pos, ◌^◌, ◌<◌, List, [], ◌++◌, cond, Result, Ok, Err, FitsSigned, refl, sym, subst, ◌∙◌, w32, w64}
-use Rattle.ring_protocol.specs.declared.fault.Bad.{Bad}
-use Rattle.ring_protocol.specs.declared.fault.Bad.TheVariants.{UnknownType}
-use Rattle.std.specs.Prelude.{IfOk, IfErr, IsOkAnd}
-use Rattle.std.specs.Ordering.{int_eq}
+use Rattle.std.proofs.Common.{◌≡◌, ◌≢◌, ℕ, ℤ, pos, ◌^◌, ◌<◌, List, [], ◌++◌, cond, Result, Ok, Err, FitsSigned, refl, sym, subst, ◌∙◌, w32, w64, IfOk, IfErr, IsOkAnd, int_eq}
+use Rattle.ring_protocol.specs.declared.{fault.Bad.Bad, fault.Bad.TheVariants.UnknownType, command.Command.Command}
 use Rattle.std.specs.Result.{result_map_both}
-use Rattle.ring_protocol.specs.declared.command.Command.{Command}
 use Rattle.ring_protocol.specs.Field.{AreBytes, IsSized, Reader, ◌⊗◌, u32_field, u64_field, i32_field, i64_field, sized_field, u32_at, u64_at, i32_at, i64_at, sized_at}
 use Rattle.ring_protocol.specs.Bad.{correlation_of, or_malformed, IsFaultOf}
 use Rattle.ring_protocol.specs.Command.{Instruction, Request, Allocate, Free, Set, AllocateOwned, Close, content_of, fields_of, request_type_id, type_id_of, spelling_of, HasFields, HasSpelling, Spells, IsCommandType, with_id}

@@ -1,12 +1,8 @@
 -- Each reply is read from its encoding, and from no other bytes.
-use Rattle.std.proofs.Common.{◌≡◌, ◌≢◌, ℕ, ℤ, pos, List, Result, Ok, Err, refl, sym, subst}
-use Rattle.std.specs.Prelude.{IfOk, IfErr}
-use Rattle.ring_protocol.specs.declared.fault.Bad.{Bad}
-use Rattle.ring_protocol.specs.declared.fault.Bad.TheVariants.{UnknownType}
-use Rattle.ring_protocol.specs.declared.reply.Reply.{Reply}
+use Rattle.std.proofs.Common.{◌≡◌, ◌≢◌, ℕ, ℤ, pos, List, Result, Ok, Err, refl, sym, subst, IfOk, IfErr}
+use Rattle.ring_protocol.specs.declared.{fault.Bad.Bad, fault.Bad.TheVariants.UnknownType, reply.Reply.Reply}
 use Rattle.ring_protocol.specs.declared.reply.Reply.TheVariants.{Allocated, Done, Refused, Closed}
-use Rattle.ring_protocol.specs.Field.{AreBytes}
-use Rattle.ring_protocol.specs.Bad.{correlation_of, IsFaultOf}
+use Rattle.ring_protocol.specs.{Field.AreBytes, Bad.correlation_of, Bad.IsFaultOf}
 use Rattle.ring_protocol.specs.Reply.{type_id_of, spelling_of, HasSpelling, Spells, IsReplyType}
 use Rattle.ring_protocol.specs.Reading.{allocated_of, done_of, refused_of, closed_of, reply_of}
 use Rattle.ring_protocol.proofs.Readers.{u64_reader, u32_after, i32_after, whole_again}

@@ -1,11 +1,9 @@
 -- A field that is read is the field that was written, and what was written is read again.
-use Rattle.std.proofs.Common.{◌≡◌, ℕ, ℤ, ◌^◌, ◌<◌, ◌≤◌, Bool, true, false, cond, ltb, eqb, List, [], ◌++◌, length, get_or, take, drop, Option, Some, None, Ok, FitsSigned, Fits, refl, sym, ap, subst, ◌∙◌, append_assoc, arith, inl, inr}
-use Rattle.std.specs.Int.{Width, w32, w64, to_le_bytes, from_le_bytes, cast_signed, cast_unsigned}
-use Rattle.std.proofs.Math.Facts.{sfits_to_z, Fits-of_z, of_z-to_z, to_z-of_z}
-use Rattle.std.proofs.lemmas.Bool.{cases_lt, ltb-false, le-ltb, eqb-true}
-use Rattle.std.proofs.lemmas.List.{take_at, drop_at, take-append-drop, length-append, length-take, get_or_past, append-nil, nil_from_length}
-use Rattle.std.proofs.lemmas.List.Elements.{All-take, All-drop, All-get_or}
-use Rattle.std.proofs.lemmas.Option.{cond_some}
+use Rattle.std.proofs.Common.{◌≡◌, ℕ, ℤ, ◌^◌, ◌<◌, ◌≤◌, Bool, true, false, cond, ltb, eqb, List, [], ◌++◌, length, get_or, take, drop, Option, Some, None, Ok, FitsSigned, Fits, refl, sym, ap, subst, ◌∙◌, append_assoc, arith, inl, inr, w32, w64, to_z-of_z, ltb-false, le-ltb, eqb-true, take_at, drop_at, take-append-drop, length-append, length-take, append-nil}
+use Rattle.std.specs.Int.{Width, to_le_bytes, from_le_bytes, cast_signed, cast_unsigned}
+use Rattle.std.proofs.Math.Facts.{sfits_to_z, Fits-of_z, of_z-to_z}
+use Rattle.std.proofs.lemmas.{Bool.cases_lt, List.Elements.All-take, List.Elements.All-drop, List.Elements.All-get_or}
+use Rattle.std.proofs.lemmas.{List.get_or_past, List.nil_from_length, Option.cond_some}
 use Rattle.std.proofs.lemmas.Nat.{le_bytes_4, le_bytes_8, from_le_bytes-to_le_bytes_4, from_le_bytes-to_le_bytes_8}
 use Rattle.ring_protocol.specs.Bad.{or_malformed}
 use Rattle.ring_protocol.specs.Field.{AreBytes, IsSized, Reader, ◌>>=◌, ◌⊗◌, whole, u32_field, u64_field, i32_field, i64_field, sized_field, u32_at, u64_at, i32_at, i64_at, sized_at}

@@ -1,15 +1,11 @@
 -- What is written is the spelling of a command.
-use Rattle.std.proofs.Common.{◌≡◌, ℕ, ℤ, ◌<◌, List, [], ◌++◌, length, get_or, take, drop, Option, None, Some, Ok, sym, FitsSigned, to_z, of_z, w32, w64, refl, ap, subst, ◌∙◌, append_assoc}
-use Rattle.std.specs.Prelude.{IfSome}
+use Rattle.std.proofs.Common.{◌≡◌, ℕ, ℤ, ◌<◌, List, [], ◌++◌, length, get_or, take, drop, Option, None, Some, Ok, sym, FitsSigned, to_z, of_z, w32, w64, refl, ap, subst, ◌∙◌, append_assoc, IfSome, append-nil, take_at}
 use Rattle.std.specs.Int.{Width, to_le_bytes}
-use Rattle.std.proofs.lemmas.Int.{to_z-of_z}
-use Rattle.std.proofs.lemmas.List.{append-nil, take_at}
-use Rattle.std.proofs.lemmas.List.Elements.{All-from_get_or}
+use Rattle.std.proofs.lemmas.{Int.to_z-of_z, List.Elements.All-from_get_or}
 use Rattle.ring_protocol.specs.Field.{AreBytes, u32_field, u64_field, i32_field, i64_field, sized_field}
-use Rattle.ring_protocol.specs.declared.reply.Reply.{Reply}
+use Rattle.ring_protocol.specs.{declared.reply.Reply.Reply, Reading.command_of, Reading.reply_of}
 use Rattle.ring_protocol.specs.Reply as reply
 use Rattle.ring_protocol.specs.Command.{Instruction, Allocate, Free, Set, AllocateOwned, Close, fields_of, type_id_of, spelling_of, HasSpelling, HasTextLengths}
-use Rattle.ring_protocol.specs.Reading.{command_of, reply_of}
 use Rattle.ring_protocol.specs.Writing.{WritesText, Encodes, EncodesReply, over_start}
 use Rattle.ring_protocol.proofs.ReadCommands as commands
 use Rattle.ring_protocol.proofs.ReadReplies as replies

@@ -1,8 +1,7 @@
 -- The fault of a type id and a body that encode nothing.
 use Rattle.std.specs.Prelude.{◌≡◌, ℕ, ◌-◌, ◌^◌, List, length, take, Option, Some, None, Result, Ok, Err, nat_lt, if◌then◌else◌}
 use Rattle.std.specs.Int.{w64, from_le_bytes}
-use Rattle.ring_protocol.specs.declared.fault.Bad.{Bad}
-use Rattle.ring_protocol.specs.declared.fault.Bad.TheVariants.{Malformed, UnknownType}
+use Rattle.ring_protocol.specs.declared.fault.Bad.{Bad, TheVariants.Malformed, TheVariants.UnknownType}
 
 -- the first 8 bytes of a body, or the greatest number if the body is shorter
 unfoldable pub correlation_of : List ℕ → ℕ

@@ -1,15 +1,11 @@
 -- The reasons why a command is refused, and the numbers of these reasons in replies.
 use Rattle.std.specs.Prelude.{◌≡◌, ℕ, ℤ, pos, Result, Ok, IfOk, IfErr}
-use Rattle.ring_protocol.specs.declared.codes.RefusalCode.{RefusalCode}
+use Rattle.ring_protocol.specs.declared.codes.{RefusalCode.RefusalCode, UnknownCode.UnknownCode}
 use Rattle.ring_protocol.specs.declared.codes.RefusalCode.TheVariants as of
-use Rattle.ring_protocol.specs.declared.codes.UnknownCode.{UnknownCode}
-use Rattle.ring_protocol.specs.declared.fault.Bad.{Bad}
-use Rattle.ring_protocol.specs.declared.fault.Bad.TheVariants.{Malformed, UnknownType}
-use Rattle.ring_counters.specs.declared.fault.AllocateRefused.{AllocateRefused}
+use Rattle.ring_protocol.specs.declared.fault.Bad.{Bad, TheVariants.Malformed, TheVariants.UnknownType}
+use Rattle.ring_counters.specs.{declared.fault.AllocateRefused.AllocateRefused, Codes.allocate_code, Codes.id_code}
 use Rattle.ring_counters.specs.declared.fault.AllocateRefused.TheVariants.{KeyTooLong, LabelTooLong, LabelNotAscii, NoFreeCounter}
-use Rattle.ring_counters.specs.declared.fault.IdFault.{IdFault}
-use Rattle.ring_counters.specs.declared.fault.IdFault.TheVariants.{BadId, NotAllocated}
-use Rattle.ring_counters.specs.Codes.{allocate_code, id_code}
+use Rattle.ring_counters.specs.declared.fault.IdFault.{IdFault, TheVariants.BadId, TheVariants.NotAllocated}
 
 -- the number of each refusal
 abbrev pub number_of : RefusalCode → ℤ

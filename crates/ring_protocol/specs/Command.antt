@@ -1,9 +1,6 @@
 -- Commands, and the one encoding of each.
 use Rattle.std.specs.Prelude.{◌≡◌, ℕ, ℤ, pos, ◌<◌, ◌≤◌, ◌^◌, List, ◌++◌, length, FitsSigned}
-use Rattle.std.specs.Borrow.{Bor}
-use Rattle.std.specs.Int.{w32, w64}
-use Rattle.std.specs.declared.alloc.Global.{Global}
-use Rattle.std.specs.declared.vec.Vec.{Vec}
+use Rattle.std.specs.{Borrow.Bor, Int.w32, Int.w64, declared.alloc.Global.Global, declared.vec.Vec.Vec}
 use Rattle.ring_protocol.specs.declared.command.Command.{Command}
 use Rattle.ring_protocol.specs.declared.command.Command.TheVariants as of
 pub use Rattle.ring_protocol.specs.declared.command.Request.{Request}

@@ -1,11 +1,9 @@
 -- Commands and replies, read from the front of a body to its end.
 use Rattle.std.specs.Prelude.{ℕ, ℤ, pos, List, Option, Result, Err, if◌then◌else◌}
 use Rattle.std.specs.Ordering.{int_eq}
-use Rattle.ring_protocol.specs.declared.fault.Bad.{Bad}
-use Rattle.ring_protocol.specs.declared.fault.Bad.TheVariants.{UnknownType}
+use Rattle.ring_protocol.specs.declared.{fault.Bad.Bad, fault.Bad.TheVariants.UnknownType, reply.Reply.Reply}
 use Rattle.ring_protocol.specs.Field.{Reader, ◌⊗◌, whole, u32_at, u64_at, i32_at, i64_at, sized_at}
 use Rattle.ring_protocol.specs.Bad.{correlation_of, or_malformed}
-use Rattle.ring_protocol.specs.declared.reply.Reply.{Reply}
 use Rattle.ring_protocol.specs.declared.reply.Reply.TheVariants.{Allocated, Done, Refused, Closed}
 use Rattle.ring_protocol.specs.Command.{Instruction, Request, Allocate, Free, Set, AllocateOwned, Close, with_id}
 

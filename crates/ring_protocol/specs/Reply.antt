@@ -1,9 +1,8 @@
 -- Replies, and the one encoding of each.
 use Rattle.std.specs.Prelude.{◌≡◌, ℕ, ℤ, pos, ◌<◌, ◌^◌, List, ◌++◌, FitsSigned}
 use Rattle.std.specs.Int.{w32}
-use Rattle.ring_protocol.specs.declared.reply.Reply.{Reply}
+use Rattle.ring_protocol.specs.{declared.reply.Reply.Reply, Field.u32_field, Field.u64_field, Field.i32_field}
 use Rattle.ring_protocol.specs.declared.reply.Reply.TheVariants.{Allocated, Done, Refused, Closed}
-use Rattle.ring_protocol.specs.Field.{u32_field, u64_field, i32_field}
 
 -- the type id of the message that encodes a reply
 abbrev pub type_id_of : Reply → ℤ

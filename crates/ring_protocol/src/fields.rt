@@ -2,11 +2,9 @@
 //! an output.
 
 ghost use Rattle.std.specs.Prelude.{◌≡◌, ◌≤◌, ◌<◌, ◌^◌, ◌↔◌, length, IsSome, IfSome};
-ghost use Rattle.std.specs.List.{flat_map};
-ghost use Rattle.std.specs.Option.{option_map};
-ghost use Rattle.ring_protocol.specs.Bad.{correlation_of};
+ghost use Rattle.std.specs.{List.flat_map, Option.option_map};
+ghost use Rattle.ring_protocol.specs.{Bad.correlation_of, Writing.WritesText};
 ghost use Rattle.ring_protocol.specs.Field.{u32_at, u64_at, i32_at, i64_at, sized_at, u32_field};
-ghost use Rattle.ring_protocol.specs.Writing.{WritesText};
 
 #[tactic(auto, unfolding(crate::specs::Field::u32_at))]
 #[inline]

@@ -3,8 +3,7 @@ ghost use Rattle.std.specs.Prelude.{◌≡◌, ◌≤◌, length, ℕ, ℤ, List
 ghost use Rattle.ring_protocol.specs.declared.reply.Reply.{Reply as AnyReply};
 ghost use Rattle.ring_protocol.specs.Command.{Instruction, spelling_of, type_id_of, HasLawfulTexts, Spells};
 ghost use Rattle.ring_protocol.specs.Reply as reply;
-ghost use Rattle.ring_protocol.specs.Reading.{command_of, reply_of};
-ghost use Rattle.ring_protocol.specs.Writing.{Encodes, EncodesReply};
+ghost use Rattle.ring_protocol.specs.{Reading.command_of, Reading.reply_of, Writing.Encodes, Writing.EncodesReply};
 
 /// States that a type id and a body together encode at most one command.
 pub fn one_command()

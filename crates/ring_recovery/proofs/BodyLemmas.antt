@@ -1,30 +1,18 @@
 -- The slots that a ring left have the records of the claims from the head on that were settled.
 use Rattle.std.specs.Prelude.{⊤}
 use Rattle.std.proofs.Common.{◌≡◌, ◌≢◌, ℕ, zero, suc, ◌+◌, ◌*◌, ◌/◌, ◌≤◌, ◌<◌, ◌⊎◌, List, [], ◌∷◌, ◌++◌, cond, true, length, sym, refl, ap, ◌∙◌, subst, ⊎_elim, eq-eqb, ne_eqb, arith}
-use mathlib.Core.Logic.{dite}
-use mathlib.Core.Option.{Option, some, some-injective, some-ne-none}
-use native.Mathlib.Decide.{ℕ_discrete}
-use lib.ListN.{get_elem?}
+use Rattle.std.proofs.Math.{Logic.dite, ListN.get_elem?}
+use Rattle.std.proofs.Math.{Option.Option, Option.some, Option.some-injective, Option.some-ne-none, Decide.ℕ_discrete}
 use Rattle.ring_layout.specs.Places.{index}
-use Rattle.ring_table.specs.Closed.{restarted}
-use Rattle.ring_table.specs.Owners.{OwnedHistory, all_of, owned_by}
-use Rattle.ring_table.specs.Passing.{IsSettled, placed_message}
-use Rattle.ring_table.specs.Rule.{Kept}
-use Rattle.ring_table.specs.Shelf.{IsClaimOf, IsGotOut, IsOwnOut, IsShelf}
-use Rattle.ring_table.specs.SlotSteps.{words_of}
-use Rattle.ring_table.specs.Staged.{elsewhere}
-use Rattle.ring_table.specs.declared.claim.PlacedMessage.{PlacedMessage}
-use Rattle.ring_table.specs.declared.claim.StagedClaim.{StagedClaim}
-use Rattle.ring_table.specs.declared.view.View.{View}
-use Rattle.ring_table.proofs.BodyPlaces.{WasPassed, body_index, claim_lies}
-use Rattle.ring_table.proofs.ListLemmas.{there_or_past}
+use Rattle.ring_table.specs.{Closed.restarted, Owners.OwnedHistory, Owners.all_of, Owners.owned_by, Staged.elsewhere}
+use Rattle.ring_table.specs.{Passing.IsSettled, Passing.placed_message, Rule.Kept}
+use Rattle.ring_table.specs.{Shelf.IsClaimOf, Shelf.IsGotOut, Shelf.IsOwnOut, Shelf.IsShelf, SlotSteps.words_of}
+use Rattle.ring_table.specs.declared.{claim.PlacedMessage.PlacedMessage, claim.StagedClaim.StagedClaim, view.View.View}
+use Rattle.ring_table.proofs.{BodyPlaces.WasPassed, BodyPlaces.body_index, BodyPlaces.claim_lies, ReachLemmas.stored_of}
+use Rattle.ring_table.proofs.{ListLemmas.there_or_past, PictureWords.read_at, StagedPlaces.one_at_place}
 use Rattle.ring_table.proofs.OutPlaces.{NoneAt, all_home, got_lies, in_history, no_out, none_at_got, one_out, reads_from}
-use Rattle.ring_table.proofs.PictureWords.{read_at}
-use Rattle.ring_table.proofs.ReachLemmas.{stored_of}
-use Rattle.ring_table.proofs.StagedPlaces.{one_at_place}
 use Rattle.ring_table.proofs.StepLemmas.{one_view}
-use Rattle.ring_recovery.specs.Image.{HaveRecord, IsImage}
-use Rattle.ring_recovery.specs.Recovered.{AreFrom}
+use Rattle.ring_recovery.specs.{Image.HaveRecord, Image.IsImage, Recovered.AreFrom}
 use Rattle.ring_recovery.proofs.MarkLemmas.{HaveRecords}
 
 -- a claim of the history is one of its owner's

@@ -1,30 +1,21 @@
 -- The headers of one claim, and what they give.
-use Rattle.std.specs.Prelude.{int_lt, ◌&&◌, ◌||◌}
-use Rattle.std.proofs.Common.{◌≡◌, ℕ, zero, suc, ◌+◌, ◌-◌, ◌*◌, ◌/◌, ◌%◌, ◌^◌, ◌<◌, ◌≤◌, true, false, cond, List, [], ◌∷◌, ◌++◌, length, slice_index, refl, sym, ap, ◌∙◌, subst, arith, ⊎_elim, lt-ltb, le-ltb, ℤ, pos, negsuc, neg_ℤ, nat_abs, FitsSigned}
-use Rattle.std.specs.Int.{w32}
+use Rattle.std.proofs.Common.{◌≡◌, ℕ, zero, suc, ◌+◌, ◌-◌, ◌*◌, ◌/◌, ◌%◌, ◌^◌, ◌<◌, ◌≤◌, true, false, cond, List, [], ◌∷◌, ◌++◌, length, slice_index, refl, sym, ap, ◌∙◌, subst, arith, ⊎_elim, lt-ltb, le-ltb, ℤ, pos, negsuc, neg_ℤ, nat_abs, FitsSigned, int_lt, ◌&&◌, ◌||◌, w32}
 use Rattle.std.proofs.lemmas.Bool.{cases_lt, cond-true, cond-false}
 use Rattle.ring_layout.specs.declared.message.ClaimState.TheVariants.{Open, Committed, Aborted}
 use Rattle.ring_layout.specs.Headers.{header, header_of, padding_type}
-use Rattle.ring_layout.specs.History.{span}
-use Rattle.ring_layout.specs.Places.{index, next_place, room, rounded}
+use Rattle.ring_layout.specs.{History.span, Places.index, Places.next_place, Places.room, Places.rounded}
 use Rattle.ring_layout.proofs.CapacityLemmas.{capacity_blocks}
-use Rattle.ring_layout.proofs.HeaderLemmas.{fits_neg, fits_pos}
-use Rattle.ring_layout.proofs.Laps.{index_step, mod_aligned}
+use Rattle.ring_layout.proofs.{HeaderLemmas.fits_neg, HeaderLemmas.fits_pos, Laps.index_step, Laps.mod_aligned}
 use Rattle.ring_layout.proofs.PlaceLemmas.{next_aligned, next_cases, next_le, next_within, span_bounds}
-use Rattle.ring_snapshot.specs.RingRecords.{is_length}
+use Rattle.ring_snapshot.{specs.RingRecords.is_length, proofs.EntryLemmas.body_told}
 use Rattle.ring_counters.specs.Records.{bytes_at}
-use Rattle.ring_snapshot.proofs.EntryLemmas.{body_told}
 use Rattle.ring_table.specs.Passing.{IsSettled, placed_committed_of, placed_message, shown_at}
-use Rattle.ring_table.specs.Rescued.{one_if_unsettled, unsettled_count}
+use Rattle.ring_table.{specs.Rescued.one_if_unsettled, specs.Rescued.unsettled_count, proofs.DecodeLemmas.masked_zero}
 use Rattle.ring_table.specs.Staged.{elsewhere, LiesAfter, body_word, claim_end, masked_padding, masked_record, padding_mark, padding_word, staged_span, staged_word, stage_state}
-use Rattle.ring_table.specs.declared.claim.PlacedMessage.{PlacedMessage}
-use Rattle.ring_table.specs.declared.claim.Stage.{Stage}
-use Rattle.ring_table.specs.declared.claim.Stage.TheVariants.{Moved, Padded, Stored}
-use Rattle.ring_table.specs.declared.claim.StagedClaim.{StagedClaim}
-use Rattle.ring_table.proofs.DecodeLemmas.{masked_zero}
+use Rattle.ring_table.specs.declared.claim.{PlacedMessage.PlacedMessage, StagedClaim.StagedClaim}
+use Rattle.ring_table.specs.declared.claim.Stage.{Stage, TheVariants.Moved, TheVariants.Padded, TheVariants.Stored}
 use Rattle.ring_table.proofs.StagedWords.{staged_word-body, staged_word-header, staged_word-padding, staged_word-padding_behind}
-use Rattle.ring_recovery.specs.Headers.{bytes_in, is_type, message_at}
-use Rattle.ring_recovery.specs.Recovered.{all_placed}
+use Rattle.ring_recovery.specs.{Headers.bytes_in, Headers.is_type, Headers.message_at, Recovered.all_placed}
 use Rattle.ring_recovery.proofs.HeaderLemmas.{IsHeader, abs_neg, bytes_are, committed_is, length_fits, neg_below, neg_not_above, not_negative, not_zero, open_is, pos_above, type_above, type_is}
 use Rattle.ring_recovery.proofs.ScanLemmas.{listed, one, zeros}
 use Rattle.ring_recovery.proofs.GivenLemmas.{Adds, AreShown, Gives, HaveBody, adds, far, gives_below}

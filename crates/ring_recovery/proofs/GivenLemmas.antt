@@ -1,17 +1,13 @@
 -- What the headers of claims give: messages, open claims, and no finding.
 use Rattle.std.proofs.Common.{◌≡◌, ℕ, ◌+◌, ◌%◌, ◌<◌, ◌≤◌, Bool, true, false, cond, List, [], ◌∷◌, ◌++◌, length, slice_index, refl, sym, ap, ◌∙◌, arith, None, ℤ, nat_abs}
 use Rattle.std.specs.Prelude.{⊤}
-use Rattle.ring_layout.specs.Lists.{or_else}
-use Rattle.ring_layout.specs.Places.{IsCapacity, index, rounded}
+use Rattle.ring_layout.specs.{Lists.or_else, Places.IsCapacity, Places.index, Places.rounded}
 use Rattle.ring_layout.proofs.PlaceLemmas.{next_le}
-use Rattle.ring_table.specs.Passing.{IsSettled, placed_committed_of}
-use Rattle.ring_table.specs.Rescued.{unsettled_count}
+use Rattle.ring_table.specs.{Passing.IsSettled, Passing.placed_committed_of, Rescued.unsettled_count}
 use Rattle.ring_table.specs.Staged.{elsewhere, ArePlaced, body_word, claim_end, staged_end, staged_span, staged_word_at}
-use Rattle.ring_table.specs.declared.claim.PlacedMessage.{PlacedMessage}
-use Rattle.ring_table.specs.declared.claim.StagedClaim.{StagedClaim}
+use Rattle.ring_table.specs.declared.claim.{PlacedMessage.PlacedMessage, StagedClaim.StagedClaim}
 use Rattle.ring_recovery.specs.Headers.{bytes_in, headers_finding, is_committed, is_open, message_at, messages_of, open_of}
-use Rattle.ring_recovery.specs.Recovered.{all_placed}
-use Rattle.ring_recovery.specs.declared.message.RecoveredMessage.{RecoveredMessage}
+use Rattle.ring_recovery.specs.{Recovered.all_placed, declared.message.RecoveredMessage.RecoveredMessage}
 use Rattle.ring_recovery.proofs.HeaderLemmas.{IsHeader, bytes_are, no_finding}
 
 -- the slots have this body after the header at this place

@@ -1,11 +1,7 @@
 -- What a header says that a record has.
-use Rattle.std.proofs.Common.{◌≡◌, ℕ, zero, suc, ◌+◌, ◌/◌, ◌%◌, ◌<◌, ◌≤◌, Bool, true, false, refl, sym, ap, ◌∙◌, arith, le-ltb, ℤ, pos, neg_ℤ, nat_abs, ◌≤ℤ◌, FitsSigned}
-use Rattle.std.specs.Prelude.{int_lt, not, ◌&&◌, ◌||◌, None}
-use Rattle.std.specs.Int.{w32}
-use Rattle.std.proofs.lemmas.Bool.{cond-true, cond-false}
-use Rattle.std.proofs.lemmas.Int.{ints}
-use Rattle.ring_layout.specs.Headers.{header}
-use Rattle.ring_layout.specs.Places.{room, rounded}
+use Rattle.std.proofs.Common.{◌≡◌, ℕ, zero, suc, ◌+◌, ◌/◌, ◌%◌, ◌<◌, ◌≤◌, Bool, true, false, refl, sym, ap, ◌∙◌, arith, le-ltb, ℤ, pos, neg_ℤ, nat_abs, ◌≤ℤ◌, FitsSigned, int_lt, not, ◌&&◌, ◌||◌, None, w32}
+use Rattle.std.proofs.lemmas.{Bool.cond-true, Bool.cond-false, Int.ints}
+use Rattle.ring_layout.specs.{Headers.header, Places.room, Places.rounded}
 use Rattle.ring_layout.proofs.HeaderLemmas.{len_of-header, type_of-header}
 use Rattle.ring_snapshot.specs.RingRecords.{is_length, length_in, type_in}
 use Rattle.ring_recovery.specs.Headers.{bytes_in, header_finding, is_committed, is_open, is_type}

@@ -1,28 +1,21 @@
 -- What the marks and the slots of a ring show is what its claims have there.
-use Rattle.std.specs.Prelude.{◌&&◌, ◌==◌, ⊤}
-use Rattle.std.proofs.Common.{◌≡◌, ◌≢◌, ℕ, ◌+◌, ◌-◌, ◌*◌, ◌/◌, ◌%◌, ◌^◌, ◌≤◌, ◌<◌, true, List, [], ◌∷◌, cond, length, slice_index, refl, sym, ap, ◌∙◌, subst, ⊎_elim, lt-ltb, le-ltb, eq-eqb, ne_eqb, ltb, arith}
-use mathlib.Core.Logic.{dite}
-use native.Mathlib.Decide.{ℕ_discrete}
-use Rattle.std.proofs.lemmas.Bool.{cases_lt, cond-true, cond-false, le-leb, lt-leb}
-use Rattle.ring_layout.specs.Marks.{committed_kind, open_kind}
+use Rattle.std.specs.Prelude.{⊤}
+use Rattle.std.proofs.Common.{◌≡◌, ◌≢◌, ℕ, ◌+◌, ◌-◌, ◌*◌, ◌/◌, ◌%◌, ◌^◌, ◌≤◌, ◌<◌, true, List, [], ◌∷◌, cond, length, slice_index, refl, sym, ap, ◌∙◌, subst, ⊎_elim, lt-ltb, le-ltb, eq-eqb, ne_eqb, ltb, arith, ◌&&◌, ◌==◌, le-leb}
+use Rattle.std.proofs.Math.{Logic.dite, Decide.ℕ_discrete}
+use Rattle.std.proofs.lemmas.Bool.{cases_lt, cond-true, cond-false, lt-leb}
+use Rattle.ring_layout.specs.{Marks.committed_kind, Marks.open_kind, Headers.committed_header, Headers.header_of}
 use Rattle.ring_layout.specs.declared.message.ClaimState.TheVariants.{Open, Committed, Aborted}
-use Rattle.ring_layout.specs.declared.message.Message.{Message}
-use Rattle.ring_layout.specs.Headers.{committed_header, header_of}
-use Rattle.ring_layout.specs.History.{IsMessage, span}
+use Rattle.ring_layout.specs.{declared.message.Message.Message, History.IsMessage, History.span}
 use Rattle.ring_layout.specs.Places.{IsCapacity, index}
 use Rattle.ring_table.specs.Marks.{bytes_of, decoded, kind_of, mark_of, IsMarkOf}
-use Rattle.ring_table.specs.Passing.{IsSettled}
+use Rattle.ring_table.specs.{Passing.IsSettled, declared.claim.StagedClaim.StagedClaim}
 use Rattle.ring_table.specs.Staged.{elsewhere, ArePlaced, claim_end, masked_record, stage_state, staged_word, staged_word_at}
-use Rattle.ring_table.specs.declared.claim.Stage.{Stage}
-use Rattle.ring_table.specs.declared.claim.Stage.TheVariants.{Moved, Padded, Stored}
-use Rattle.ring_table.specs.declared.claim.StagedClaim.{StagedClaim}
+use Rattle.ring_table.specs.declared.claim.Stage.{Stage, TheVariants.Moved, TheVariants.Padded, TheVariants.Stored}
 use Rattle.ring_table.proofs.DecodeLemmas.{HeadAt, all_filled_out, decode_all, decoded_none, filled_end, filled_out, filled_placed, filled_record, filled_settled_one, inner_word, kind_is_committed}
 use Rattle.ring_table.proofs.MarkWords.{committed_small, few_of, long_bytes, near_all, shows_claim, shows_mark, whole_bytes}
-use Rattle.ring_table.proofs.SlotBytes.{first_word_of, slot_later}
-use Rattle.ring_table.proofs.StagedWords.{staged_word-header}
+use Rattle.ring_table.proofs.{SlotBytes.first_word_of, SlotBytes.slot_later, StagedWords.staged_word-header}
 use Rattle.ring_recovery.specs.Headers.{has_end, header_of_mark, is_of_run, shows}
-use Rattle.ring_recovery.specs.Image.{HaveRecord}
-use Rattle.ring_recovery.proofs.GivenLemmas.{HaveAll, HaveBody}
+use Rattle.ring_recovery.{specs.Image.HaveRecord, proofs.GivenLemmas.HaveAll, proofs.GivenLemmas.HaveBody}
 
 -- ---- the bytes of a header
 

@@ -1,39 +1,23 @@
 -- What the headers and the slots that a ring left come to.
-use Rattle.std.proofs.Common.{◌≡◌, ℕ, ◌+◌, ◌-◌, ◌/◌, ◌%◌, ◌≤◌, ◌<◌, true, false, List, ◌++◌, refl, sym, ap, ◌∙◌, subst, append_assoc, eq-eqb, le-ltb, arith, None, Result, Ok, Err}
-use Rattle.std.specs.Prelude.{IfOk, MatchResult, not, ◌||◌}
+use Rattle.std.proofs.Common.{◌≡◌, ℕ, ◌+◌, ◌-◌, ◌/◌, ◌%◌, ◌≤◌, ◌<◌, true, false, List, ◌++◌, refl, sym, ap, ◌∙◌, subst, append_assoc, eq-eqb, le-ltb, arith, None, Result, Ok, Err, IfOk, MatchResult, not, ◌||◌}
 use Rattle.std.proofs.lemmas.Bool.{cond-false}
-use Rattle.ring_layout.specs.Layout.{head_index, tail_index}
-use Rattle.ring_layout.specs.Lists.{Begins}
-use Rattle.ring_layout.specs.Refusals.{IsRefusedBy}
-use Rattle.ring_snapshot.specs.RingRecords.{positions_finding}
-use Rattle.ring_snapshot.specs.declared.ring_finding.RingFinding.{RingFinding}
-use Rattle.ring_table.specs.Closed.{restarted}
-use Rattle.ring_table.specs.Marks.{at_position, ShowsRuns}
-use Rattle.ring_table.specs.OpenClaims.{AreBelow}
-use Rattle.ring_table.specs.Owners.{all_of}
-use Rattle.ring_table.specs.Passing.{placed_committed_of}
-use Rattle.ring_table.specs.Rescued.{unsettled_count}
-use Rattle.ring_table.specs.Rule.{Kept}
-use Rattle.ring_table.specs.Staged.{ArePlaced, elsewhere, staged_end, staged_word_at}
-use Rattle.ring_table.specs.declared.claim.PlacedMessage.{PlacedMessage}
-use Rattle.ring_table.specs.declared.claim.StagedClaim.{StagedClaim}
+use Rattle.ring_layout.specs.{Layout.head_index, Layout.tail_index, Lists.Begins, Refusals.IsRefusedBy}
+use Rattle.ring_snapshot.specs.{RingRecords.positions_finding, declared.ring_finding.RingFinding.RingFinding}
+use Rattle.ring_table.specs.{Closed.restarted, OpenClaims.AreBelow, Owners.all_of}
+use Rattle.ring_table.specs.{Marks.at_position, Marks.ShowsRuns, Passing.placed_committed_of, Rescued.unsettled_count}
+use Rattle.ring_table.specs.{Rule.Kept, Staged.ArePlaced, Staged.elsewhere, Staged.staged_end, Staged.staged_word_at}
+use Rattle.ring_table.specs.declared.claim.{PlacedMessage.PlacedMessage, StagedClaim.StagedClaim}
 use Rattle.ring_table.proofs.DecodeLemmas.{all_filled_out, filled_count, filled_ends, filled_messages, filled_placed}
 use Rattle.ring_table.proofs.LastMarks.{shows_runs}
-use Rattle.ring_table.proofs.ReachLemmas.{reach_aligned, reach_bounds}
-use Rattle.ring_table.proofs.RestLemmas.{Splits, splits}
+use Rattle.ring_table.proofs.{ReachLemmas.reach_aligned, ReachLemmas.reach_bounds, RestLemmas.Splits, RestLemmas.splits}
 use Rattle.ring_table.proofs.StagedPlaces.{capacity_aligned, end_aligned, start_aligned}
 use Rattle.ring_recovery.specs.Headers.{finding_of, head_of, headers_between, messages_of, new_walk, open_of, tail_of}
-use Rattle.ring_recovery.specs.Image.{Remains}
+use Rattle.ring_recovery.{specs.Image.Remains, specs.declared.recovered.Recovered.Recovered, proofs.WholeLemmas.gives}
 use Rattle.ring_recovery.specs.Recovered.{AreFrom, IsRecoveredOf, Reads, all_placed, messages_left}
-use Rattle.ring_recovery.specs.declared.recovered.Recovered.{Recovered}
 use Rattle.ring_recovery.proofs.BodyLemmas.{HaveFrom, have_all, have_records, have_rest, have_restarted}
-use Rattle.ring_recovery.proofs.GivenLemmas.{AreShown, Gives}
-use Rattle.ring_recovery.proofs.MarkLemmas.{HaveRecords, have_bodies, heads_of}
-use Rattle.ring_recovery.proofs.ScanLemmas.{listed}
-use Rattle.ring_recovery.proofs.WalkLemmas.{all_found}
-use Rattle.ring_recovery.proofs.WholeLemmas.{gives}
+use Rattle.ring_recovery.proofs.{GivenLemmas.AreShown, GivenLemmas.Gives, WalkLemmas.all_found, StepLemmas.finding_is}
+use Rattle.ring_recovery.proofs.{MarkLemmas.HaveRecords, MarkLemmas.have_bodies, MarkLemmas.heads_of, ScanLemmas.listed}
 use Rattle.ring_recovery.proofs.SplitLemmas.{all_below, all_from, committed_append, count_restarted, first_below, from_restarted, messages_restarted, placed_front, same_rest}
-use Rattle.ring_recovery.proofs.StepLemmas.{finding_is}
 
 positions_none : (C head tail : ℕ) → head % 8 ≡ 0 → tail % 8 ≡ 0 → head ≤ tail → tail ≤ head + C
     → positions_finding C head tail ≡ None

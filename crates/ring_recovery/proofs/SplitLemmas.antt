@@ -1,17 +1,11 @@
 -- Claims below a point, and the others.
 use Rattle.std.proofs.Common.{◌≡◌, ℕ, ◌≤◌, List, [], ◌∷◌, ◌++◌, refl, sym, ap, ◌∙◌, append_assoc, arith}
-use Rattle.ring_layout.specs.Lists.{Begins}
-use Rattle.ring_layout.proofs.PlaceLemmas.{next_le}
-use Rattle.ring_table.specs.Closed.{restarted}
-use Rattle.ring_table.specs.OpenClaims.{AreBelow}
-use Rattle.ring_table.specs.Passing.{placed_committed_of, placed_message, shown_at}
-use Rattle.ring_table.specs.Rescued.{unsettled_count}
+use Rattle.ring_layout.{specs.Lists.Begins, proofs.PlaceLemmas.next_le}
+use Rattle.ring_table.specs.{Closed.restarted, Rescued.unsettled_count}
+use Rattle.ring_table.specs.{OpenClaims.AreBelow, Passing.placed_committed_of, Passing.placed_message, Passing.shown_at}
 use Rattle.ring_table.specs.Staged.{ArePlaced, claim_end, staged_end, staged_span}
-use Rattle.ring_table.specs.declared.claim.PlacedMessage.{PlacedMessage}
-use Rattle.ring_table.specs.declared.claim.Stage.{Stage}
-use Rattle.ring_table.specs.declared.claim.StagedClaim.{StagedClaim}
-use Rattle.ring_recovery.specs.Recovered.{AreFrom}
-use Rattle.ring_recovery.proofs.GivenLemmas.{far}
+use Rattle.ring_table.specs.declared.claim.{PlacedMessage.PlacedMessage, Stage.Stage, StagedClaim.StagedClaim}
+use Rattle.ring_recovery.{specs.Recovered.AreFrom, proofs.GivenLemmas.far}
 
 -- placed claims begin at their start or above
 pub all_from : (C e k : ℕ) (cs : List StagedClaim) → ArePlaced C e cs → k ≤ e → AreFrom k cs

@@ -1,19 +1,11 @@
 -- The steps by which headers are tested and messages are found.
-use Rattle.std.specs.Prelude.{if◌then◌else◌, IsOk}
-use Rattle.std.proofs.Common.{◌≡◌, ℕ, suc, ◌+◌, ◌-◌, ◌/◌, ◌%◌, ◌<◌, Bool, true, false, List, ◌∷◌, length, refl, sym, ap, ◌∙◌, subst, arith, eq-eqb, ne_eqb, Option, Some, None, Result, Ok, Err}
-use mathlib.Core.Logic.{dite}
-use native.Mathlib.Decide.{ℕ_discrete}
-use Rattle.std.proofs.lemmas.Bool.{cond-true, cond-false}
-use Rattle.ring_layout.specs.Places.{rounded}
-use Rattle.ring_layout.specs.Lists.{or_else}
-use Rattle.ring_layout.specs.Refusals.{IsRefusedBy}
+use Rattle.std.proofs.Common.{◌≡◌, ℕ, suc, ◌+◌, ◌-◌, ◌/◌, ◌%◌, ◌<◌, Bool, true, false, List, ◌∷◌, length, refl, sym, ap, ◌∙◌, subst, arith, eq-eqb, ne_eqb, Option, Some, None, Result, Ok, Err, if◌then◌else◌, IsOk}
+use Rattle.std.proofs.{Math.Logic.dite, Math.Decide.ℕ_discrete, lemmas.Bool.cond-true, lemmas.Bool.cond-false}
+use Rattle.ring_layout.specs.{Places.rounded, Lists.or_else, Refusals.IsRefusedBy}
 use Rattle.ring_snapshot.specs.RingRecords.{positions_finding}
-use Rattle.ring_snapshot.specs.declared.ring_finding.RingFinding.{RingFinding}
-use Rattle.ring_snapshot.specs.declared.ring_finding.RingFinding.TheVariants.{BadBodies}
+use Rattle.ring_snapshot.specs.declared.ring_finding.RingFinding.{RingFinding, TheVariants.BadBodies}
 use Rattle.ring_recovery.specs.Headers.{all_headers, bytes_in, finding_of, found_at, head_of, header_finding, headers_between, headers_finding, headers_in, is_committed, message_at, messages_of, new_walk, tail_of}
-use Rattle.ring_recovery.specs.declared.mark.Found.{Found}
-use Rattle.ring_recovery.specs.declared.mark.Walk.{Walk}
-use Rattle.ring_recovery.specs.declared.message.RecoveredMessage.{RecoveredMessage}
+use Rattle.ring_recovery.specs.declared.{mark.Found.Found, mark.Walk.Walk, message.RecoveredMessage.RecoveredMessage}
 
 -- ---- the next position
 

@@ -1,24 +1,17 @@
 -- A walk over the marks of a ring, whose committed records are in runs, finds the headers of its claims.
-use Rattle.std.specs.Prelude.{not, ◌&&◌, ◌==◌, if◌then◌else◌}
-use Rattle.std.proofs.Common.{◌≡◌, ◌≢◌, ◌⊎◌, ℕ, zero, suc, ◌+◌, ◌*◌, ◌%◌, ◌≤◌, ◌<◌, true, false, List, ◌∷◌, length, set, length-set, refl, sym, ap, ◌∙◌, subst, inl, inr, ⊎_elim, lt-ltb, le-ltb, eq-eqb, ne_eqb, ltb, leb, eqb, arith}
-use mathlib.Core.Logic.{dite}
-use native.Mathlib.Decide.{ℕ_discrete}
-use Rattle.std.proofs.lemmas.Bool.{and_from, and_left, and_right, cases_lt, cond-true, cond-false, le-leb, lt-leb}
-use Rattle.ring_layout.specs.Marks.{committed_kind}
-use Rattle.ring_layout.specs.Layout.{ring_words}
-use Rattle.ring_layout.specs.Places.{IsCapacity, index}
+use Rattle.std.proofs.Common.{◌≡◌, ◌≢◌, ◌⊎◌, ℕ, zero, suc, ◌+◌, ◌*◌, ◌%◌, ◌≤◌, ◌<◌, true, false, List, ◌∷◌, length, set, length-set, refl, sym, ap, ◌∙◌, subst, inl, inr, ⊎_elim, lt-ltb, le-ltb, eq-eqb, ne_eqb, ltb, leb, eqb, arith, not, ◌&&◌, ◌==◌, if◌then◌else◌, le-leb}
+use Rattle.std.proofs.Math.{Logic.dite, Decide.ℕ_discrete}
+use Rattle.std.proofs.lemmas.Bool.{and_from, and_left, and_right, cases_lt, cond-true, cond-false, lt-leb}
+use Rattle.ring_layout.specs.{Marks.committed_kind, Layout.ring_words, Places.IsCapacity, Places.index}
 use Rattle.ring_table.specs.Marks.{at_position, bytes_of, decoded, kind_of, mark_of, IsCommitted, IsOfRun, Precedes, ShowsRuns, Spreads}
 use Rattle.ring_table.specs.Staged.{elsewhere, ArePlaced, staged_word_at}
 use Rattle.ring_table.specs.declared.claim.StagedClaim.{StagedClaim}
-use Rattle.ring_table.proofs.DecodeLemmas.{all_filled_out, kind_is_committed}
+use Rattle.ring_table.proofs.{DecodeLemmas.all_filled_out, DecodeLemmas.kind_is_committed, StagedPlaces.inside_buffer}
 use Rattle.ring_table.proofs.MarkWords.{few_of, whole_bytes}
 use Rattle.ring_table.proofs.SpreadLemmas.{spreads_first, spreads_in, spreads_over, spreads_past}
-use Rattle.ring_table.proofs.StagedPlaces.{inside_buffer}
 use Rattle.ring_recovery.specs.Headers.{found_at, header_of_mark, headers_in, is_stray, mark_in, new_walk, shows, walk_after}
-use Rattle.ring_recovery.specs.declared.mark.Found.{Found}
-use Rattle.ring_recovery.specs.declared.mark.Walk.{Walk}
+use Rattle.ring_recovery.{specs.declared.mark.Found.Found, specs.declared.mark.Walk.Walk, proofs.ScanLemmas.listed}
 use Rattle.ring_recovery.proofs.MarkLemmas.{HaveRecords, committed_there, header_low, header_shown, none_there, other_there, shows_committed}
-use Rattle.ring_recovery.proofs.ScanLemmas.{listed}
 
 -- ---- one word
 

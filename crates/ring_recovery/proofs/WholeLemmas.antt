@@ -1,8 +1,7 @@
 -- The headers of all claims, and what they give.
 use Rattle.std.proofs.Common.{◌≡◌, ℕ, ◌+◌, ◌-◌, ◌*◌, ◌/◌, List, [], ◌∷◌, ◌++◌, length, refl, sym, ap, ◌∙◌, subst, arith}
 use Rattle.ring_layout.specs.History.{span}
-use Rattle.ring_table.specs.Staged.{claim_end}
-use Rattle.ring_table.specs.declared.claim.StagedClaim.{StagedClaim}
+use Rattle.ring_table.specs.{Staged.claim_end, declared.claim.StagedClaim.StagedClaim}
 use Rattle.ring_recovery.proofs.ScanLemmas.{listed, split}
 use Rattle.ring_recovery.proofs.GivenLemmas.{AreShown, Gives, HaveAll}
 use Rattle.ring_recovery.proofs.ClaimLemmas.{begins, bounds, end_below, padding_gives, place_aligned, record_gives, rest_shown}

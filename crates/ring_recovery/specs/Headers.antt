@@ -3,16 +3,11 @@
 -- Positions are running byte counts, C is the capacity of the buffer, and the records end at the tail.
 use Rattle.std.specs.Prelude.{ℕ, zero, suc, ◌+◌, ◌-◌, ◌/◌, ◌%◌, ◌^◌, Bool, ◌&&◌, ◌||◌, ◌==◌, not, nat_le, nat_lt, int_lt, if◌then◌else◌, ℤ, pos, negsuc, nat_abs, List, [], ◌∷◌, length, slice_index, Option, Some, None}
 use Rattle.ring_counters.specs.Records.{bytes_at}
-use Rattle.ring_layout.specs.Layout.{head_index, tail_index}
+use Rattle.ring_layout.specs.{Layout.head_index, Layout.tail_index, Marks.committed_kind, Places.index, Places.rounded}
 use Rattle.ring_layout.specs.Lists.{or_else, total}
-use Rattle.ring_layout.specs.Marks.{committed_kind}
-use Rattle.ring_layout.specs.Places.{index, rounded}
-use Rattle.ring_recovery.specs.declared.mark.Found.{Found}
-use Rattle.ring_recovery.specs.declared.mark.Walk.{Walk}
-use Rattle.ring_recovery.specs.declared.message.RecoveredMessage.{RecoveredMessage}
-use Rattle.ring_snapshot.specs.Marks.{bad_header}
+use Rattle.ring_recovery.specs.declared.{mark.Found.Found, mark.Walk.Walk, message.RecoveredMessage.RecoveredMessage}
+use Rattle.ring_snapshot.specs.{Marks.bad_header, declared.ring_finding.RingFinding.RingFinding}
 use Rattle.ring_snapshot.specs.RingRecords.{is_length, length_in, positions_finding, type_in}
-use Rattle.ring_snapshot.specs.declared.ring_finding.RingFinding.{RingFinding}
 use Rattle.ring_snapshot.specs.declared.ring_finding.RingFinding.TheVariants.{BadBodies, BadLength, BadType}
 use Rattle.ring_table.specs.Marks.{bytes_of, decoded, kind_of, mark_of}
 

@@ -3,13 +3,9 @@
 use Rattle.std.specs.Prelude.{◌≡◌, ℕ, ◌+◌, ◌/◌, ◌%◌, ◌<◌, List, [], ◌∷◌, length, slice_index}
 use mathlib.Core.Option.{Option, some}
 use lib.ListN.{get_elem?}
-use Rattle.ring_layout.specs.Places.{index}
-use Rattle.ring_layout.specs.declared.message.Message.{Message}
-use Rattle.ring_table.specs.Marks.{KeepsMarks}
-use Rattle.ring_table.specs.Shelf.{IsGotOut}
-use Rattle.ring_table.specs.Staged.{body_word, slot_bytes}
-use Rattle.ring_table.specs.declared.claim.PlacedMessage.{PlacedMessage}
-use Rattle.ring_table.specs.declared.view.View.{View}
+use Rattle.ring_layout.specs.{Places.index, declared.message.Message.Message}
+use Rattle.ring_table.specs.{Marks.KeepsMarks, declared.claim.PlacedMessage.PlacedMessage, declared.view.View.View}
+use Rattle.ring_table.specs.{Shelf.IsGotOut, Staged.body_word, Staged.slot_bytes}
 
 -- the slots have the header and the body of this message at this place
 abbrev pub HaveRecord : ℕ → List ℕ → ℕ → Message → Type 0

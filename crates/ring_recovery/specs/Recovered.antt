@@ -2,15 +2,10 @@
 use Rattle.std.specs.Prelude.{◌≡◌, ℕ, ◌≤◌, List, [], ◌∷◌, ◌++◌, ⊤}
 use Rattle.ring_layout.specs.Lists.{Begins}
 use Rattle.ring_recovery.specs.Headers.{all_headers, headers_between, messages_of, open_of, tail_of}
-use Rattle.ring_recovery.specs.declared.message.RecoveredMessage.{RecoveredMessage}
-use Rattle.ring_recovery.specs.declared.recovered.Recovered.{Recovered}
-use Rattle.ring_table.specs.OpenClaims.{AreBelow}
-use Rattle.ring_table.specs.Owners.{OwnedHistory, all_of}
-use Rattle.ring_table.specs.Passing.{AreSettled, placed_committed_of}
-use Rattle.ring_table.specs.Rescued.{unsettled_count}
-use Rattle.ring_table.specs.declared.claim.PlacedMessage.{PlacedMessage}
-use Rattle.ring_table.specs.declared.claim.StagedClaim.{StagedClaim}
-use Rattle.ring_table.specs.declared.view.ConsumerView.{ConsumerView}
+use Rattle.ring_recovery.specs.declared.{message.RecoveredMessage.RecoveredMessage, recovered.Recovered.Recovered}
+use Rattle.ring_table.specs.{OpenClaims.AreBelow, Owners.OwnedHistory, Owners.all_of, Rescued.unsettled_count}
+use Rattle.ring_table.specs.{Passing.AreSettled, Passing.placed_committed_of, declared.view.ConsumerView.ConsumerView}
+use Rattle.ring_table.specs.declared.claim.{PlacedMessage.PlacedMessage, StagedClaim.StagedClaim}
 
 -- the messages that are still to come
 abbrev pub messages_left : Recovered → List RecoveredMessage

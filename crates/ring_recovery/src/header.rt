@@ -1,7 +1,6 @@
 //! One header.
 ghost use Rattle.std.specs.Prelude.{◌≡◌, ◌+◌, ◌≤◌, nat_abs, IfOk};
-ghost use Rattle.ring_layout.specs.Places.{IsCapacity, rounded};
-ghost use Rattle.ring_layout.specs.Refusals.{IsRefusedBy};
+ghost use Rattle.ring_layout.specs.{Places.IsCapacity, Places.rounded, Refusals.IsRefusedBy};
 ghost use Rattle.ring_snapshot.specs.RingRecords.{is_length};
 ghost use Rattle.ring_recovery.specs.Headers.{bytes_in, header_finding, is_open, is_type};
 

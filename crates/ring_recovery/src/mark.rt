@@ -1,7 +1,6 @@
 //! The headers that marks and their first slots show.
 ghost use Rattle.std.specs.Prelude.{◌≡◌, ◌/◌, ◌+◌, ◌<◌, ◌^◌, length};
-ghost use Rattle.ring_layout.specs.Places.{IsCapacity};
-ghost use Rattle.ring_layout.specs.Layout.{ring_words};
+ghost use Rattle.ring_layout.specs.{Places.IsCapacity, Layout.ring_words};
 ghost use Rattle.ring_table.specs.Marks.{bytes_of, kind_of};
 ghost use Rattle.ring_recovery.specs.Headers.{found_at, has_end, header_of_mark, is_of_run, is_stray, mark_in, walk_after, shows};
 

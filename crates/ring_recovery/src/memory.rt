@@ -1,12 +1,9 @@
 //! Recovers what a ring left.
 ghost use Rattle.std.specs.Prelude.{◌≡◌, ◌≢◌, ℕ, ◌+◌, ◌/◌, ◌%◌, ◌≤◌, length, Err, IfOk, MatchResult};
-ghost use Rattle.ring_layout.specs.Layout.{ring_words};
-ghost use Rattle.ring_layout.specs.Places.{IsCapacity};
-ghost use Rattle.ring_layout.specs.Refusals.{IsRefusedBy};
+ghost use Rattle.ring_layout.specs.{Layout.ring_words, Places.IsCapacity, Refusals.IsRefusedBy};
 ghost use Rattle.ring_snapshot.specs.declared.ring_finding.RingFinding.TheVariants.{BadSize};
 ghost use Rattle.ring_recovery.specs.Headers.{finding_of, headers_between, headers_finding, new_walk, open_of};
-ghost use Rattle.ring_recovery.specs.Image.{Remains};
-ghost use Rattle.ring_recovery.specs.Recovered.{IsRecoveredOf, Reads};
+ghost use Rattle.ring_recovery.specs.{Image.Remains, Recovered.IsRecoveredOf, Recovered.Reads};
 
 use crate::header::{check_header, is_open};
 use crate::mark::{Walk, found_at};

@@ -1,7 +1,6 @@
 //! What was recovered.
 ghost use Rattle.std.specs.Prelude.{◌≡◌, ◌+◌, ◌/◌, ◌%◌, ◌^◌, ◌≤◌, length};
-ghost use Rattle.ring_layout.specs.Places.{IsCapacity};
-ghost use Rattle.ring_layout.specs.Layout.{ring_words};
+ghost use Rattle.ring_layout.specs.{Places.IsCapacity, Layout.ring_words};
 
 use crate::body::Body;
 use crate::header::is_length;
@@ -29,8 +28,7 @@ pub struct Recovered<'a> {
 impl<'a> Recovered<'a> {
     ghost use Rattle.std.specs.Prelude.{◌≡◌, ◌<◌, if◌then◌else◌, length, Some, None};
     ghost use Rattle.ring_layout.specs.Layout.{ring_words};
-    ghost use Rattle.ring_recovery.specs.Headers.{is_committed, message_at};
-    ghost use Rattle.ring_recovery.specs.Recovered.{messages_left};
+    ghost use Rattle.ring_recovery.specs.{Headers.is_committed, Headers.message_at, Recovered.messages_left};
 
     /// Returns the number of bytes of the ring's buffer.
     pub fn capacity(&self) -> u32

@@ -1,7 +1,6 @@
 -- The rows of a list of records.
 use Rattle.std.specs.Prelude.{◌≡◌, ℕ, ℤ, List, [], ◌∷◌, ◌++◌, slice_get, Some}
-use Rattle.ring_report.specs.declared.report.Cell.{Cell}
-use Rattle.ring_report.specs.declared.report.Cell.TheVariants.{Signed, Unsigned}
+use Rattle.ring_report.specs.declared.report.Cell.{Cell, TheVariants.Signed, TheVariants.Unsigned}
 
 -- The cells have the numbers of a record, in the order of the columns. The third cell is the state.
 pub record IsRowOf (place index : ℕ) (type_id : ℤ) (length : ℕ) (row : List Cell) : Type 0 where

@@ -1,20 +1,11 @@
 -- Why a batch is refused, message by message.
-use Rattle.std.proofs.Common.{rules, ◌≡◌, ℕ, ◌+◌, ◌/◌, ◌≤◌, ◌<◌, pos, List, [], ◌∷◌, FitsSigned, drop, get_or, length, replicate, ap, ◌∙◌, refl, arith}
-use Rattle.std.specs.Prelude.{ℤ, Option, Some, None, Bool, true, false, if◌then◌else◌, int_lt, nat_lt}
-use Rattle.std.specs.Int.{w32}
-use Rattle.std.proofs.lemmas.Bool.{ltb-false}
-use Rattle.std.proofs.lemmas.List.{drop_more, length-replicate}
-use Rattle.std.proofs.lemmas.List.Elements.{All-replicate}
-use Rattle.ring_layout.specs.History.{IsMessage}
-use Rattle.ring_layout.specs.Refusals.{message_refusal_or}
-use Rattle.ring_words.specs.declared.fault.ClaimFault.{ClaimFault}
-use Rattle.ring_words.specs.declared.fault.ClaimFault.TheVariants.{BadType, TooLong}
-use Rattle.ring_table.specs.RunBodies.{messages_of}
-use Rattle.ring_table.specs.declared.runs.Outgoing.{Outgoing}
-use Rattle.ring_table.specs.Changes.{blank}
+use Rattle.std.proofs.Common.{rules, ◌≡◌, ℕ, ◌+◌, ◌/◌, ◌≤◌, ◌<◌, pos, List, [], ◌∷◌, FitsSigned, drop, get_or, length, replicate, ap, ◌∙◌, refl, arith, ℤ, Option, Some, None, Bool, true, false, if◌then◌else◌, int_lt, nat_lt, w32, ltb-false}
+use Rattle.std.proofs.lemmas.List.{drop_more, length-replicate, Elements.All-replicate}
+use Rattle.ring_layout.specs.{History.IsMessage, Refusals.message_refusal_or}
+use Rattle.ring_words.specs.declared.fault.ClaimFault.{ClaimFault, TheVariants.BadType, TheVariants.TooLong}
+use Rattle.ring_table.specs.{RunBodies.messages_of, declared.runs.Outgoing.Outgoing, Changes.blank}
 use Rattle.ring_table.proofs.RunFill.{no_message}
-use Rattle.ring_rings.specs.Batches.{batch_refusal_of}
-use Rattle.ring_rings.specs.Claiming.{request_refusal_of}
+use Rattle.ring_rings.specs.{Batches.batch_refusal_of, Claiming.request_refusal_of}
 
 pass_by : {F : Type 0} (b c : Bool) (x y : F) (other : Option F)
     → (if b then Some x else (if c then Some y else None)) ≡ None

@@ -1,32 +1,19 @@
 -- What a closed table hands on.
-use Rattle.std.proofs.Common.{◌≡◌, ℕ, ◌≤◌, ◌<◌, List, [], ◌∷◌, length, slice_index, true, refl, sym, ap, ◌∙◌, subst, arith}
-use Rattle.std.specs.Prelude.{All}
+use Rattle.std.proofs.Common.{◌≡◌, ℕ, ◌≤◌, ◌<◌, List, [], ◌∷◌, length, slice_index, true, refl, sym, ap, ◌∙◌, subst, arith, All}
 use Rattle.std.proofs.lemmas.List.Elements.{All-cons, All-nil}
-use mathlib.Core.Option.{some}
-use lib.ListN.{get_elem?}
-use Rattle.ring_layout.specs.declared.message.Claim.{Claim}
-use Rattle.ring_layout.specs.History.{IsMessage}
-use Rattle.ring_layout.specs.Places.{end_of}
-use Rattle.ring_layout.specs.Refusals.{all_shares}
-use Rattle.ring_layout.specs.Picture.{IsPicture}
-use Rattle.ring_layout.specs.Layout.{head_cache_index, heartbeat_index}
+use Rattle.std.proofs.Math.{Option.some, ListN.get_elem?}
+use Rattle.ring_layout.specs.{declared.message.Claim.Claim, Layout.head_cache_index, Layout.heartbeat_index}
+use Rattle.ring_layout.specs.{History.IsMessage, Places.end_of, Refusals.all_shares, Picture.IsPicture}
 use Rattle.ring_layout.proofs.PlaceLemmas.{next_le, span_bounds}
-use Rattle.ring_table.specs.declared.view.ProducerView.{ProducerView}
-use Rattle.ring_table.specs.declared.view.ConsumerView.{ConsumerView}
-use Rattle.ring_table.specs.Services.{AreServed, once_below, times_drawn}
+use Rattle.ring_table.specs.declared.view.{ProducerView.ProducerView, ConsumerView.ConsumerView, View.View}
+use Rattle.ring_table.specs.{Services.AreServed, Services.once_below, Services.times_drawn, Views.with_consumer_of}
 use Rattle.ring_words.specs.Ring.{Has, IsRing, ring}
 use Rattle.ring_table.specs.declared.claim.StagedClaim.{StagedClaim}
-use Rattle.ring_table.specs.declared.view.View.{View}
 use Rattle.ring_table.specs.Staged.{in_words, AreAbove, ArePlaced, AreRising, claim_end, unplaced, staged_span}
-use Rattle.ring_table.specs.Closed.{IsClosed, IsLast, LeavesRest, restarted}
-use Rattle.ring_table.specs.OpenClaims.{open_count}
-use Rattle.ring_table.specs.Views.{with_consumer_of}
-use Rattle.ring_table.proofs.MemoryLemmas.{head_bounds}
-use Rattle.ring_table.proofs.RestLemmas.{claims_of-restarted}
-use Rattle.ring_rings.specs.Closing.{HandsOut, Serves}
-use Rattle.ring_rings.specs.Reading.{at_rest}
-use Rattle.ring_rings.specs.Ring.{received_in, sent_in, IsWhole}
-use Rattle.ring_rings.proofs.SentLemmas.{whole}
+use Rattle.ring_table.specs.{Closed.IsClosed, Closed.IsLast, Closed.LeavesRest, Closed.restarted, OpenClaims.open_count}
+use Rattle.ring_table.proofs.{MemoryLemmas.head_bounds, RestLemmas.claims_of-restarted}
+use Rattle.ring_rings.specs.{Closing.HandsOut, Closing.Serves, Ring.received_in, Ring.sent_in, Ring.IsWhole}
+use Rattle.ring_rings.{specs.Reading.at_rest, proofs.SentLemmas.whole}
 
 pub placed_lawful : (C e : ℕ) (cs : List StagedClaim) → ArePlaced C e cs
     → All (λ (c : Claim). IsMessage C c.message) (unplaced cs)

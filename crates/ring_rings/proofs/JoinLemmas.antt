@@ -1,15 +1,10 @@
 -- Two producers put together.
 use Rattle.std.proofs.Common.{◌≡◌, ℕ, suc, ◌+◌, ◌^◌, ◌<◌, ◌≤◌, List, [], ◌∷◌, length, refl, sym, ap, ◌∙◌, subst, arith}
-use Rattle.ring_table.specs.declared.claim.StagedClaim.{StagedClaim}
-use Rattle.ring_table.specs.declared.view.View.{View}
-use Rattle.ring_table.specs.Staged.{AreRising, AreStored, claim_end}
-use Rattle.ring_table.specs.Owners.{interleaved}
-use Rattle.ring_table.specs.OpenClaims.{open_count}
-use Rattle.ring_table.specs.Views.{with_producer_of}
-use Rattle.ring_table.specs.ProducerSteps.{EndBelow, LoadsTail}
+use Rattle.ring_table.specs.{declared.claim.StagedClaim.StagedClaim, declared.view.View.View, Views.with_producer_of}
+use Rattle.ring_table.specs.{Staged.AreRising, Staged.AreStored, Staged.claim_end, OpenClaims.open_count}
+use Rattle.ring_table.specs.{Owners.interleaved, ProducerSteps.EndBelow, ProducerSteps.LoadsTail}
 use Rattle.ring_table.proofs.LawLemmas.{open_count-interleaved}
-use Rattle.ring_rings.specs.Matching.{Matches}
-use Rattle.ring_rings.proofs.CountLemmas.{open_few, stored_interleaved}
+use Rattle.ring_rings.{specs.Matching.Matches, proofs.CountLemmas.open_few, proofs.CountLemmas.stored_interleaved}
 
 -- claims that rise and end below a position are not more than that
 few_below : (n : ℕ) (c : StagedClaim) (cs : List StagedClaim) → AreRising (c ∷ cs) → EndBelow n (c ∷ cs)

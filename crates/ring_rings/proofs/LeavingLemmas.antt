@@ -1,12 +1,9 @@
 -- What a write or a refused try leaves of a producer's view.
 use Rattle.std.proofs.Common.{Bool, ◌≡◌, ◌∙◌, ℕ, ℤ, List, [], ◌∷◌, ◌++◌, refl, ap, inl, inr, arith}
 use Rattle.ring_words.specs.declared.fault.ClaimFault.{ClaimFault}
-use Rattle.ring_table.specs.declared.claim.StagedClaim.{StagedClaim}
-use Rattle.ring_table.specs.declared.view.View.{View}
-use Rattle.ring_table.specs.OpenClaims.{open_count}
+use Rattle.ring_table.specs.{declared.claim.StagedClaim.StagedClaim, declared.view.View.View, OpenClaims.open_count}
 use Rattle.ring_table.specs.Views.{with_claim}
-use Rattle.ring_rings.specs.Claiming.{Refuses, looked}
-use Rattle.ring_rings.proofs.CountLemmas.{open_count-more}
+use Rattle.ring_rings.{specs.Claiming.Refuses, specs.Claiming.looked, proofs.CountLemmas.open_count-more}
 
 -- shares and claims stay
 pub record Keeps (v w : View) : Type 0 where

@@ -1,32 +1,23 @@
 -- What follows from a claim that was made.
 use Rattle.std.proofs.Common.{◌≡◌, ◌≢◌, ℕ, ◌+◌, ◌%◌, ◌^◌, ◌<◌, ◌≤◌, ℤ, List, [], ◌∷◌, ◌++◌, false, length, replicate, None, refl, sym, ap, ◌∙◌, ◌==◌, subst, arith}
-use Rattle.std.proofs.lemmas.List.{length-replicate}
-use lib.ListN.{get_elem?}
+use Rattle.std.proofs.{lemmas.List.length-replicate, Math.ListN.get_elem?}
 use Rattle.atomic_table.proofs.Lists.{at_longer}
-use Rattle.ring_table.specs.declared.claim.StagedClaim.{StagedClaim}
+use Rattle.ring_table.specs.declared.claim.{StagedClaim.StagedClaim, Stage.TheVariants.Padded, Stage.TheVariants.Stored}
 use Rattle.ring_layout.specs.declared.message.ClaimState.TheVariants.{Committed, Open}
-use Rattle.ring_table.specs.declared.claim.Stage.TheVariants.{Padded, Stored}
 use Rattle.ring_table.specs.declared.view.View.{View}
-use Rattle.ring_layout.specs.History.{span}
-use Rattle.ring_layout.specs.Places.{end_after, next_place}
+use Rattle.ring_layout.specs.{History.span, Places.end_after, Places.next_place, declared.admission.Admission.Admission}
 use Rattle.ring_layout.proofs.PlaceLemmas.{next_le}
-use Rattle.ring_table.specs.OpenClaims.{one_if_open, open_count}
-use Rattle.ring_table.specs.Views.{with_claim, with_claims}
+use Rattle.ring_table.specs.{OpenClaims.one_if_open, OpenClaims.open_count, Views.with_claim, Views.with_claims}
 use Rattle.ring_table.specs.Changes.{blank, fresh_stage, recorded, staged, with_header}
 use Rattle.ring_table.specs.Staged.{AreRising, AreStored, IsStored, stage_state, staged_span}
 use Rattle.ring_table.specs.ProducerSteps.{EndBelow, HasClaimAt, IsStagedOpen}
 use Rattle.ring_words.specs.Open.{ClaimAt}
-use Rattle.ring_layout.specs.declared.admission.Admission.{Admission}
-use Rattle.ring_rings.specs.Bodies.{HasPaddedLast, IsPaddedLast}
+use Rattle.ring_rings.specs.{Bodies.HasPaddedLast, Bodies.IsPaddedLast, Seats.IsOpenAt, Seats.KeepsOpen, Seats.OpensAt}
 use Rattle.ring_rings.specs.Claiming.{claim_behind, looked, record_behind, tail_refusal_of, SeesRoom}
-use Rattle.ring_rings.specs.Making.{GoesBehind, IsNewest, Moves}
-use Rattle.ring_rings.specs.Matching.{Matches}
-use Rattle.ring_rings.specs.Ring.{message}
-use Rattle.ring_rings.specs.Seats.{IsOpenAt, KeepsOpen, OpensAt}
+use Rattle.ring_rings.specs.{Making.GoesBehind, Making.IsNewest, Making.Moves, Matching.Matches, Ring.message}
 use Rattle.ring_rings.proofs.CountLemmas.{open_count-more, open_few, stored_more}
-use Rattle.ring_rings.proofs.LeavingLemmas.{AsManyOpen, as_many_open}
+use Rattle.ring_rings.proofs.{LeavingLemmas.AsManyOpen, LeavingLemmas.as_many_open, RisingLemmas.rising_more}
 use Rattle.ring_rings.proofs.NewestLemmas.{has_last, is_padded, is_recorded, rising_few}
-use Rattle.ring_rings.proofs.RisingLemmas.{rising_more}
 
 -- a claim stays if others come after it
 has_more : (v w : View) (c : StagedClaim) (place : ℕ) (P : StagedClaim → Type 0)

@@ -1,21 +1,12 @@
 -- Bytes merged into a word of a body.
-use Rattle.std.proofs.Common.{◌≡◌, ℕ, ◌+◌, ◌-◌, ◌*◌, ◌<◌, ◌≤◌, List, [], ◌++◌, length, take, drop, slice_index, sym, ap, ◌∙◌, subst, inl, inr, arith}
-use Rattle.std.specs.Prelude.{All}
-use Rattle.std.specs.Int.{from_le_bytes, w64}
-use Rattle.std.proofs.lemmas.Bool.{cases_lt}
-use Rattle.std.proofs.lemmas.List.{get_or_past, length-take, take-append-drop}
+use Rattle.std.proofs.Common.{◌≡◌, ℕ, ◌+◌, ◌-◌, ◌*◌, ◌<◌, ◌≤◌, List, [], ◌++◌, length, take, drop, slice_index, sym, ap, ◌∙◌, subst, inl, inr, arith, All, w64, length-take, take-append-drop}
+use Rattle.std.{specs.Int.from_le_bytes, proofs.lemmas.Bool.cases_lt, proofs.lemmas.List.get_or_past}
 use lib.ListN.{get_elem?}
-use Rattle.ring_layout.specs.declared.message.ClaimState.TheVariants.{Open}
-use Rattle.ring_layout.specs.History.{overwritten}
-use Rattle.ring_layout.specs.Places.{index}
+use Rattle.ring_layout.specs.{declared.message.ClaimState.TheVariants.Open, History.overwritten, Places.index}
 use Rattle.ring_layout.proofs.WordBytes.{length-overwritten, overwritten_before, overwritten_behind, overwritten_inside, overwritten_more}
-use Rattle.ring_table.specs.declared.claim.StagedClaim.{StagedClaim}
-use Rattle.ring_table.specs.declared.claim.Stage.TheVariants.{Stored}
-use Rattle.ring_table.specs.declared.view.View.{View}
-use Rattle.ring_table.specs.Changes.{changed}
-use Rattle.ring_table.specs.ProducerSteps.{HasClaim}
+use Rattle.ring_table.specs.declared.{claim.StagedClaim.StagedClaim, claim.Stage.TheVariants.Stored, view.View.View}
+use Rattle.ring_table.{specs.Changes.changed, specs.ProducerSteps.HasClaim, proofs.HistoryLemmas.changed_there}
 use Rattle.ring_rings.specs.Bodies.{put_at, MergesWord}
-use Rattle.ring_table.proofs.HistoryLemmas.{changed_there}
 
 pub small_at : (body : List ℕ) → All (λ b. b < 256) body → (j : ℕ) → slice_index body j < 256
 small_at body bytes j = elim (cases_lt j (length body)) as (λ _. slice_index body j < 256) [

@@ -1,14 +1,9 @@
 -- The only producer moves the tail.
 use Rattle.std.proofs.Common.{◌≡◌, ℕ, ◌%◌, ℤ, [], None, false, sym, ap, ◌∙◌, subst, arith}
-use Rattle.ring_layout.specs.History.{span}
-use Rattle.ring_layout.specs.Places.{end_after}
-use Rattle.ring_layout.specs.declared.admission.Admission.{Admission}
+use Rattle.ring_layout.specs.{History.span, Places.end_after, declared.admission.Admission.Admission}
 use Rattle.ring_layout.proofs.PlaceLemmas.{span_bounds}
-use Rattle.ring_table.specs.declared.claim.StagedClaim.{StagedClaim}
-use Rattle.ring_table.specs.declared.view.View.{View}
-use Rattle.ring_table.specs.Changes.{moved_claim}
-use Rattle.ring_table.specs.ProducerSteps.{EndBelow, MovesOwnTail}
-use Rattle.ring_table.specs.Views.{with_claim}
+use Rattle.ring_table.specs.{declared.claim.StagedClaim.StagedClaim, declared.view.View.View, Changes.moved_claim}
+use Rattle.ring_table.specs.{ProducerSteps.EndBelow, ProducerSteps.MovesOwnTail, Views.with_claim}
 use Rattle.ring_rings.specs.Claiming.{looked, tail_refusal_of, SeesRoom}
 use Rattle.ring_rings.specs.Making.{FindsRoom, GoesBehind, Moves, MovesBehind}
 use Rattle.ring_rings.proofs.NewestLemmas.{same_span}

@@ -1,17 +1,9 @@
 -- A message that a turn of a read finds and shows.
-use Rattle.std.proofs.Common.{◌≡◌, ℕ, ℤ, pos, ◌+◌, ◌/◌, ◌≤◌, ◌^◌, List, [], ◌∷◌, ◌++◌, length, Bool, FitsSigned, ap, sym, ◌∙◌, subst, arith}
-use Rattle.std.specs.Int.{cast_signed, cast_unsigned, w32}
-use Rattle.std.proofs.lemmas.Int.{to_z-of_z}
-use Rattle.std.proofs.lemmas.List.{append_assoc}
-use Rattle.ring_layout.specs.History.{span}
-use Rattle.ring_layout.specs.Headers.{header}
-use Rattle.ring_layout.specs.Places.{index}
-use Rattle.ring_layout.specs.declared.message.Message.{Message}
-use Rattle.ring_words.specs.Controlled.{heard, heeded}
-use Rattle.ring_words.specs.declared.read.action.Action.{Action}
-use Rattle.ring_table.specs.declared.claim.PlacedMessage.{PlacedMessage}
-use Rattle.ring_table.specs.declared.view.Run.{Run}
-use Rattle.ring_table.specs.declared.view.View.{View}
+use Rattle.std.proofs.Common.{◌≡◌, ℕ, ℤ, pos, ◌+◌, ◌/◌, ◌≤◌, ◌^◌, List, [], ◌∷◌, ◌++◌, length, Bool, FitsSigned, ap, sym, ◌∙◌, subst, arith, w32, append_assoc}
+use Rattle.std.{specs.Int.cast_signed, specs.Int.cast_unsigned, proofs.lemmas.Int.to_z-of_z}
+use Rattle.ring_layout.specs.{History.span, Headers.header, Places.index, declared.message.Message.Message}
+use Rattle.ring_words.specs.{Controlled.heard, Controlled.heeded, declared.read.action.Action.Action}
+use Rattle.ring_table.specs.declared.{claim.PlacedMessage.PlacedMessage, view.Run.Run, view.View.View}
 use Rattle.ring_table.specs.Views.{scanned, with_consumer, with_run}
 use Rattle.ring_rings.specs.Reading.{body_loads, record_loads}
 use Rattle.ring_rings.specs.ReadingSteps.{FindsOne, HasBodyAt, HasComeNear, HasGotLast, HasLastAt, IsPassed, LoadsWholeBody, ShowsOne}

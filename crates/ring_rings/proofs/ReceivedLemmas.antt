@@ -1,14 +1,10 @@
 -- What reads receive, by what they do to views.
 use Rattle.std.proofs.Common.{◌≡◌, ◌⊎◌, ◌∙◌, ◌+◌, ℕ, suc, List, [], ◌∷◌, ◌++◌, length, length-append, refl, sym, ap, subst, append_assoc, inl, inr}
-use Rattle.ring_layout.specs.declared.message.Message.{Message}
-use Rattle.ring_layout.specs.Handles.{Handles}
-use Rattle.ring_words.specs.declared.read.action.Action.{Action}
-use Rattle.ring_words.specs.declared.read.end.ReadEnd.{ReadEnd}
+use Rattle.ring_layout.specs.{declared.message.Message.Message, Handles.Handles}
+use Rattle.ring_words.specs.declared.read.{action.Action.Action, end.ReadEnd.ReadEnd}
 use Rattle.ring_table.specs.declared.claim.PlacedMessage.{PlacedMessage}
-use Rattle.ring_rings.specs.declared.ring.Consumer.{Consumer}
-use Rattle.ring_rings.specs.Reading.{Controls, Reads, messages_of}
-use Rattle.ring_rings.specs.Ring.{received, Leaves, Receives}
-use Rattle.ring_rings.specs.Seats.{consumer_view}
+use Rattle.ring_rings.specs.{declared.ring.Consumer.Consumer, Reading.Controls, Reading.Reads, Reading.messages_of}
+use Rattle.ring_rings.specs.{Ring.received, Ring.Leaves, Ring.Receives, Seats.consumer_view}
 use Rattle.ring_rings.proofs.SentLemmas.{messages_of-append}
 
 pub lengths : (ms : List PlacedMessage) → length (messages_of ms) ≡ length ms

@@ -1,26 +1,16 @@
 -- What the words of a ring with lost producers hand out.
 use Rattle.std.proofs.Common.{◌≡◌, ◌∙◌, ℕ, ◌%◌, List, [], ◌∷◌, slice_index, refl, sym, ap, subst, arith}
-use Rattle.std.specs.declared.snapshot.Snapshot.{Snapshot}
-use Rattle.std.specs.declared.alloc.Global.{Global}
+use Rattle.std.specs.declared.{snapshot.Snapshot.Snapshot, alloc.Global.Global}
 use Rattle.atomic_table.specs.declared.owned.Closed.{Closed}
-use Rattle.ring_layout.specs.Picture.{IsPicture}
-use Rattle.ring_layout.specs.Places.{end_of}
-use Rattle.ring_words.specs.Ring.{Has, IsRing, ring}
-use Rattle.ring_words.proofs.UniqueLemmas.{alike}
-use Rattle.ring_table.specs.declared.claim.StagedClaim.{StagedClaim}
-use Rattle.ring_table.specs.declared.view.Key.{Key}
-use Rattle.ring_table.specs.declared.view.View.{View}
-use Rattle.ring_table.specs.Closed.{restarted}
-use Rattle.ring_table.specs.Passing.{placed_committed_of}
-use Rattle.ring_table.specs.Rescued.{unsettled_count, HadHistory, Rescues}
-use Rattle.ring_table.specs.Owners.{OwnedHistory, all_of}
-use Rattle.ring_table.specs.Staged.{Bodies, unplaced}
+use Rattle.ring_layout.specs.{Picture.IsPicture, Places.end_of}
+use Rattle.ring_words.{specs.Ring.Has, specs.Ring.IsRing, specs.Ring.ring, proofs.UniqueLemmas.alike}
+use Rattle.ring_table.specs.declared.{claim.StagedClaim.StagedClaim, view.Key.Key, view.View.View}
+use Rattle.ring_table.specs.{Closed.restarted, Owners.OwnedHistory, Owners.all_of, Staged.Bodies, Staged.unplaced}
+use Rattle.ring_table.specs.{Passing.placed_committed_of, Rescued.unsettled_count, Rescued.HadHistory, Rescued.Rescues}
 use Rattle.ring_table.proofs.RestLemmas.{end_of-claims_of}
 use Rattle.ring_rings.specs.Reading.{messages_of}
-use Rattle.ring_rings.specs.Rescuing.{IsRescued, IsRescuedOf}
-use Rattle.ring_rings.specs.declared.rescue.Rescued.{Rescued}
-use Rattle.ring_rings.proofs.CloseLemmas.{placed_lawful, placed_rising}
-use Rattle.ring_rings.proofs.SentLemmas.{same_committed}
+use Rattle.ring_rings.specs.{Rescuing.IsRescued, Rescuing.IsRescuedOf, declared.rescue.Rescued.Rescued}
+use Rattle.ring_rings.proofs.{CloseLemmas.placed_lawful, CloseLemmas.placed_rising, SentLemmas.same_committed}
 
 restarted_committed : (s : ℕ) (cs : List StagedClaim)
     → placed_committed_of (restarted s cs) ≡ placed_committed_of cs

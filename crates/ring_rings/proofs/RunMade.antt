@@ -1,31 +1,17 @@
 -- What follows from a run that was written.
-use Rattle.std.proofs.Common.{◌≡◌, ℕ, zero, suc, ◌+◌, ◌-◌, ◌%◌, ◌≤◌, ◌<◌, pos, List, [], ◌∷◌, ◌++◌, Bool, true, false, length, append-nil, append_assoc, sym, ap, ◌∙◌, subst, inl, inr, arith}
-use mathlib.Core.Option.{some-injective, some-ne-none}
-use lib.ListN.{get_elem?}
-use Rattle.std.proofs.lemmas.Bool.{eq-eqb}
+use Rattle.std.proofs.Common.{◌≡◌, ℕ, zero, suc, ◌+◌, ◌-◌, ◌%◌, ◌≤◌, ◌<◌, pos, List, [], ◌∷◌, ◌++◌, Bool, true, false, length, append-nil, append_assoc, sym, ap, ◌∙◌, subst, inl, inr, arith, eq-eqb}
+use Rattle.std.proofs.Math.{Option.some-injective, Option.some-ne-none, ListN.get_elem?}
 use Rattle.atomic_table.proofs.Lists.{at_longer}
-use Rattle.ring_layout.specs.declared.admission.Admission.{Admission}
-use Rattle.ring_layout.specs.declared.message.ClaimState.TheVariants.{Committed}
-use Rattle.ring_layout.specs.declared.message.Message.{Message}
-use Rattle.ring_layout.specs.History.{span}
-use Rattle.ring_layout.specs.Places.{next_place}
+use Rattle.ring_layout.specs.{declared.admission.Admission.Admission, History.span, Places.next_place}
+use Rattle.ring_layout.specs.declared.message.{ClaimState.TheVariants.Committed, Message.Message}
 use Rattle.ring_layout.proofs.PlaceLemmas.{next_cases}
-use Rattle.ring_table.specs.declared.claim.StagedClaim.{StagedClaim}
-use Rattle.ring_table.specs.declared.claim.Stage.TheVariants.{Stored}
-use Rattle.ring_table.specs.declared.view.View.{View}
-use Rattle.ring_table.specs.Changes.{fresh_stage}
-use Rattle.ring_table.specs.OpenClaims.{open_count}
-use Rattle.ring_table.specs.ProducerSteps.{EndBelow, HasNewestAt}
-use Rattle.ring_table.specs.RunBodies.{NeedsRun}
-use Rattle.ring_table.specs.Runs.{run_claims}
-use Rattle.ring_table.specs.Staged.{claim_end, AreRising, AreStored}
-use Rattle.ring_table.specs.Views.{with_claims}
-use Rattle.ring_rings.specs.Making.{KnowsTail, Moves}
-use Rattle.ring_rings.specs.Matching.{Matches}
-use Rattle.ring_rings.specs.Seats.{KeepsOpen}
-use Rattle.ring_rings.proofs.CountLemmas.{open_count-more, stored_more}
+use Rattle.ring_table.specs.declared.{claim.StagedClaim.StagedClaim, claim.Stage.TheVariants.Stored, view.View.View}
+use Rattle.ring_table.specs.{Changes.fresh_stage, ProducerSteps.EndBelow, ProducerSteps.HasNewestAt, RunBodies.NeedsRun}
+use Rattle.ring_table.specs.{OpenClaims.open_count, Staged.claim_end, Staged.AreRising, Staged.AreStored}
+use Rattle.ring_table.specs.{Runs.run_claims, Views.with_claims}
+use Rattle.ring_rings.specs.{Making.KnowsTail, Making.Moves, Matching.Matches, Seats.KeepsOpen}
+use Rattle.ring_rings.proofs.{CountLemmas.open_count-more, CountLemmas.stored_more, RisingLemmas.rising_more}
 use Rattle.ring_rings.proofs.MadeLemmas.{moved_newest, still_open}
-use Rattle.ring_rings.proofs.RisingLemmas.{rising_more}
 
 -- ---- the claims of a run come after others
 

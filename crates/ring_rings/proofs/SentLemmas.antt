@@ -1,32 +1,20 @@
 -- What calls send and receive, by what they do to views.
-use Rattle.std.proofs.Common.{◌≡◌, ◌∙◌, ◌+◌, ◌<◌, ℕ, ℤ, zero, suc, length, List, [], ◌∷◌, ◌++◌, refl, sym, ap, subst, append_assoc, arith, inl, inr, lt-ltb, le-ltb, cond}
-use mathlib.Core.Option.{some, some-injective, some-ne-none}
-use lib.ListN.{get_elem?}
+use Rattle.std.proofs.Common.{◌≡◌, ◌∙◌, ◌+◌, ◌<◌, ℕ, ℤ, zero, suc, length, List, [], ◌∷◌, ◌++◌, refl, sym, ap, subst, append_assoc, arith, inl, inr, lt-ltb, le-ltb, cond, append-nil}
+use Rattle.std.proofs.Math.{Option.some, Option.some-injective, Option.some-ne-none, ListN.get_elem?}
 use Rattle.std.proofs.lemmas.Bool.{cases_lt}
-use Rattle.std.proofs.lemmas.List.{append-nil}
 use Rattle.ring_layout.specs.declared.message.ClaimState.TheVariants.{Open, Committed, Aborted}
-use Rattle.ring_layout.specs.declared.message.Message.{Message}
-use Rattle.ring_layout.specs.History.{committed_of, shown, span}
-use Rattle.ring_table.specs.Runs.{run_claims}
-use Rattle.ring_words.specs.Ring.{Ring, IsRing}
-use Rattle.ring_words.proofs.UniqueLemmas.{alike}
-use Rattle.ring_table.specs.declared.claim.PlacedMessage.{PlacedMessage}
-use Rattle.ring_table.specs.declared.claim.StagedClaim.{StagedClaim}
-use Rattle.ring_table.specs.declared.claim.Stage.{Stage}
-use Rattle.ring_table.specs.declared.claim.Stage.TheVariants.{Moved, Padded, Stored}
-use Rattle.ring_table.specs.declared.view.View.{View}
-use Rattle.ring_table.specs.Changes.{changed, staged}
+use Rattle.ring_layout.specs.{declared.message.Message.Message, History.committed_of, History.shown, History.span}
+use Rattle.ring_table.specs.{Runs.run_claims, Passing.placed_committed_of, Passing.placed_message, Passing.shown_at}
+use Rattle.ring_words.{specs.Ring.Ring, specs.Ring.IsRing, proofs.UniqueLemmas.alike}
+use Rattle.ring_table.specs.declared.{claim.PlacedMessage.PlacedMessage, claim.StagedClaim.StagedClaim, view.View.View}
+use Rattle.ring_table.specs.declared.claim.Stage.{Stage, TheVariants.Moved, TheVariants.Padded, TheVariants.Stored}
+use Rattle.ring_table.specs.{Changes.changed, Changes.staged, ProducerSteps.HasClaimAt, ProducerSteps.IsStagedOpen}
 use Rattle.ring_table.specs.Owners.{insert_claim, interleaved}
-use Rattle.ring_table.specs.ProducerSteps.{HasClaimAt, IsStagedOpen}
-use Rattle.ring_table.specs.Passing.{placed_committed_of, placed_message, shown_at}
 use Rattle.ring_table.specs.Staged.{AreAbove, AreRising, claim_of, unplaced}
 use Rattle.ring_table.proofs.HistoryLemmas.{changed_at_other, changed_at_place}
-use Rattle.ring_rings.specs.Claiming.{claim_behind, record_behind, AreContended}
-use Rattle.ring_rings.specs.Closing.{HandsOut}
-use Rattle.ring_rings.specs.Reading.{messages_of}
-use Rattle.ring_rings.specs.declared.ring.Producer.{Producer}
+use Rattle.ring_rings.specs.{Claiming.claim_behind, Claiming.record_behind, Claiming.AreContended, Reading.messages_of}
+use Rattle.ring_rings.specs.{Closing.HandsOut, declared.ring.Producer.Producer, Seats.claims_of, Seats.view_of}
 use Rattle.ring_rings.specs.Ring.{message, received_in, sent_in, AreMerged, IsWhole, SendsClaimed}
-use Rattle.ring_rings.specs.Seats.{claims_of, view_of}
 
 -- Lists ------------------------------------------------------------------------
 

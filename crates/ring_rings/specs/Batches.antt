@@ -1,13 +1,10 @@
 -- Why a batch of messages is refused, and why a write of it stops before its end.
 use Rattle.std.specs.Prelude.{◌≡◌, ◌⊎◌, ℕ, pos, List, [], ◌∷◌, length, Bool, Option, Some, None}
-use Rattle.ring_layout.specs.declared.message.Message.{Message}
-use Rattle.ring_layout.specs.Refusals.{message_refusal_or}
-use Rattle.ring_words.specs.declared.fault.ClaimFault.{ClaimFault}
-use Rattle.ring_words.specs.declared.fault.ClaimFault.TheVariants.{BadType, TooLong}
+use Rattle.ring_layout.specs.{declared.message.Message.Message, Refusals.message_refusal_or}
+use Rattle.ring_words.specs.declared.fault.ClaimFault.{ClaimFault, TheVariants.BadType, TheVariants.TooLong}
 use Rattle.ring_table.specs.declared.view.View.{View}
 use Rattle.ring_rings.specs.Claiming.{RefusesTry}
-use Rattle.ring_rings.specs.declared.fault.TryFault.{TryFault}
-use Rattle.ring_rings.specs.declared.fault.TryFault.TheVariants.{Refused, Contended}
+use Rattle.ring_rings.specs.declared.fault.TryFault.{TryFault, TheVariants.Refused, TheVariants.Contended}
 
 -- the reason why a ring of this capacity can have no such batch: that of the first message that has one
 abbrev pub batch_refusal_of : ℕ → List Message → Option ClaimFault

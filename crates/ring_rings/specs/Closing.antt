@@ -7,17 +7,12 @@ use Rattle.ring_layout.specs.Layout.{correlation_index, heartbeat_index, head_ca
 pub use Rattle.ring_layout.specs.Refusals.{IsRefusedAs}
 use Rattle.ring_layout.specs.Refusals.{all_shares}
 use Rattle.ring_words.specs.Ring.{Ring, Has, head_of}
-use Rattle.ring_table.specs.declared.claim.StagedClaim.{StagedClaim}
-use Rattle.ring_table.specs.declared.view.View.{View}
+use Rattle.ring_table.specs.{declared.claim.StagedClaim.StagedClaim, declared.view.View.View, Closed.restarted}
 use Rattle.ring_table.specs.Staged.{AreRising, ArePlaced, unplaced}
 use Rattle.ring_table.specs.Passing.{AreSettled, placed_committed_of}
-use Rattle.ring_table.specs.Closed.{restarted}
 use Rattle.ring_table.specs.Services.{times_drawn, once_below, AreServed}
-use Rattle.ring_rings.specs.declared.fault.CloseFault.{CloseFault}
-use Rattle.ring_rings.specs.declared.fault.CloseFault.TheVariants.{ClaimsOpen, ProducersOut}
-use Rattle.ring_rings.specs.declared.ring.CloseRefused.{CloseRefused}
-use Rattle.ring_rings.specs.declared.ring.Producer.{Producer}
-use Rattle.ring_rings.specs.declared.ring.Consumer.{Consumer}
+use Rattle.ring_rings.specs.declared.fault.CloseFault.{CloseFault, TheVariants.ClaimsOpen, TheVariants.ProducersOut}
+use Rattle.ring_rings.specs.declared.ring.{CloseRefused.CloseRefused, Producer.Producer, Consumer.Consumer}
 
 -- the reason why a producer with this many open claims and shares does not close a ring, in the order of the tests
 abbrev pub close_refusal_of : ℕ → ℕ → Option CloseFault

@@ -1,8 +1,7 @@
 -- The join of two producers, and the loads of one producer.
 use Rattle.std.specs.Prelude.{◌≡◌, ℕ, ◌≤◌, [], ◌∷◌}
 use Rattle.ring_layout.specs.Layout.{head_index, tail_index}
-use Rattle.ring_table.specs.declared.view.View.{View}
-use Rattle.ring_table.specs.Views.{with_producer_of}
+use Rattle.ring_table.specs.{declared.view.View.View, Views.with_producer_of}
 use Rattle.ring_rings.specs.Claiming.{looked}
 
 -- u has what v and w had, and a tail was loaded that is not below the ends that v and w have seen

@@ -1,19 +1,12 @@
 -- The parts of the making of a claim.
 use Rattle.std.specs.Prelude.{◌≡◌, ◌≢◌, ℕ, ◌+◌, ◌%◌, ◌≤◌, ◌<◌, ◌==◌, ℤ, List, [], ◌∷◌, ◌++◌, Bool, true, false, None}
-use Rattle.ring_layout.specs.History.{IsMessage, span}
-use Rattle.ring_layout.specs.Places.{next_place, end_after, max_position}
-use Rattle.ring_table.specs.declared.claim.StagedClaim.{StagedClaim}
-use Rattle.ring_table.specs.declared.view.View.{View}
-use Rattle.ring_table.specs.Staged.{staged_span}
-use Rattle.ring_table.specs.Changes.{blank, fresh_stage, moved_claim}
+use Rattle.ring_layout.specs.{History.IsMessage, History.span, Places.next_place, Places.end_after, Places.max_position}
+use Rattle.ring_table.specs.{declared.claim.StagedClaim.StagedClaim, declared.view.View.View, Staged.staged_span}
+use Rattle.ring_table.specs.{Changes.blank, Changes.fresh_stage, Changes.moved_claim, Views.with_claim}
 use Rattle.ring_table.specs.ProducerSteps.{EndBelow, LoadsTail}
-use Rattle.ring_table.specs.Views.{with_claim}
-use Rattle.ring_layout.specs.declared.admission.Admission.{Admission}
-use Rattle.ring_layout.specs.Refusals.{all_shares}
-use Rattle.ring_words.specs.declared.fault.ClaimFault.{ClaimFault}
-use Rattle.ring_words.specs.declared.fault.ClaimFault.TheVariants.{InsufficientCapacity}
-use Rattle.ring_rings.specs.declared.fault.TryFault.{TryFault}
-use Rattle.ring_rings.specs.declared.fault.TryFault.TheVariants.{Refused, Contended}
+use Rattle.ring_layout.specs.{declared.admission.Admission.Admission, Refusals.all_shares}
+use Rattle.ring_words.specs.declared.fault.ClaimFault.{ClaimFault, TheVariants.InsufficientCapacity}
+use Rattle.ring_rings.specs.declared.fault.TryFault.{TryFault, TheVariants.Refused, TheVariants.Contended}
 use Rattle.ring_rings.specs.Claiming.{GoesBy, LooksTwice, SeesRoom, SeesTail, looked, tail_loads, tail_refusal_of}
 
 -- The view is w once the producer knows the tail. One of many producers loads it.

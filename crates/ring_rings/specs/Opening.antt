@@ -1,12 +1,9 @@
 -- The first views of the producer and of the consumer of a ring.
 use Rattle.std.specs.Prelude.{◌≡◌, ℕ}
-use Rattle.ring_table.specs.declared.view.View.{View}
-use Rattle.ring_table.specs.declared.view.Key.{Key}
+use Rattle.ring_table.specs.declared.view.{View.View, Key.Key}
 use Rattle.ring_table.specs.Views.{consumer_alone, first_view, without_consumer}
-use Rattle.ring_rings.specs.declared.ring.Ring.{Ring}
+use Rattle.ring_rings.specs.declared.ring.{Ring.Ring, Producer.Producer, Consumer.Consumer}
 use Rattle.ring_rings.specs.declared.bodies.Bodies.{Ghosts}
-use Rattle.ring_rings.specs.declared.ring.Producer.{Producer}
-use Rattle.ring_rings.specs.declared.ring.Consumer.{Consumer}
 use Rattle.ring_rings.specs.Seats.{consumer_view, view_of, IsConsumerOf, IsProducerOf}
 
 -- a ring of C bytes that begins at a position

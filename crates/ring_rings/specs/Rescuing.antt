@@ -1,18 +1,12 @@
 -- The parts that a ring hands out after producers were lost.
 use Rattle.std.specs.Prelude.{◌≡◌, ℕ, ◌≤◌, List, ◌++◌}
 use Rattle.ring_words.specs.Ring.{Has, head_of}
-use Rattle.ring_table.specs.declared.claim.StagedClaim.{StagedClaim}
-use Rattle.ring_table.specs.declared.view.View.{View}
+use Rattle.ring_table.specs.declared.{claim.StagedClaim.StagedClaim, view.View.View}
 use Rattle.ring_table.specs.Owners.{OwnedHistory, all_of, owned_by}
 use Rattle.ring_table.specs.Passing.{AreSettled, placed_committed_of}
-use Rattle.ring_table.specs.Rescued.{silent_bytes, unsettled_count, HadHistory}
-use Rattle.ring_table.specs.Closed.{restarted}
-use Rattle.ring_table.specs.Rule.{IsService}
-use Rattle.ring_table.specs.Staged.{Bodies, ArePlaced, staged_end, unplaced}
-use Rattle.ring_rings.specs.Closing.{AreOrdered}
-use Rattle.ring_rings.specs.Reading.{messages_of}
-use Rattle.ring_rings.specs.Ring.{IsUnread}
-use Rattle.ring_rings.specs.declared.rescue.Rescued.{Rescued}
+use Rattle.ring_table.specs.{Rescued.silent_bytes, Rescued.unsettled_count, Rescued.HadHistory, Rule.IsService}
+use Rattle.ring_table.specs.{Closed.restarted, Staged.Bodies, Staged.ArePlaced, Staged.staged_end, Staged.unplaced}
+use Rattle.ring_rings.specs.{Closing.AreOrdered, Reading.messages_of, Ring.IsUnread, declared.rescue.Rescued.Rescued}
 
 -- r was rescued from a ring with this history of all claims, which include those of lost producers. In the ring this
 -- number of ids was drawn. The claims are one after another from the ring's start on, and v's own claims are a part of

@@ -1,18 +1,11 @@
 -- A ring in a caller's words: the messages that a producer sent, that a consumer received, and that are unread.
 use Rattle.std.specs.Prelude.{◌≡◌, ◌⊎◌, ℕ, ℤ, List, [], ◌∷◌, ◌++◌, length}
-use Rattle.ring_layout.specs.declared.message.Claim.{Claim}
-use Rattle.ring_layout.specs.declared.message.Message.{Message}
+use Rattle.ring_layout.specs.{declared.message.Claim.Claim, declared.message.Message.Message, History.committed_of}
 use Rattle.ring_layout.specs.Handles.{Handles}
-use Rattle.ring_layout.specs.History.{committed_of}
-use Rattle.ring_words.specs.declared.read.action.Action.{Action}
-use Rattle.ring_words.specs.Ring.{Ring as ClosedRing, Has}
-use Rattle.ring_table.specs.declared.view.View.{View}
-use Rattle.ring_table.specs.Passing.{placed_committed_of}
-use Rattle.ring_table.specs.ProducerSteps.{HasClaimAt}
-use Rattle.ring_rings.specs.declared.ring.Consumer.{Consumer}
-use Rattle.ring_rings.specs.declared.ring.Producer.{Producer}
-use Rattle.ring_rings.specs.Reading.{IsNext, messages_of}
-use Rattle.ring_rings.specs.Seats.{consumer_view, view_of}
+use Rattle.ring_words.specs.{declared.read.action.Action.Action, Ring.Ring as ClosedRing, Ring.Has}
+use Rattle.ring_table.specs.{declared.view.View.View, Passing.placed_committed_of, ProducerSteps.HasClaimAt}
+use Rattle.ring_rings.specs.declared.ring.{Consumer.Consumer, Producer.Producer}
+use Rattle.ring_rings.specs.{Reading.IsNext, Reading.messages_of, Seats.consumer_view, Seats.view_of}
 
 abbrev pub message : ℤ → List ℕ → Message
 message type_id body = record { type_id = type_id; body = body }

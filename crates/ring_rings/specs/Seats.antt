@@ -1,23 +1,13 @@
 -- The words of clauses for rings, producers and consumers.
 use Rattle.std.specs.Prelude.{◌≡◌, ◌≢◌, ℕ, ◌+◌, ◌%◌, ◌≤◌, List, Bool, false}
-use Rattle.ring_layout.specs.History.{IsMessage}
-use Rattle.ring_layout.specs.Places.{max_position}
+use Rattle.ring_layout.specs.{History.IsMessage, Places.max_position}
 pub use Rattle.ring_layout.specs.Refusals.{all_shares}
 use Rattle.ring_words.specs.Open.{ClaimAt}
-use Rattle.ring_table.specs.Changes.{blank}
-use Rattle.ring_table.specs.ProducerSteps.{HasClaimAt, IsStagedOpen}
-use Rattle.ring_table.specs.declared.claim.StagedClaim.{StagedClaim}
-use Rattle.ring_table.specs.declared.claim.PlacedMessage.{PlacedMessage}
-use Rattle.ring_table.specs.OpenClaims.{open_count}
-use Rattle.ring_table.specs.Staged.{AreRising}
-use Rattle.ring_table.specs.declared.view.View.{View}
-use Rattle.ring_table.specs.Views.{with_run}
-use Rattle.ring_table.specs.Seats.{IsSameSeat}
-use Rattle.ring_rings.specs.Reading.{at_rest}
-use Rattle.ring_rings.specs.declared.ring.Ring.{Ring}
-use Rattle.ring_rings.specs.declared.bodies.Bodies.{Ghosts}
-use Rattle.ring_rings.specs.declared.ring.Producer.{Producer}
-use Rattle.ring_rings.specs.declared.ring.Consumer.{Consumer}
+use Rattle.ring_table.specs.{Changes.blank, ProducerSteps.HasClaimAt, ProducerSteps.IsStagedOpen, OpenClaims.open_count}
+use Rattle.ring_table.specs.declared.{claim.StagedClaim.StagedClaim, claim.PlacedMessage.PlacedMessage, view.View.View}
+use Rattle.ring_table.specs.{Staged.AreRising, Views.with_run, Seats.IsSameSeat}
+use Rattle.ring_rings.specs.{Reading.at_rest, declared.bodies.Bodies.Ghosts}
+use Rattle.ring_rings.specs.declared.ring.{Ring.Ring, Producer.Producer, Consumer.Consumer}
 
 abbrev pub capacity_of : {K B : Type 0} {G : Ghosts B} → Ring K B G → ℕ
 capacity_of ring = ring.capacity

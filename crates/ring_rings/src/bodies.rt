@@ -2,24 +2,15 @@
 //! `ring_table`.
 ghost use Rattle.std.specs.Prelude.{◌≡◌, ℕ, ◌+◌, ◌/◌, ◌%◌, ◌≤◌, List, [], ◌∷◌, ◌++◌, length, vec_len, IfOk};
 ghost use Rattle.std.specs.Slots.{slots_len};
-ghost use Rattle.ring_layout.specs.History.{IsMessage};
-ghost use Rattle.ring_layout.specs.Layout.{ring_words};
-ghost use Rattle.ring_layout.specs.Places.{max_position};
-ghost use Rattle.ring_table.specs.declared.claim.PlacedMessage.{PlacedMessage};
-ghost use Rattle.ring_table.specs.declared.claim.StagedClaim.{StagedClaim};
-ghost use Rattle.ring_table.specs.Changes.{blank, recorded, with_header};
-ghost use Rattle.ring_table.specs.declared.view.Key.{Key as TheKey};
-ghost use Rattle.ring_table.specs.declared.view.View.{View};
-ghost use Rattle.ring_table.specs.Closed.{IsClosed, IsLeft, LeavesRest};
+ghost use Rattle.ring_layout.specs.{History.IsMessage, Layout.ring_words, Places.max_position};
+ghost use Rattle.ring_table.specs.declared.claim.{PlacedMessage.PlacedMessage, StagedClaim.StagedClaim};
+ghost use Rattle.ring_table.specs.{Changes.blank, Changes.recorded, Changes.with_header, SlotSteps.IsOpenOf};
+ghost use Rattle.ring_table.specs.{declared.view.Key.Key as TheKey, declared.view.View.View, Owners.OwnedHistory};
+ghost use Rattle.ring_table.specs.{Closed.IsClosed, Closed.IsLeft, Closed.LeavesRest, Seats.IsSameSeat, Seats.IsSeatOf};
 ghost use Rattle.ring_table.specs.ConsumerSteps.{StandsBefore, StoresHead, StoresHeadBefore};
 ghost use Rattle.ring_table.specs.ProducerSteps.{with_changed, HasClaimAt, NeedsHeader};
-ghost use Rattle.ring_table.specs.Owners.{OwnedHistory};
-ghost use Rattle.ring_table.specs.Rescued.{HadHistory, IsSaved, Rescues};
-ghost use Rattle.ring_table.specs.Rule.{IsLawful};
-ghost use Rattle.ring_table.specs.Seats.{IsSameSeat, IsSeatOf};
-ghost use Rattle.ring_table.specs.SlotSteps.{IsOpenOf};
-ghost use Rattle.ring_table.specs.Staged.{AreRising};
-ghost use Rattle.ring_table.specs.Views.{first_view, with_claims};
+ghost use Rattle.ring_table.specs.{Rescued.HadHistory, Rescued.IsSaved, Rescued.Rescues, Staged.AreRising};
+ghost use Rattle.ring_table.specs.{Rule.IsLawful, Views.first_view, Views.with_claims};
 ghost use Rattle.ring_rings.specs.Bodies.{HasPaddedLast, IsPaddedLast, PutsBytes};
 ghost use Rattle.ring_rings.specs.ReadingSteps.{CopiesBody, HasBodyAt, HasGotLast, HasLastAt, IsInBlock, IsReaderSeatOf, LoadsWholeBody, OnlyLoads};
 

@@ -3,9 +3,8 @@ ghost use Rattle.std.specs.Prelude.{◌≡◌, vec_len, IfOk, OnOk};
 ghost use Rattle.ring_layout.specs.Refusals.{all_shares};
 ghost use Rattle.ring_table.specs.Closed.{IsClosed, IsLast, LeavesRest};
 ghost use Rattle.ring_rings.specs.Closing.{close_refusal_of, kept_open, HandsOut, IsRefusedAs, Serves};
-ghost use Rattle.ring_rings.specs.Ring.{received, sent, IsWhole};
+ghost use Rattle.ring_rings.specs.{Ring.received, Ring.sent, Ring.IsWhole, Seats.IsConsumerOf, Seats.IsProducerOf};
 ghost use Rattle.ring_rings.specs.Seats.{capacity_of, consumer_view, open_claims_of, shares_of, start_of, view_of};
-ghost use Rattle.ring_rings.specs.Seats.{IsConsumerOf, IsProducerOf};
 
 use crate::bodies::Bodies;
 use crate::fault::CloseFault;

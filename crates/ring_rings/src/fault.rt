@@ -1,8 +1,6 @@
 //! The reasons why a call of a shared ring refuses.
 ghost use Rattle.std.specs.Prelude.{◌≡◌};
-ghost use Rattle.ring_rings.specs.declared.fault.TryFault.TheVariants.{Refused};
-ghost use Rattle.ring_rings.specs.Claiming.{try_code};
-ghost use Rattle.ring_rings.specs.Closing.{close_code};
+ghost use Rattle.ring_rings.specs.{declared.fault.TryFault.TheVariants.Refused, Claiming.try_code, Closing.close_code};
 
 use ring_layout::refusal_codes::{CLAIMS_OPEN, CONTENDED, PRODUCERS_OUT};
 use ring_words::ClaimFault;

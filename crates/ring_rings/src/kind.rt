@@ -1,11 +1,9 @@
 //! The kinds of rings. The kind says how a producer moves the tail.
 ghost use Rattle.std.specs.Prelude.{◌≡◌, ◌%◌, ◌<◌, ◌≤◌, Bool, false, true, IfOk, MatchResult, None, OnErr};
-ghost use Rattle.ring_layout.specs.Places.{max_position};
-ghost use Rattle.ring_layout.specs.Refusals.{all_shares};
-ghost use Rattle.ring_table.specs.Seats.{IsSameSeat, IsSeatOf};
+ghost use Rattle.ring_layout.specs.{Places.max_position, Refusals.all_shares};
+ghost use Rattle.ring_table.specs.{Seats.IsSameSeat, Seats.IsSeatOf, declared.view.View.View};
 ghost use Rattle.ring_rings.specs.Claiming.{request_refusal_of, RefusesTry};
 ghost use Rattle.ring_rings.specs.Making.{KnowsTail, MovesBehind};
-ghost use Rattle.ring_table.specs.declared.view.View.{View};
 
 use crate::fault::TryFault;
 use crate::producer::room::{admit, find_room, test_request};

@@ -3,8 +3,7 @@ ghost use Rattle.std.specs.Prelude.{◌≡◌, ◌/◌, ◌%◌, ◌≤◌, [], 
 ghost use Rattle.ring_layout.specs.Places.{is_capacity, IsCapacity, max_position};
 ghost use Rattle.ring_layout.specs.Refusals.{make_refusal_of, IsMadeUnless};
 ghost use Rattle.ring_rings.specs.Ring.{received, sent};
-ghost use Rattle.ring_rings.specs.Seats.{capacity_of, start_of};
-ghost use Rattle.ring_rings.specs.Opening.{IsFirstConsumer, IsFirstProducer};
+ghost use Rattle.ring_rings.specs.{Seats.capacity_of, Seats.start_of, Opening.IsFirstConsumer, Opening.IsFirstProducer};
 
 use crate::bodies::Bodies;
 use crate::ring::{Consumer, Producer, Ring};

@@ -1,11 +1,8 @@
 //! The calls that take a ring apart although producers are lost.
 ghost use Rattle.std.specs.Prelude.{◌≡◌, ℕ, vec_len, true, []};
-ghost use Rattle.ring_table.specs.Owners.{OwnedHistory};
-ghost use Rattle.ring_table.specs.Rescued.{HadHistory, Rescues};
-ghost use Rattle.ring_table.specs.Views.{with_consumer_of};
+ghost use Rattle.ring_table.specs.{Owners.OwnedHistory, Rescued.HadHistory, Rescued.Rescues, Views.with_consumer_of};
 ghost use Rattle.ring_rings.specs.Rescuing.{IsRescued};
-ghost use Rattle.ring_rings.specs.Seats.{capacity_of, seat_view, start_of, view_of};
-ghost use Rattle.ring_rings.specs.Seats.{IsConsumerOf, IsProducerOf};
+ghost use Rattle.ring_rings.specs.Seats.{capacity_of, seat_view, start_of, view_of, IsConsumerOf, IsProducerOf};
 
 use crate::bodies::Bodies;
 use crate::ring::{Consumer, Producer, Ring};

@@ -1,7 +1,6 @@
 //! A ring, its producers and its consumer.
 ghost use Rattle.std.specs.Prelude.{◌≡◌, ◌%◌, ◌/◌, ◌<◌, ◌≤◌, [], vec_len, true, false};
-ghost use Rattle.ring_layout.specs.Places.{IsCapacity, max_position};
-ghost use Rattle.ring_layout.specs.Layout.{ring_words};
+ghost use Rattle.ring_layout.specs.{Places.IsCapacity, Places.max_position, Layout.ring_words};
 ghost use Rattle.ring_rings.specs.Matching.{Matches, matches_prop};
 
 use crate::bodies::Bodies;

@@ -1,9 +1,7 @@
 //! The steps of a ring whose bodies are in slots. One seat at a time reads and writes a slot as plain memory. Marks and
 //! the trailer are words.
 ghost use Rattle.std.specs.Prelude.{◌≡◌, ◌+◌, ◌/◌, ◌%◌, ◌≤◌, ◌<◌, List, [], ◌∷◌, ◌++◌};
-ghost use Rattle.ring_table.specs.declared.claim.PlacedMessage.{PlacedMessage};
-ghost use Rattle.ring_table.specs.Seats.{IsSameSeat};
-ghost use Rattle.ring_table.specs.SlotSteps.{HasLast};
+ghost use Rattle.ring_table.specs.{declared.claim.PlacedMessage.PlacedMessage, Seats.IsSameSeat, SlotSteps.HasLast};
 ghost use Rattle.ring_table.specs.ConsumerSteps.{StandsBefore, StoresHead, StoresHeadBefore};
 ghost use Rattle.ring_rings.specs.ReadingSteps.{IsReaderSeatOf, LoadsWholeBody};
 

@@ -1,12 +1,9 @@
 //! The traits that a conductor needs of a ring of any kind.
 ghost use Rattle.std.specs.Prelude.{◌≡◌, ◌⊎◌, ℕ, IfOk};
-ghost use Rattle.ring_table.specs.Staged.{Bodies as TheBodies};
-ghost use Rattle.ring_table.specs.Views.{with_beat, with_consumer_of};
-ghost use Rattle.ring_rings.specs.declared.ring.Consumer.{Consumer as TheConsumer};
-ghost use Rattle.ring_rings.specs.declared.ring.Producer.{Producer as TheProducer};
+ghost use Rattle.ring_table.specs.{Staged.Bodies as TheBodies, Views.with_beat, Views.with_consumer_of};
+ghost use Rattle.ring_rings.specs.declared.ring.{Consumer.Consumer as TheConsumer, Producer.Producer as TheProducer};
 ghost use Rattle.ring_rings.specs.Closing.{close_refusal_of, kept_open, HandsOut, IsRefusedAs, Serves};
-ghost use Rattle.ring_rings.specs.Reading.{Controls, EndsAt};
-ghost use Rattle.ring_rings.specs.Rescuing.{IsRescued};
+ghost use Rattle.ring_rings.specs.{Reading.Controls, Reading.EndsAt, Rescuing.IsRescued};
 ghost use Rattle.ring_rings.specs.Ring.{received, sent, IsWhole, Leaves, Receives};
 ghost use Rattle.ring_rings.specs.Seats.{capacity_of, consumer_view, open_claims_of, seat_view, shares_of};
 ghost use Rattle.ring_rings.specs.Seats.{start_of, view_of, IsConsumerOf, IsProducerOf, IsSameConsumer};

@@ -1,9 +1,8 @@
 //! The steps of a ring whose bodies are in words. Each atomic word has eight bytes, as in the ring's format.
 ghost use Rattle.std.specs.Prelude.{◌≡◌, ℕ, ◌+◌, ◌*◌, ◌%◌, ◌<◌, ◌≤◌, List, [], ◌∷◌, ◌++◌, length};
 ghost use Rattle.ring_layout.specs.Places.{index, max_position};
-ghost use Rattle.ring_table.specs.declared.claim.StagedClaim.{StagedClaim};
+ghost use Rattle.ring_table.specs.{declared.claim.StagedClaim.StagedClaim, Seats.IsSameSeat, Seats.IsSeatOf};
 ghost use Rattle.ring_table.specs.ConsumerSteps.{ClearsWord, StandsBefore, StoresHead, StoresHeadBefore};
-ghost use Rattle.ring_table.specs.Seats.{IsSameSeat, IsSeatOf};
 ghost use Rattle.ring_table.specs.Views.{cleared_to, with_claims, with_consumer};
 ghost use Rattle.ring_rings.specs.Bodies.{loaded, put_at, IsFreshClaim, MergesWord};
 ghost use Rattle.ring_rings.specs.ReadingSteps.{CopiesWord, IsInBlock, IsReaderSeatOf, LoadsWord, OnlyLoads};

@@ -1,9 +1,7 @@
 -- A producer with up to two open claims.
 use Rattle.std.specs.Prelude.{Option, IfSome}
 use Rattle.ring_words.specs.Open.{ClaimAt}
-use Rattle.ring_rings.specs.declared.ring.Producer.{Producer}
-use Rattle.ring_rings.specs.declared.ring.Ring.{Ring}
-use Rattle.ring_rings.specs.declared.bodies.Bodies.{Ghosts}
+use Rattle.ring_rings.specs.declared.{ring.Producer.Producer, ring.Ring.Ring, bodies.Bodies.Ghosts}
 use Rattle.ring_rings.specs.Seats.{IsOpenClaimOf, IsProducerOf}
 
 -- the producer is the ring's, and these claims are open ones of its own

@@ -1,15 +1,10 @@
 -- What a closed ring hands out is all committed messages but those that were taken.
 use Rattle.std.proofs.Common.{◌≡◌, ◌∙◌, ℕ, List, ◌++◌, length, length-append, sym, ap, subst, arith}
-use Rattle.ring_layout.specs.declared.message.Claim.{Claim}
-use Rattle.ring_layout.specs.History.{committed_of}
-use Rattle.ring_words.specs.Drain.{AllSettled}
-use Rattle.ring_words.specs.Ring.{Ring, Has}
-use Rattle.ring_table.specs.declared.view.View.{View}
-use Rattle.ring_table.specs.declared.claim.PlacedMessage.{PlacedMessage}
-use Rattle.ring_table.specs.declared.claim.StagedClaim.{StagedClaim}
+use Rattle.ring_layout.specs.{declared.message.Claim.Claim, History.committed_of}
+use Rattle.ring_words.specs.{Drain.AllSettled, Ring.Ring, Ring.Has}
+use Rattle.ring_table.specs.declared.{view.View.View, claim.PlacedMessage.PlacedMessage, claim.StagedClaim.StagedClaim}
 use Rattle.ring_table.specs.Passing.{AreSettled, placed_committed_of}
-use Rattle.ring_rings.specs.Closing.{AreOrdered, HandsOut}
-use Rattle.ring_rings.proofs.SentLemmas.{placed_committed_of-append}
+use Rattle.ring_rings.{specs.Closing.AreOrdered, specs.Closing.HandsOut, proofs.SentLemmas.placed_committed_of-append}
 use Rattle.ring_service.proofs.FinishLemmas.{drained}
 use Rattle.ring_scenario.specs.Closing.{TakesAllBut}
 

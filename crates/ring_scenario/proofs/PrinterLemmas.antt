@@ -1,9 +1,7 @@
 -- What a read does whose printer got its memory: its states are read as what was printed.
 use Rattle.std.proofs.Common.{◌≡◌, ℕ, List, [], ◌∷◌, false, sym, ap, subst, inl, inr}
-use Rattle.ring_layout.specs.declared.message.Message.{Message}
-use Rattle.ring_layout.specs.Handles.{Handles}
-use Rattle.ring_words.specs.declared.read.action.Action.{Action}
-use Rattle.ring_words.specs.declared.read.end.ReadEnd.{ReadEnd}
+use Rattle.ring_layout.specs.{declared.message.Message.Message, Handles.Handles}
+use Rattle.ring_words.specs.declared.read.{action.Action.Action, end.ReadEnd.ReadEnd}
 use Rattle.ring_table.specs.declared.view.View.{View}
 use Rattle.ring_rings.specs.Reading.{Controls, Reads}
 use Rattle.ring_scenario.specs.declared.printer.Printer.{Printer}

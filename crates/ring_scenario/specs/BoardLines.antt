@@ -3,12 +3,10 @@ use Rattle.std.specs.Prelude.{◌≡◌, ℕ, ℤ, List, codes, length, IfOk, On
 use Rattle.ring_board.specs.Refusals.{subscribe_refusal_of, transmit_refusal_of, IsRefusedBy, IsSubscribedUnless}
 use Rattle.ring_board.specs.Seats.{capacity_of, next_record, shares_of, tail_of, view_of}
 use Rattle.ring_board.specs.TransmitterSteps.{sent_on}
-use Rattle.ring_board.specs.declared.fault.SubscribeFault.{SubscribeFault}
-use Rattle.ring_board.specs.declared.fault.TransmitFault.{TransmitFault}
+use Rattle.ring_board.specs.declared.fault.{SubscribeFault.SubscribeFault, TransmitFault.TransmitFault}
 use Rattle.ring_ends.specs.Held.{held_in}
 use Rattle.ring_ends.specs.Receivers.{LeavesAt, ReceivesAt, Subscribes, by_number}
-use Rattle.ring_ends.specs.declared.board.StandaloneBoard.{StandaloneBoard}
-use Rattle.ring_ends.specs.declared.received.Received.{Received}
+use Rattle.ring_ends.specs.declared.{board.StandaloneBoard.StandaloneBoard, received.Received.Received}
 use Rattle.ring_scenario.specs.RefusalTexts.{subscribe_refused, transmit_refused}
 use Rattle.ring_scenario.specs.Texts.{answer_text, done_text, number_text, ok_text, received_text}
 

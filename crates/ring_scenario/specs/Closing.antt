@@ -1,17 +1,14 @@
 -- The parts that a run hands out at its end.
 use Rattle.std.specs.Prelude.{◌≡◌, ℕ, ◌-◌, ◌^◌, List, ◌++◌, length, min}
 use Rattle.ring_layout.specs.Refusals.{all_shares}
-use Rattle.ring_table.specs.declared.claim.PlacedMessage.{PlacedMessage}
-use Rattle.ring_table.specs.declared.claim.StagedClaim.{StagedClaim}
+use Rattle.ring_table.specs.declared.claim.{PlacedMessage.PlacedMessage, StagedClaim.StagedClaim}
 use Rattle.ring_table.specs.Passing.{placed_committed_of}
-use Rattle.ring_rings.specs.Closing.{AreOrdered}
-use Rattle.ring_rings.specs.Seats.{capacity_of, claims_of, start_of}
+use Rattle.ring_rings.specs.{Closing.AreOrdered, Seats.capacity_of, Seats.claims_of, Seats.start_of}
 use Rattle.ring_ends.specs.Claiming.{aborted_view}
 use Rattle.ring_counters.specs.Manager.{registry_of, shares_of}
 use Rattle.ring_service.specs.Conducting.{manager_in, received_of}
 use Rattle.ring_scenario.specs.declared.ring.RunRing.{RunRing}
-use Rattle.ring_scenario.specs.declared.service.CommandService.{CommandService}
-use Rattle.ring_scenario.specs.declared.service.closing.Served.{Served}
+use Rattle.ring_scenario.specs.declared.service.{CommandService.CommandService, closing.Served.Served}
 
 -- the number of messages that the reads of a ring took, within 64 bits
 abbrev pub read_count : RunRing → ℕ

@@ -1,29 +1,20 @@
 -- The effects of lines, with the text that they print.
 use Rattle.std.specs.Prelude.{◌≡◌, ◌↔◌, ℕ, List, codes, IfOk, Result, Err}
 use Rattle.ring_layout.specs.declared.message.ClaimState.TheVariants.{Aborted, Committed}
-use Rattle.ring_table.specs.ServiceSteps.{DrawsId, LoadsHeartbeat}
-use Rattle.ring_table.specs.Views.{with_beat}
+use Rattle.ring_table.specs.{ServiceSteps.DrawsId, ServiceSteps.LoadsHeartbeat, Views.with_beat}
 use Rattle.ring_protocol.specs.Command.{content_of_owned}
-use Rattle.ring_storm.specs.Storming.{IsPlan, IsReportOf}
-use Rattle.ring_storm.specs.declared.plan.StormFault.{StormFault}
-use Rattle.ring_storm.specs.declared.plan.StormFault.TheVariants.{BadPlan}
-use Rattle.ring_storm.specs.declared.plan.StormPlan.{StormPlan}
-use Rattle.ring_storm.specs.declared.plan.StormReport.{StormReport}
-use Rattle.ring_lines.specs.declared.call.Call.{Call}
+use Rattle.ring_storm.specs.{Storming.IsPlan, Storming.IsReportOf, declared.plan.StormReport.StormReport}
+use Rattle.ring_storm.specs.declared.plan.{StormFault.StormFault, StormFault.TheVariants.BadPlan, StormPlan.StormPlan}
+use Rattle.ring_lines.specs.declared.{call.Call.Call, service_call.ServiceCall.ServiceCall}
 use Rattle.ring_lines.specs.declared.call.Call.TheVariants as call
-use Rattle.ring_lines.specs.declared.service_call.ServiceCall.{ServiceCall}
 use Rattle.ring_lines.specs.declared.service_call.ServiceCall.TheVariants as asks
-use Rattle.ring_ends.specs.End.{Does, LoadsThem}
-use Rattle.ring_ends.specs.Held.{IsFree, held_in}
-use Rattle.ring_scenario.specs.declared.runner.Runner.{Runner}
-use Rattle.ring_scenario.specs.declared.service.CommandService.{CommandService}
+use Rattle.ring_ends.specs.{End.Does, End.LoadsThem, Held.IsFree, Held.held_in}
+use Rattle.ring_scenario.specs.declared.{runner.Runner.Runner, service.CommandService.CommandService}
 use Rattle.ring_scenario.specs.BoardLines.{LeavesLine, ReceivesLine, SubscribesLine, TransmitsLine}
-use Rattle.ring_scenario.specs.RefusalTexts.{storm_refused}
+use Rattle.ring_scenario.specs.{RefusalTexts.storm_refused, RingLines.WritesLine, ServiceTexts.storm_text}
 use Rattle.ring_scenario.specs.RingLines.{CallsLine, ClaimsLine, ControlsLine, HasNoClaim, KeepsButReading, PutsLine, ReadsLine, SettlesLine}
-use Rattle.ring_scenario.specs.RingLines.{WritesLine}
 use Rattle.ring_scenario.specs.SeatLines.{HearsLine, ListensLine, PeeksLine, UnwatchesLine, WatchesLine}
 use Rattle.ring_scenario.specs.ServiceLines.{CountsLine, RequestsLine, SendsLine, WorksLine, owner_text}
-use Rattle.ring_scenario.specs.ServiceTexts.{storm_text}
 use Rattle.ring_scenario.specs.Serving.{FitsRoom}
 use Rattle.ring_scenario.specs.Texts.{answer_text, number_text, ok_text, positions_text}
 

@@ -2,8 +2,7 @@
 use Rattle.std.specs.Prelude.{◌≡◌, true}
 use Rattle.ring_lines.specs.declared.call.Call.{Call}
 use Rattle.ring_lines.specs.declared.call.Call.TheVariants.{Receive, Leave, Service, Storm, Subscribe, Transmit}
-use Rattle.ring_scenario.specs.declared.runner.Runner.{Runner}
-use Rattle.ring_scenario.specs.declared.service.CommandService.{CommandService}
+use Rattle.ring_scenario.specs.declared.{runner.Runner.Runner, service.CommandService.CommandService}
 
 -- the conductor's side is as it was, and so is the capacity of a storm's ring
 abbrev pub KeepsService : Runner → Runner → Type 0

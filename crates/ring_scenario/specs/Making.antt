@@ -2,18 +2,13 @@
 use Rattle.std.specs.Prelude.{◌≡◌, ℕ, [], false}
 use Rattle.ring_rings.specs.Opening.{first_consumer, first_producer}
 use Rattle.ring_rings.specs.Seats.{capacity_of, view_of as producer_view}
-use Rattle.ring_board.specs.Rule.{opening_view}
-use Rattle.ring_board.specs.Seats.{capacity_of as board_capacity_of, view_of}
+use Rattle.ring_board.specs.{Rule.opening_view, Seats.capacity_of as board_capacity_of, Seats.view_of}
 use Rattle.ring_layout.specs.Refusals.{all_shares}
-use Rattle.ring_counters.specs.Manager.{registry_of, writes_of}
-use Rattle.ring_counters.specs.Registry.{fresh_registry}
-use Rattle.ring_counters.specs.Seats.{values_count}
+use Rattle.ring_counters.specs.{Manager.registry_of, Manager.writes_of, Registry.fresh_registry, Seats.values_count}
 use Rattle.ring_service.specs.Conducting.{board_view, manager_in, ring_view, value_shares_of}
 use Rattle.ring_ends.specs.Held.{held_in}
-use Rattle.ring_scenario.specs.declared.ring.RunRing.{RunRing}
-use Rattle.ring_scenario.specs.declared.options.Options.{Options}
-use Rattle.ring_scenario.specs.declared.runner.Runner.{Runner}
-use Rattle.ring_scenario.specs.declared.service.CommandService.{CommandService}
+use Rattle.ring_scenario.specs.declared.{ring.RunRing.RunRing, runner.Runner.Runner}
+use Rattle.ring_scenario.specs.declared.{options.Options.Options, service.CommandService.CommandService}
 
 -- The command ring, the broadcast buffer of its replies, and the counters with their values are new ones that the
 -- options describe. No id was drawn, and no command was sent or taken. No reply was transmitted, and no value was

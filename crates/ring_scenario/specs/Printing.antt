@@ -1,10 +1,8 @@
 -- The text that the runner's handler prints.
 use Rattle.std.specs.Prelude.{◌≡◌, List, [], ℕ, ◌++◌, drop, false, slice_index_or, string_bytes}
 use Rattle.ring_layout.specs.declared.message.Message.{Message}
-use Rattle.ring_words.specs.declared.read.action.Action.{Action}
-use Rattle.ring_words.specs.declared.read.action.Action.TheVariants.{Continue}
-use Rattle.ring_scenario.specs.declared.printer.Printer.{Printer}
-use Rattle.ring_scenario.specs.Texts.{message_text}
+use Rattle.ring_words.specs.declared.read.action.Action.{Action, TheVariants.Continue}
+use Rattle.ring_scenario.specs.{declared.printer.Printer.Printer, Texts.message_text}
 
 -- the actions that a handler has not returned yet, and the text that it printed
 pub record Printed : Type 0 where

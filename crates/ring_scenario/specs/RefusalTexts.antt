@@ -2,17 +2,13 @@
 use Rattle.std.specs.Prelude.{ℕ, ℤ, pos, List, ◌++◌, codes, decimal}
 use Rattle.std.specs.Fmt.{signed_decimal}
 use Rattle.ring_layout.specs.declared.share.NoShares.{NoShares}
-use Rattle.ring_words.specs.declared.fault.ClaimFault.{ClaimFault}
+use Rattle.ring_words.specs.declared.fault.{ClaimFault.ClaimFault, PutRange.PutRange}
 use Rattle.ring_words.specs.declared.fault.ClaimFault.TheVariants as claim
-use Rattle.ring_words.specs.declared.fault.PutRange.{PutRange}
-use Rattle.ring_board.specs.declared.fault.SubscribeFault.{SubscribeFault}
+use Rattle.ring_board.specs.declared.fault.{SubscribeFault.SubscribeFault, TransmitFault.TransmitFault}
 use Rattle.ring_board.specs.declared.fault.SubscribeFault.TheVariants as subscribe
-use Rattle.ring_board.specs.declared.fault.TransmitFault.{TransmitFault}
 use Rattle.ring_board.specs.declared.fault.TransmitFault.TheVariants as transmit
-use Rattle.ring_counters.specs.declared.fault.BadId.{BadId}
-use Rattle.ring_counters.specs.declared.fault.IdFault.{IdFault}
+use Rattle.ring_counters.specs.declared.fault.{BadId.BadId, IdFault.IdFault, OutOfMemory.OutOfMemory}
 use Rattle.ring_counters.specs.declared.fault.IdFault.TheVariants as id
-use Rattle.ring_counters.specs.declared.fault.OutOfMemory.{OutOfMemory}
 use Rattle.ring_storm.specs.declared.plan.StormFault.{StormFault}
 use Rattle.ring_storm.specs.declared.plan.StormFault.TheVariants as storm
 

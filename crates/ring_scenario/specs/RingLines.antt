@@ -1,24 +1,19 @@
 -- The effects of lines of the ring, with the text that they print.
 use Rattle.std.specs.Prelude.{◌≡◌, ℕ, ℤ, List, [], ◌++◌, Result, Ok, Err, MatchResult, None}
 use Rattle.ring_layout.specs.declared.message.ClaimState.{ClaimState}
-use Rattle.ring_words.specs.declared.fault.ClaimFault.{ClaimFault}
-use Rattle.ring_words.specs.declared.fault.PutRange.{PutRange}
-use Rattle.ring_words.specs.declared.read.action.Action.{Action}
-use Rattle.ring_words.specs.declared.read.end.ReadEnd.{ReadEnd}
+use Rattle.ring_words.specs.declared.fault.{ClaimFault.ClaimFault, PutRange.PutRange}
+use Rattle.ring_words.specs.declared.read.{action.Action.Action, end.ReadEnd.ReadEnd}
 use Rattle.ring_rings.specs.Reading.{Controls, EndsAt, ReadsTo}
 use Rattle.ring_rings.specs.declared.fault.TryFault.TheVariants as try
 use Rattle.ring_ends.specs.Claims.{claim_numbered}
 use Rattle.ring_ends.specs.Claiming.{Keeps, KeepsNone, OfEnd, Puts, Settles}
-use Rattle.ring_ends.specs.End.{Does, End, Sends, WritesAlone}
-use Rattle.ring_ends.specs.Held.{Comes, IsHeld, held_in}
-use Rattle.ring_ends.specs.declared.claiming.ClaimRefused.TheVariants.{Refused}
-use Rattle.ring_ends.specs.declared.claiming.NumberFault.{NumberFault}
+use Rattle.ring_ends.specs.{End.Does, End.End, End.Sends, End.WritesAlone, Held.Comes, Held.IsHeld, Held.held_in}
+use Rattle.ring_ends.specs.declared.claiming.{ClaimRefused.TheVariants.Refused, NumberFault.NumberFault}
 use Rattle.ring_ends.specs.declared.claiming.NumberFault.TheVariants as number
 use Rattle.ring_scenario.specs.Printing.{Printed, Prints, unprinted}
 use Rattle.ring_scenario.specs.RefusalTexts.{claim_refused, put_refused}
 use Rattle.ring_scenario.specs.Texts.{answer_text, claimed_text, done_text, ok_text, read_text}
-use Rattle.ring_scenario.specs.declared.ring.RunRing.{RunRing}
-use Rattle.ring_scenario.specs.declared.ring.Claimed.{Claimed}
+use Rattle.ring_scenario.specs.declared.ring.{RunRing.RunRing, Claimed.Claimed}
 
 -- all of a ring is as it was, except its producer
 abbrev pub KeepsButProducing : RunRing → RunRing → Type 0

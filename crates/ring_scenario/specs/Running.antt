@@ -1,23 +1,14 @@
 -- The effect of a run on the lines of a text, and all text that it prints.
 use Rattle.std.specs.Prelude.{◌≡◌, ◌⊎◌, ◌↔◌, ℕ, ◌+◌, List, [], ◌∷◌, ◌++◌, IfSome, IsSome, IsTrue, Option, None, Some, codes, decimal, length}
 use Rattle.std.specs.Io.KnownBytes.{Appends}
-use Rattle.ring_board.specs.Runs.{AreAllRuns}
-use Rattle.ring_board.specs.Board.{transmitted}
-use Rattle.ring_board.specs.Seats.{view_of}
-use Rattle.ring_counters.specs.Manager.{registry_of}
-use Rattle.ring_counters.specs.Registry.{live_of}
-use Rattle.ring_lines.specs.declared.call.Call.{Call}
-use Rattle.ring_lines.specs.Lines.{AsksFor, AsksForNone}
+use Rattle.ring_board.specs.{Runs.AreAllRuns, Board.transmitted, Seats.view_of}
+use Rattle.ring_counters.specs.{Manager.registry_of, Registry.live_of}
+use Rattle.ring_lines.specs.{declared.call.Call.Call, Lines.AsksFor, Lines.AsksForNone}
 use Rattle.ring_lines.specs.Text.{AllBlank, IsBlank, IsEnd, lines_of, words_of}
-use Rattle.ring_ends.specs.Held.{held_in}
-use Rattle.ring_ends.specs.Receivers.{all_left}
-use Rattle.ring_scenario.specs.Closing.{LeavesMessages, TookAndLeft, read_count}
-use Rattle.ring_scenario.specs.declared.options.Options.{Options}
-use Rattle.ring_scenario.specs.declared.runner.Ended.{Ended}
-use Rattle.ring_scenario.specs.declared.runner.Runner.{Runner}
-use Rattle.ring_scenario.specs.declared.service.closing.Served.{Served}
-use Rattle.ring_scenario.specs.Executing.{CannotExecute, Executes}
-use Rattle.ring_scenario.specs.Keeping.{KeepsRest}
+use Rattle.ring_ends.specs.{Held.held_in, Receivers.all_left}
+use Rattle.ring_scenario.specs.{Closing.LeavesMessages, Closing.TookAndLeft, Closing.read_count, Keeping.KeepsRest}
+use Rattle.ring_scenario.specs.{declared.options.Options.Options, Executing.CannotExecute, Executing.Executes}
+use Rattle.ring_scenario.specs.declared.{runner.Ended.Ended, runner.Runner.Runner, service.closing.Served.Served}
 use Rattle.ring_scenario.specs.Making.{RunsBy}
 
 -- the words ask for a call, which was executed, and printed this text

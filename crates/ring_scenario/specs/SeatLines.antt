@@ -1,22 +1,17 @@
 -- The effects of lines of listeners and watchers, with the text that they print.
 use Rattle.std.specs.Prelude.{◌≡◌, ◌↔◌, ◌<◌, ℕ, ℤ, List, codes, IfOk, IsOk, OnErr, Result}
 use Rattle.ring_layout.specs.declared.share.NoShares.{NoShares}
-use Rattle.ring_board.specs.Refusals.{subscribe_refusal_of, IsSubscribedUnless}
-use Rattle.ring_board.specs.Seats.{shares_of}
+use Rattle.ring_board.specs.{Refusals.subscribe_refusal_of, Refusals.IsSubscribedUnless, Seats.shares_of}
 use Rattle.ring_board.specs.declared.fault.SubscribeFault.{SubscribeFault}
-use Rattle.ring_counters.specs.Manager.{writes_of}
-use Rattle.ring_counters.specs.Seats.{values_count}
-use Rattle.ring_counters.specs.declared.fault.BadId.{BadId}
-use Rattle.ring_counters.specs.declared.values.seats.ValueReader.{ValueReader}
+use Rattle.ring_counters.specs.{Manager.writes_of, Seats.values_count}
+use Rattle.ring_counters.specs.declared.{fault.BadId.BadId, values.seats.ValueReader.ValueReader}
 use Rattle.ring_service.specs.Conducting.{KeepsAllCounters, KeepsTheRest, manager_in, transmitter_of, value_shares_of}
-use Rattle.ring_ends.specs.Held.{IsHeld, held_in}
-use Rattle.ring_ends.specs.Receivers.{ReceivesAt, Subscribes, by_number}
+use Rattle.ring_ends.specs.{Held.IsHeld, Held.held_in, Receivers.ReceivesAt, Receivers.Subscribes, Receivers.by_number}
 use Rattle.ring_ends.specs.declared.received.Received.{Received}
 use Rattle.ring_scenario.specs.Keeping.{KeepsButListeners, KeepsButWatchers}
 use Rattle.ring_scenario.specs.RefusalTexts.{load_refused, shares_refused, subscribe_refused}
-use Rattle.ring_scenario.specs.ServiceTexts.{value_text}
+use Rattle.ring_scenario.specs.{ServiceTexts.value_text, Watchers.Peeks, Watchers.Unwatches, Watchers.Watches}
 use Rattle.ring_scenario.specs.Texts.{answer_text, number_text, ok_text, received_text}
-use Rattle.ring_scenario.specs.Watchers.{Peeks, Unwatches, Watches}
 use Rattle.ring_scenario.specs.declared.service.CommandService.{CommandService}
 
 -- a listener was made, or refused

@@ -2,11 +2,9 @@
 use Rattle.std.specs.Prelude.{◌≡◌, ℕ, ℤ, List, codes, true, IfErr, IfOk, Result}
 use Rattle.ring_words.specs.declared.fault.ClaimFault.{ClaimFault}
 use Rattle.ring_rings.specs.Seats.{capacity_of, view_of}
-use Rattle.ring_counters.specs.Infos.{AreInfos}
-use Rattle.ring_counters.specs.Manager.{registry_of}
+use Rattle.ring_counters.specs.{Infos.AreInfos, Manager.registry_of}
 use Rattle.ring_counters.specs.Registry.{answer, counter_at, id_refusal_of, live_of}
-use Rattle.ring_counters.specs.declared.fault.OutOfMemory.{OutOfMemory}
-use Rattle.ring_counters.specs.declared.info.CounterInfo.{CounterInfo}
+use Rattle.ring_counters.specs.declared.{fault.OutOfMemory.OutOfMemory, info.CounterInfo.CounterInfo}
 use Rattle.ring_service.specs.declared.conductor.Work.{Work}
 use Rattle.ring_service.specs.Conducting.{Works, ledger_of, manager_in, ring_view}
 use Rattle.ring_protocol.specs.declared.command.Request.{Request}

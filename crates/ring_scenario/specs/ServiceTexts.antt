@@ -2,8 +2,7 @@
 use Rattle.std.specs.Prelude.{ℕ, ℤ, List, ◌++◌, codes, decimal, flat_map, length}
 use Rattle.std.specs.Fmt.{signed_decimal}
 use Rattle.ring_counters.specs.declared.info.CounterInfo.{CounterInfo}
-use Rattle.ring_service.specs.declared.conductor.Work.{Work}
-use Rattle.ring_service.specs.declared.conductor.WorkStop.{WorkStop}
+use Rattle.ring_service.specs.declared.conductor.{Work.Work, WorkStop.WorkStop}
 use Rattle.ring_service.specs.declared.conductor.WorkStop.TheVariants as work
 use Rattle.ring_storm.specs.declared.plan.StormReport.{StormReport}
 use Rattle.ring_scenario.specs.Texts.{hex_text, number_text}

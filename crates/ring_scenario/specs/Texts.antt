@@ -3,9 +3,7 @@ use Rattle.std.specs.Prelude.{ℕ, ◌==◌, List, ◌++◌, codes, decimal, len
 use Rattle.std.specs.Fmt.{signed_decimal}
 use Rattle.hex.specs.Hex.{encode_lower}
 use Rattle.ring_layout.specs.declared.message.Message.{Message}
-use Rattle.ring_words.specs.declared.positions.Positions.{Positions}
-use Rattle.ring_words.specs.declared.read.end.ReadEnd.{ReadEnd}
-use Rattle.ring_words.specs.declared.read.end.Stop.{Stop}
+use Rattle.ring_words.specs.declared.{positions.Positions.Positions, read.end.ReadEnd.ReadEnd, read.end.Stop.Stop}
 use Rattle.ring_words.specs.declared.read.end.Stop.TheVariants as read
 use Rattle.ring_scenario.specs.declared.ring.Claimed.{Claimed}
 use Rattle.ring_ends.specs.declared.received.Received.{Received}

@@ -1,11 +1,8 @@
 -- Numbered readers of counter values.
 use Rattle.std.specs.Prelude.{◌≡◌, ℕ, ℤ, List, []}
-use Rattle.ring_counters.specs.declared.values.seats.CounterValues.{CounterValues}
-use Rattle.ring_counters.specs.declared.values.seats.ValueReader.{ValueReader}
-use Rattle.ring_counters.specs.declared.values.view.ValueWrite.{ValueWrite}
-use Rattle.ring_counters.specs.declared.manager.CountersManager.{CountersManager}
-use Rattle.ring_counters.specs.Manager.{IsManagerOf}
-use Rattle.ring_counters.specs.Seats.{IsReaderOf, LoadsValue, loads_of, seen_by}
+use Rattle.ring_counters.specs.declared.values.seats.{CounterValues.CounterValues, ValueReader.ValueReader}
+use Rattle.ring_counters.specs.declared.{values.view.ValueWrite.ValueWrite, manager.CountersManager.CountersManager}
+use Rattle.ring_counters.specs.{Manager.IsManagerOf, Seats.IsReaderOf, Seats.LoadsValue, Seats.loads_of, Seats.seen_by}
 use Rattle.ring_ends.specs.Held.{Comes, Goes, HasAt, Stays, held_in}
 use Rattle.ring_ends.specs.declared.numbered.Numbered.{Numbered}
 

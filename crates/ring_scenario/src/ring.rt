@@ -31,8 +31,7 @@ pub struct RunRing {
 }
 
 impl RunRing {
-    ghost use Rattle.ring_scenario.specs.Closing.{LeavesMessages};
-    ghost use Rattle.ring_scenario.specs.Making.{IsFresh};
+    ghost use Rattle.ring_scenario.specs.{Closing.LeavesMessages, Making.IsFresh};
     ghost use Rattle.ring_scenario.specs.RingLines.{ClaimsNumber, HasNoClaim, KeepsButProducing, PutsNumber, SettlesNumber};
 
     /// Makes an empty ring.

@@ -1,10 +1,7 @@
 //! The parts of a run, and the text that its calls print.
 ghost use Rattle.std.specs.Prelude.{◌≡◌, ◌≢◌, ◌↔◌, ℕ, None, IfErr, IfOk, IfSome, IsOkUnless, IsSome, IsTrue, OnOk, codes, string_bytes};
-ghost use Rattle.ring_ends.specs.End.{Does, LoadsThem};
-ghost use Rattle.ring_ends.specs.Held.{IsFree, held_in};
-ghost use Rattle.ring_scenario.specs.Closing.{read_count};
-ghost use Rattle.ring_scenario.specs.Sizes.{size_fault_of};
-ghost use Rattle.ring_scenario.specs.Texts.{number_text, positions_text};
+ghost use Rattle.ring_ends.specs.{End.Does, End.LoadsThem, Held.IsFree, Held.held_in};
+ghost use Rattle.ring_scenario.specs.{Closing.read_count, Sizes.size_fault_of, Texts.number_text, Texts.positions_text};
 
 mod serving;
 mod storming;
@@ -51,12 +48,10 @@ pub struct Ended {
 impl Runner {
     ghost use Rattle.ring_table.specs.ServiceSteps.{DrawsId, LoadsHeartbeat};
     ghost use Rattle.ring_scenario.specs.BoardLines.{ReceivesLine, SubscribesLine, TransmitsLine};
-    ghost use Rattle.ring_scenario.specs.Executing.{CannotExecute, Executes};
+    ghost use Rattle.ring_scenario.specs.{Executing.CannotExecute, Executing.Executes, Making.RunsBy, Running.EndsAs};
     ghost use Rattle.ring_scenario.specs.Keeping.{KeepsButBoard, KeepsButRing, KeepsRest};
-    ghost use Rattle.ring_scenario.specs.Making.{RunsBy};
     ghost use Rattle.ring_scenario.specs.RingLines.{CallsLine, ClaimsLine, ControlsLine, HasNoClaim, PutsLine};
     ghost use Rattle.ring_scenario.specs.RingLines.{ReadsLine, WritesLine};
-    ghost use Rattle.ring_scenario.specs.Running.{EndsAs};
 
     /// Makes the parts that the options describe.
     pub fn new(alloc: Global, options: &Options) -> Result<Self, RunFault>

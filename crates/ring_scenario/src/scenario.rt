@@ -1,17 +1,13 @@
 //! Reads a whole scenario, and runs it.
 ghost use Rattle.std.specs.Prelude.{◌≡◌, ◌≤◌, length, Some, IfSome, OnOk, IfErr, ◌≢◌, ◌<◌, ℕ, IfOk, string_bytes, vec_len};
-ghost use Rattle.ring_scenario.specs.Faults.{IsEarly, IsOfWriting, OfLine};
+ghost use Rattle.ring_scenario.specs.{Faults.IsEarly, Faults.IsOfWriting, Faults.OfLine, Keeping.KeepsRest};
 ghost use Rattle.ring_scenario.specs.Running.{FailsAt, FailsScenario, IsNotBlankAt, RunsScenario, RunsText, RunsToEnd};
-ghost use Rattle.ring_scenario.specs.Running.{StopsAt, ended_text, finished_text};
-ghost use Rattle.ring_scenario.specs.Sizes.{size_fault_of};
+ghost use Rattle.ring_scenario.specs.{Running.StopsAt, Running.ended_text, Running.finished_text, Sizes.size_fault_of};
 ghost use Rattle.std.specs.Io.KnownBytes.{Appends};
-ghost use Rattle.ring_lines.specs.declared.fault.LineError.{LineError};
-ghost use Rattle.ring_lines.specs.Lines.{AsksForNone, IsLine};
+ghost use Rattle.ring_lines.specs.{declared.fault.LineError.LineError, Lines.AsksForNone, Lines.IsLine};
 ghost use Rattle.ring_lines.specs.Text.{lines_of, words_of, AllBlank, IsBlank, IsEnd};
 ghost use Rattle.ring_scenario.specs.Executing.{CannotExecute, Executes};
-ghost use Rattle.ring_scenario.specs.Keeping.{KeepsRest};
-ghost use Rattle.ring_counters.specs.Manager.{registry_of};
-ghost use Rattle.ring_counters.specs.Registry.{live_of};
+ghost use Rattle.ring_counters.specs.{Manager.registry_of, Registry.live_of};
 
 use crate::fault::RunFault;
 use crate::options::Options;

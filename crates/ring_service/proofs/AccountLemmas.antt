@@ -1,30 +1,18 @@
 -- Counters, value writes and replies stay the fold of all messages.
-use Rattle.std.proofs.Common.{◌≡◌, ◌∙◌, ℕ, ◌≤◌, ◌^◌, List, [], ◌∷◌, ◌++◌, refl, sym, ap, append_assoc, inl, inr}
-use Rattle.std.specs.Prelude.{All}
-use Rattle.std.proofs.lemmas.List.{append-nil}
-use Rattle.std.proofs.lemmas.List.Elements.{All-cons, All-nil, All-append}
-use Rattle.ring_layout.specs.declared.message.Message.{Message}
-use Rattle.ring_table.specs.declared.claim.PlacedMessage.{PlacedMessage}
-use Rattle.ring_table.specs.declared.view.View.{View}
-use Rattle.ring_rings.specs.Reading.{messages_of}
-use Rattle.ring_board.specs.declared.shared.view.Record.{Record}
-use Rattle.ring_board.specs.declared.shared.view.Joined.{Joined}
-use Rattle.ring_board.specs.declared.shared.view.Taken.{Taken}
+use Rattle.std.proofs.Common.{◌≡◌, ◌∙◌, ℕ, ◌≤◌, ◌^◌, List, [], ◌∷◌, ◌++◌, refl, sym, ap, append_assoc, inl, inr, All}
+use Rattle.std.proofs.lemmas.List.{append-nil, Elements.All-cons, Elements.All-nil, Elements.All-append}
+use Rattle.ring_layout.specs.{declared.message.Message.Message, Lists.Begins}
+use Rattle.ring_table.specs.declared.{claim.PlacedMessage.PlacedMessage, view.View.View}
+use Rattle.ring_rings.{specs.Reading.messages_of, proofs.SentLemmas.messages_of-append}
+use Rattle.ring_board.specs.declared.shared.view.{Record.Record, Joined.Joined, Taken.Taken}
 use Rattle.ring_board.specs.Seats.{next_record}
 use Rattle.ring_counters.specs.declared.values.view.ValueWrite.{ValueWrite}
 use Rattle.ring_counters.specs.Registry.{Registry, count_of, fresh_registry}
-use Rattle.ring_service.specs.declared.conductor.Cycle.{Cycle}
-use Rattle.ring_service.specs.declared.conductor.Work.{Work}
-use Rattle.ring_service.specs.declared.conductor.WorkStop.{WorkStop}
+use Rattle.ring_service.specs.declared.conductor.{Cycle.Cycle, Work.Work, WorkStop.WorkStop}
 use Rattle.ring_protocol.specs.Reply.{type_id_of, spelling_of}
-use Rattle.ring_service.specs.Applied.{applied}
+use Rattle.ring_service.specs.{Applied.applied, Conducting.Works, Running.Runs, Service.account_in}
 use Rattle.ring_service.specs.Fold.{Ledger, fold_of, served, at_moment, with_receivers}
 use Rattle.ring_service.specs.Account.{Account, IsFoldOf, account_of, entered, fresh_account, messages_in, untimed}
-use Rattle.ring_layout.specs.Lists.{Begins}
-use Rattle.ring_service.specs.Conducting.{Works}
-use Rattle.ring_service.specs.Running.{Runs}
-use Rattle.ring_service.specs.Service.{account_in}
-use Rattle.ring_rings.proofs.SentLemmas.{messages_of-append}
 use Rattle.ring_service.proofs.SizeLemmas.{folds_size, fresh_again}
 
 messages_in-append : (a b : List Record) → messages_in (a ++ b) ≡ messages_in a ++ messages_in b

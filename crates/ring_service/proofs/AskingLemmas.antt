@@ -3,11 +3,9 @@ use Rattle.std.proofs.Common.{◌≡◌, ◌∙◌, ◌≤◌, ℕ, ℤ, List, l
 use Rattle.ring_table.specs.declared.view.View.{View}
 use Rattle.ring_rings.specs.Claiming.{Writing}
 use Rattle.ring_service.specs.Asking.{IsSendable}
-use Rattle.ring_protocol.specs.declared.command.Request.{Request}
+use Rattle.ring_protocol.{specs.declared.command.Request.Request, specs.Writing.Encodes, proofs.Lengths.same_length}
 use Rattle.ring_protocol.specs.declared.command.Request.TheVariants.{Allocate, Free, Set, AllocateOwned, Close}
 use Rattle.ring_protocol.specs.Command.{LentRequest, HasTextLengths, asked, content_of_request, request_type_id, spelling_of}
-use Rattle.ring_protocol.specs.Writing.{Encodes}
-use Rattle.ring_protocol.proofs.Lengths.{same_length}
 
 same_type : (r : Request (List ℕ)) → to_z w32 (of_z w32 (request_type_id r)) ≡ request_type_id r
 same_type (Allocate type_id key label) = refl

@@ -1,10 +1,8 @@
 -- Numbers drawn: if each below some number was drawn once, there were that many draws.
-use Rattle.std.proofs.Common.{◌≡◌, ◌∙◌, ◌⊎◌, ℕ, zero, suc, ◌+◌, ◌<◌, ◌≤◌, ◌==◌, Bool, true, false, cond, if◌then◌else◌, List, [], ◌∷◌, length, inl, inr, refl, sym, ap, arith}
-use Rattle.std.specs.Prelude.{nat_lt}
-use Rattle.std.proofs.lemmas.Bool.{cases_eq, eq-eqb, lt-ltb, ltb-true, ne_eqb}
-use Rattle.ring_table.specs.declared.view.Service.{Service}
+use Rattle.std.proofs.Common.{◌≡◌, ◌∙◌, ◌⊎◌, ℕ, zero, suc, ◌+◌, ◌<◌, ◌≤◌, ◌==◌, Bool, true, false, cond, if◌then◌else◌, List, [], ◌∷◌, length, inl, inr, refl, sym, ap, arith, nat_lt, eq-eqb, lt-ltb, ltb-true, ne_eqb}
+use Rattle.std.proofs.lemmas.Bool.{cases_eq}
+use Rattle.ring_table.specs.{declared.view.Service.Service, Services.once_below, Services.times}
 use Rattle.ring_layout.specs.Lists.{total}
-use Rattle.ring_table.specs.Services.{once_below, times}
 use Rattle.ring_service.specs.Asking.{drawn_in}
 
 -- the number of draws

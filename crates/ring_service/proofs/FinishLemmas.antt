@@ -1,20 +1,15 @@
 -- What was received and what is left are as many as the committed messages of the claims.
 use Rattle.std.proofs.Common.{◌≡◌, ◌≢◌, ◌∙◌, ℕ, ◌+◌, List, [], ◌∷◌, ◌++◌, length, length-append, ap, subst, arith}
 use Rattle.std.proofs.lemmas.List.Elements.{All-cons, All-nil}
-use Rattle.ring_layout.specs.declared.message.Claim.{Claim}
+use Rattle.ring_layout.specs.{declared.message.Claim.Claim, History.committed_of}
 use Rattle.ring_layout.specs.declared.message.ClaimState.TheVariants.{Open, Committed, Aborted}
-use Rattle.ring_layout.specs.History.{committed_of}
-use Rattle.ring_words.specs.Drain.{AllSettled}
-use Rattle.ring_words.specs.Ring.{Ring, Has}
-use Rattle.ring_table.specs.declared.claim.StagedClaim.{StagedClaim}
-use Rattle.ring_table.specs.declared.claim.Stage.{Stage}
-use Rattle.ring_table.specs.declared.claim.Stage.TheVariants.{Moved, Padded, Stored}
-use Rattle.ring_table.specs.declared.view.View.{View}
+use Rattle.ring_words.specs.{Drain.AllSettled, Ring.Ring, Ring.Has}
+use Rattle.ring_table.specs.declared.{claim.StagedClaim.StagedClaim, view.View.View}
+use Rattle.ring_table.specs.declared.claim.Stage.{Stage, TheVariants.Moved, TheVariants.Padded, TheVariants.Stored}
 use Rattle.ring_table.specs.Passing.{AreSettled, IsSettled, placed_committed_of}
 use Rattle.ring_table.specs.Staged.{claim_of, unplaced, stage_state}
 use Rattle.ring_rings.specs.Closing.{HandsOut}
-use Rattle.ring_rings.proofs.ReceivedLemmas.{lengths}
-use Rattle.ring_rings.proofs.SentLemmas.{placed_committed_of-append, same_committed}
+use Rattle.ring_rings.proofs.{ReceivedLemmas.lengths, SentLemmas.placed_committed_of-append, SentLemmas.same_committed}
 
 not_open : (stage : Stage) → IsSettled stage → stage_state stage ≢ Open
 not_open Moved h e = absurd h

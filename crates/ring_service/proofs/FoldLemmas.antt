@@ -1,22 +1,16 @@
 -- A handler that serves each message folds them.
-use Rattle.std.proofs.Common.{◌≡◌, ◌∙◌, ℕ, ◌+◌, ◌*◌, ◌≤◌, List, [], ◌∷◌, ◌++◌, length, refl, subst, arith}
-use Rattle.std.specs.Prelude.{All}
+use Rattle.std.proofs.Common.{◌≡◌, ◌∙◌, ℕ, ◌+◌, ◌*◌, ◌≤◌, List, [], ◌∷◌, ◌++◌, length, refl, subst, arith, All}
 use Rattle.std.proofs.lemmas.List.Elements.{All-head, All-tail}
-use Rattle.ring_words.specs.declared.read.action.Action.{Action}
+use Rattle.ring_words.specs.{declared.read.action.Action.Action, Controlled.GoesOn}
 use Rattle.ring_words.specs.declared.read.action.Action.TheVariants.{Abort, Break, Commit, Continue}
-use Rattle.ring_words.specs.Controlled.{GoesOn}
-use Rattle.ring_layout.specs.declared.message.Message.{Message}
-use Rattle.ring_layout.specs.Handles.{Handles}
+use Rattle.ring_layout.specs.{declared.message.Message.Message, Handles.Handles, History.span}
 use Rattle.ring_table.specs.declared.claim.PlacedMessage.{PlacedMessage}
 use Rattle.ring_rings.specs.Reading.{commit_ends, messages_of}
 use Rattle.ring_service.specs.declared.conductor.working.Serving.{Serving}
-use Rattle.ring_layout.specs.History.{span}
 use Rattle.ring_layout.proofs.PlaceLemmas.{next_le, span_bounds}
 use Rattle.ring_board.specs.declared.shared.view.View.{View}
-use Rattle.ring_protocol.specs.declared.reply.Reply.{Reply}
-use Rattle.ring_protocol.specs.Reply.{spelling_of}
-use Rattle.ring_service.specs.Applied.{applied}
-use Rattle.ring_service.specs.Fold.{Ledger, fold_of, at_moment, replied, served}
+use Rattle.ring_protocol.specs.{declared.reply.Reply.Reply, Reply.spelling_of}
+use Rattle.ring_service.specs.{Applied.applied, Fold.Ledger, Fold.fold_of, Fold.at_moment, Fold.replied, Fold.served}
 use Rattle.ring_service.specs.Serving.{ledger_of, HaveRoom, IsSameHandler, ActsOn}
 
 same_twice : (s t u : Serving) → IsSameHandler s t → IsSameHandler t u → IsSameHandler s u

@@ -1,11 +1,8 @@
 -- Two producers put together: their shares, their open claims and their claims.
 use Rattle.std.proofs.Common.{◌≡◌, ◌∙◌, ℕ, suc, ◌+◌, List, [], ◌∷◌, length, refl, ap, inl, inr, lt-ltb, le-ltb, arith, cond}
 use Rattle.std.proofs.lemmas.Bool.{cases_lt}
-use Rattle.ring_table.specs.declared.claim.StagedClaim.{StagedClaim}
-use Rattle.ring_table.specs.declared.view.View.{View}
-use Rattle.ring_table.specs.OpenClaims.{open_count}
-use Rattle.ring_table.specs.Owners.{insert_claim, interleaved}
-use Rattle.ring_table.proofs.LawLemmas.{open_count-interleaved}
+use Rattle.ring_table.specs.{declared.claim.StagedClaim.StagedClaim, declared.view.View.View, OpenClaims.open_count}
+use Rattle.ring_table.{specs.Owners.insert_claim, specs.Owners.interleaved, proofs.LawLemmas.open_count-interleaved}
 use Rattle.ring_rings.specs.Joining.{Joins}
 
 length-insert : (c : StagedClaim) (cs : List StagedClaim) → length (insert_claim c cs) ≡ suc (length cs)

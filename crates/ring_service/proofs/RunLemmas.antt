@@ -2,14 +2,10 @@
 use Rattle.std.proofs.Common.{◌≡◌, ◌≢◌, ℕ, ◌+◌, ◌<◌, ◌≤◌, List, [], ◌∷◌, length, drop, get_or, refl, subst, inl, inr, arith}
 use Rattle.std.proofs.lemmas.List.{drop_all, drop_more}
 use Rattle.ring_table.specs.declared.view.View.{View}
-use Rattle.ring_service.specs.declared.conductor.Cycle.{Cycle}
-use Rattle.ring_service.specs.declared.conductor.Work.{Work}
-use Rattle.ring_service.specs.declared.conductor.WorkStop.{WorkStop}
-use Rattle.ring_service.specs.declared.conductor.WorkStop.TheVariants.{BoardEnd, Limit}
-use Rattle.ring_service.specs.Fold.{Ledger}
+use Rattle.ring_service.specs.{declared.conductor.Cycle.Cycle, declared.conductor.Work.Work, Conducting.Works}
+use Rattle.ring_service.specs.declared.conductor.WorkStop.{WorkStop, TheVariants.BoardEnd, TheVariants.Limit}
+use Rattle.ring_service.specs.{Fold.Ledger, Running.Runs, Running.report}
 use Rattle.ring_layout.specs.Lists.{Begins}
-use Rattle.ring_service.specs.Conducting.{Works}
-use Rattle.ring_service.specs.Running.{Runs, report}
 use Rattle.ring_service.proofs.AccountLemmas.{runs_grow, runs_heard}
 
 -- with this many messages so far, a run of these cycles makes one of all

@@ -1,15 +1,11 @@
 -- The service in a caller's words.
 use Rattle.std.proofs.Common.{◌≡◌, ◌∙◌, ℕ, ℤ, List, [], ◌∷◌, ◌++◌, sym, ap}
 use Rattle.ring_layout.specs.declared.message.Message.{Message}
-use Rattle.ring_rings.specs.Reading.{messages_of}
-use Rattle.ring_rings.specs.Ring.{message}
-use Rattle.ring_rings.proofs.ReceivedLemmas.{lengths}
-use Rattle.ring_rings.proofs.SentLemmas.{messages_of-append}
+use Rattle.ring_rings.specs.{Reading.messages_of, Ring.message}
+use Rattle.ring_rings.proofs.{ReceivedLemmas.lengths, SentLemmas.messages_of-append}
 use Rattle.ring_protocol.specs.Command.{Instruction, spelling_of, type_id_of}
-use Rattle.ring_service.specs.declared.conductor.Conductor.{Conductor}
-use Rattle.ring_service.specs.declared.conductor.Work.{Work}
+use Rattle.ring_service.specs.{declared.conductor.Conductor.Conductor, declared.conductor.Work.Work, Fold.at_moment}
 use Rattle.ring_service.specs.Conducting.{ledger_of, ring_view, Works}
-use Rattle.ring_service.specs.Fold.{at_moment}
 use Rattle.ring_service.specs.Service.{account_in, command_message, Serves}
 use Rattle.ring_service.proofs.AccountLemmas.{same_fold}
 

@@ -1,20 +1,14 @@
 -- No message changes the number of counters or their reuse timeout; no more counters are live than there are.
-use Rattle.std.proofs.Common.{◌≡◌, ◌∙◌, ℕ, ◌+◌, ◌≤◌, ◌==◌, List, [], ◌∷◌, length, Bool, true, false, cond, Option, Some, None, Result, Ok, Err, refl, sym, ap, arith}
-use Rattle.std.specs.Prelude.{fold}
-use Rattle.std.proofs.Math.ListN.{length-set}
-use Rattle.std.proofs.lemmas.List.{length-map, length-replicate}
+use Rattle.std.proofs.Common.{◌≡◌, ◌∙◌, ℕ, ◌+◌, ◌≤◌, ◌==◌, List, [], ◌∷◌, length, Bool, true, false, cond, Option, Some, None, Result, Ok, Err, refl, sym, ap, arith, fold, length-set}
+use Rattle.std.proofs.lemmas.List.{length-map, length-replicate, Sums.count_by-le-length, Sums.length-filter}
 use Rattle.std.proofs.lemmas.List.FromFn.{length-range_with_len}
-use Rattle.std.proofs.lemmas.List.Sums.{count_by-le-length, length-filter}
 use Rattle.ring_layout.specs.declared.message.Message.{Message}
 use Rattle.ring_counters.specs.declared.values.view.ValueWrite.{ValueWrite}
-use Rattle.ring_counters.specs.declared.fault.AllocateRefused.{AllocateRefused}
-use Rattle.ring_counters.specs.declared.fault.IdFault.{IdFault}
+use Rattle.ring_counters.specs.declared.fault.{AllocateRefused.AllocateRefused, IdFault.IdFault}
 use Rattle.ring_counters.specs.Counter.{Counter, Reclaimed, unused_counter}
 use Rattle.ring_counters.specs.Registry.{Registry, allocation_of, count_of, counter_at, fresh_registry, id_refusal_of, ids_of, is_allocated, live_ids, live_of, new_counter, owned_ids, reclaimed_in, status_at, with_value}
-use Rattle.ring_protocol.specs.declared.fault.Bad.{Bad}
-use Rattle.ring_protocol.specs.declared.command.Request.{Request}
+use Rattle.ring_protocol.specs.{declared.fault.Bad.Bad, declared.command.Request.Request, Command.Instruction}
 use Rattle.ring_protocol.specs.declared.command.Request.TheVariants.{Allocate, Free, Set, AllocateOwned, Close}
-use Rattle.ring_protocol.specs.Command.{Instruction}
 use Rattle.ring_protocol.specs.Reading.{command_of}
 use Rattle.ring_service.specs.Applied.{Outcome, allocated, done_unless, obeyed, obeyed_if_read}
 use Rattle.ring_service.specs.Fold.{Ledger, fold_of, served}

@@ -1,23 +1,14 @@
 -- One run: two commands sent, two calls of `do_work`, and listeners coming and going between them.
 use Rattle.std.proofs.Common.{◌≡◌, ◌∙◌, ℕ, ◌<◌, List, [], ◌∷◌, ◌++◌, length, map, Result, Err, IsOk, refl, sym, ap, subst, true, true≢false, arith}
-use Rattle.ring_layout.specs.declared.message.Message.{Message}
-use Rattle.ring_layout.specs.Refusals.{all_shares}
-use Rattle.ring_table.specs.declared.claim.PlacedMessage.{PlacedMessage}
-use Rattle.ring_table.specs.declared.view.Service.{Service}
-use Rattle.ring_table.specs.declared.view.View.{View}
+use Rattle.ring_layout.specs.{declared.message.Message.Message, Refusals.all_shares}
+use Rattle.ring_table.specs.declared.{claim.PlacedMessage.PlacedMessage, view.Service.Service, view.View.View}
 use Rattle.ring_table.specs.Views.{no_service}
 use Rattle.ring_table.specs.Services.{AreRisingBelow, once_below, times, times_drawn}
-use Rattle.ring_rings.specs.Claiming.{Writes, record_behind}
-use Rattle.ring_rings.specs.Closing.{IsRefusedAs}
-use Rattle.ring_rings.specs.Reading.{messages_of}
+use Rattle.ring_rings.specs.{Claiming.Writes, Claiming.record_behind, Closing.IsRefusedAs, Reading.messages_of}
 use Rattle.ring_protocol.specs.Command.{LentRequest as Request, asked, spelling_of, type_id_of}
-use Rattle.ring_service.specs.declared.finishing.fault.FinishFault.{FinishFault}
-use Rattle.ring_service.specs.Finishing.{finish_refusal_of}
-use Rattle.ring_service.specs.Account.{Account, account_of}
-use Rattle.ring_service.specs.Asking.{drawn_in, Sends}
-use Rattle.ring_service.specs.Fold.{Ledger, at_moment, fold_of}
-use Rattle.ring_service.specs.Whole.{committed, settled_message}
-use Rattle.ring_service.specs.Service.{account_in}
+use Rattle.ring_service.specs.{declared.finishing.fault.FinishFault.FinishFault, Whole.committed, Whole.settled_message}
+use Rattle.ring_service.specs.{Finishing.finish_refusal_of, Asking.drawn_in, Asking.Sends, Service.account_in}
+use Rattle.ring_service.specs.{Account.Account, Account.account_of, Fold.Ledger, Fold.at_moment, Fold.fold_of}
 use Rattle.ring_service.proofs.AccountLemmas.{account_of-append, same_fold}
 use Rattle.ring_service.proofs.DrawLemmas.{all_drawn, drawn_below, same_one}
 use Rattle.ring_rings.proofs.SentLemmas.{messages_of-append}

@@ -1,18 +1,14 @@
 -- A controlled read by the conductor's handler is work.
 use Rattle.std.proofs.Common.{◌≡◌, ◌∙◌, ℕ, List, ◌++◌, All, ◌+◌, ◌*◌, ◌<◌, ◌≤◌, ◌⊎◌, length, length-append, sym, ap, subst, inl, inr, arith}
-use Rattle.ring_words.specs.declared.read.end.ReadEnd.{ReadEnd}
-use Rattle.ring_words.specs.declared.read.end.Stop.{Stop}
+use Rattle.ring_words.specs.{declared.read.end.ReadEnd.ReadEnd, declared.read.end.Stop.Stop, Controlled.GoesOn}
 use Rattle.ring_words.specs.declared.read.end.Stop.TheVariants.{Limit, Block, Unpublished, Action}
 use Rattle.ring_words.specs.Read.{stop_of}
-use Rattle.ring_words.specs.Controlled.{GoesOn}
 use Rattle.ring_layout.specs.Handles.{Handles}
 use Rattle.ring_table.specs.declared.view.View.{View}
 use Rattle.ring_rings.specs.Reading.{Controls, WentOn, Broke, Aborts, EndsAt, ReadsStoring, last_after, messages_of, stored_from}
-use Rattle.ring_service.specs.declared.conductor.working.Serving.{Serving}
-use Rattle.ring_service.specs.declared.conductor.Work.{Work}
+use Rattle.ring_service.specs.declared.conductor.{working.Serving.Serving, Work.Work}
 use Rattle.ring_service.specs.declared.conductor.WorkStop.TheVariants as work
-use Rattle.ring_service.specs.Fold.{Ledger}
-use Rattle.ring_service.specs.Serving.{IsSameHandler, ActsOn, IsAtEnd, ledger_of}
+use Rattle.ring_service.specs.{Fold.Ledger, Serving.IsSameHandler, Serving.ActsOn, Serving.IsAtEnd, Serving.ledger_of}
 use Rattle.ring_service.specs.Conducting.{IsCutOff, IsReadOut, Works, work_stop}
 use Rattle.ring_rings.proofs.ReceivedLemmas.{lengths}
 use Rattle.ring_service.proofs.FoldLemmas.{Folds, folded, left, never_breaks, no_commits, answered}

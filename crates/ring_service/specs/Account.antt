@@ -1,18 +1,13 @@
 -- The effect of a list of messages on fresh counters, over plain lists.
 use Rattle.std.specs.Prelude.{◌≡◌, ℕ, ◌≤◌, ◌^◌, List, [], ◌∷◌, ◌++◌, All}
 use Rattle.ring_layout.specs.declared.message.Message.{Message}
-use Rattle.ring_rings.specs.declared.ring.Consumer.{Consumer}
-use Rattle.ring_rings.specs.Reading.{messages_of}
-use Rattle.ring_rings.specs.Seats.{taken_of}
-use Rattle.ring_board.specs.declared.shared.view.Record.{Record}
-use Rattle.ring_board.specs.declared.board.Transmitter.{Transmitter}
+use Rattle.ring_rings.specs.{declared.ring.Consumer.Consumer, Reading.messages_of, Seats.taken_of}
+use Rattle.ring_board.specs.declared.{shared.view.Record.Record, board.Transmitter.Transmitter}
 use Rattle.ring_board.specs.Board.{transmitted}
-use Rattle.ring_counters.specs.declared.values.view.ValueWrite.{ValueWrite}
-use Rattle.ring_counters.specs.declared.manager.CountersManager.{CountersManager}
+use Rattle.ring_counters.specs.declared.{values.view.ValueWrite.ValueWrite, manager.CountersManager.CountersManager}
 use Rattle.ring_counters.specs.Registry.{Registry, count_of, fresh_registry}
 use Rattle.ring_counters.specs.Manager.{registry_of, writes_of}
-use Rattle.ring_protocol.specs.declared.reply.Reply.{Reply}
-use Rattle.ring_protocol.specs.Reply.{type_id_of, spelling_of}
+use Rattle.ring_protocol.specs.{declared.reply.Reply.Reply, Reply.type_id_of, Reply.spelling_of}
 use Rattle.ring_service.specs.Applied.{applied}
 
 -- the counters, all value writes, and the replies as messages

@@ -1,21 +1,15 @@
 -- The effect of one message on the counters, and its one reply.
 use Rattle.std.specs.Prelude.{ℕ, ◌==◌, ℤ, pos, List, [], ◌∷◌, length, Option, Some, None, Result, Ok, Err, if◌then◌else◌}
 use Rattle.ring_layout.specs.declared.message.Message.{Message}
-use Rattle.ring_counters.specs.declared.values.view.ValueWrite.{ValueWrite}
-use Rattle.ring_counters.specs.declared.fault.AllocateRefused.{AllocateRefused}
-use Rattle.ring_counters.specs.declared.fault.IdFault.{IdFault}
-use Rattle.ring_counters.specs.Counter.{Counter}
+use Rattle.ring_counters.specs.{declared.values.view.ValueWrite.ValueWrite, Codes.allocate_code, Codes.id_code}
+use Rattle.ring_counters.specs.declared.fault.{AllocateRefused.AllocateRefused, IdFault.IdFault}
+use Rattle.ring_counters.specs.{Counter.Counter, Views.value_write}
 use Rattle.ring_counters.specs.Registry.{Registry, new_counter, allocation_of, allocated_in, id_refusal_of, reclaimed_in, with_value, owned_ids, closed_in}
-use Rattle.ring_counters.specs.Views.{value_write}
-use Rattle.ring_protocol.specs.declared.fault.Bad.{Bad}
-use Rattle.ring_protocol.specs.declared.reply.Reply.{Reply}
+use Rattle.ring_protocol.specs.declared.{fault.Bad.Bad, reply.Reply.Reply, command.Request.Request}
 use Rattle.ring_protocol.specs.declared.reply.Reply.TheVariants.{Allocated, Done, Refused, Closed}
-use Rattle.ring_protocol.specs.declared.command.Request.{Request}
 use Rattle.ring_protocol.specs.declared.command.Request.TheVariants.{Allocate, Free, Set, AllocateOwned, Close}
-use Rattle.ring_protocol.specs.Command.{Instruction}
+use Rattle.ring_protocol.specs.{Command.Instruction, Codes.bad_code, Codes.bad_correlation, Codes.bad_owner_code}
 use Rattle.ring_protocol.specs.Reading.{command_of}
-use Rattle.ring_counters.specs.Codes.{allocate_code, id_code}
-use Rattle.ring_protocol.specs.Codes.{bad_code, bad_correlation, bad_owner_code}
 
 -- the counters afterwards, the values that were written, and the reply
 pub record Outcome : Type 0 where

@@ -4,8 +4,7 @@ use Rattle.ring_counters.specs.declared.manager.CountersManager.{CountersManager
 use Rattle.ring_counters.specs.Manager.{registry_of, writes_of, shares_of, table_of}
 use Rattle.ring_protocol.specs.declared.reply.Reply.{Reply}
 use Rattle.ring_counters.specs.Registry.{Registry, allocation_of, new_counter}
-use Rattle.ring_service.specs.declared.conductor.working.Wanted.{Wanted}
-use Rattle.ring_service.specs.Applied.{Outcome, allocated}
+use Rattle.ring_service.specs.{declared.conductor.working.Wanted.Wanted, Applied.Outcome, Applied.allocated}
 
 -- the effect of a command that asks for a counter
 abbrev pub allocates : Registry → ℕ → ℕ → Wanted → Outcome

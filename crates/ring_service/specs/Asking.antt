@@ -1,27 +1,18 @@
 -- The requests of a client, and the replies that it receives.
 use Rattle.std.specs.Prelude.{◌≡◌, ◌≢◌, ℕ, ◌≤◌, ℤ, List, length, Bool}
 use Rattle.ring_layout.specs.Lists.{total}
-use Rattle.ring_table.specs.declared.view.Service.{Service}
-use Rattle.ring_table.specs.declared.view.View.{View}
-use Rattle.ring_table.specs.ServiceSteps.{DrawsId}
+use Rattle.ring_table.specs.{declared.view.Service.Service, declared.view.View.View, ServiceSteps.DrawsId}
 use Rattle.ring_table.specs.Services.{times}
-use Rattle.ring_rings.specs.declared.fault.TryFault.{TryFault}
-use Rattle.ring_rings.specs.declared.ring.Producer.{Producer}
-use Rattle.ring_rings.specs.Claiming.{Refusing, Writing}
-use Rattle.ring_rings.specs.declared.ring.Ring.{Ring}
+use Rattle.ring_rings.specs.declared.{fault.TryFault.TryFault, ring.Producer.Producer, ring.Ring.Ring}
+use Rattle.ring_rings.specs.{Claiming.Refusing, Claiming.Writing, Seats.view_of, Seats.IsProducerOf, Seats.MayClaim}
 use Rattle.ring_rings.specs.declared.bodies.Bodies.{Ghosts}
-use Rattle.ring_rings.specs.Seats.{view_of, IsProducerOf, MayClaim}
-use Rattle.ring_board.specs.declared.board.Board.{Board}
-use Rattle.ring_board.specs.declared.board.CopyReceiver.{CopyReceiver}
+use Rattle.ring_board.specs.{declared.board.Board.Board, declared.board.CopyReceiver.CopyReceiver, Views.Sat}
 use Rattle.ring_board.specs.Receiving.{GotCopy, GotLapped, GotNothing}
 use Rattle.ring_board.specs.Seats.{receiver_seat, IsReceiverOf}
-use Rattle.ring_board.specs.Views.{Sat}
 use Rattle.ring_protocol.specs.declared.reply.Reply.{Reply}
-use Rattle.ring_service.specs.declared.client.Client.{Client}
-use Rattle.ring_service.specs.declared.client.Polled.{Polled}
+use Rattle.ring_service.specs.declared.client.{Client.Client, Polled.Polled}
 use Rattle.ring_service.specs.declared.client.Polled.TheVariants.{Answered, Another, NoReply, Nothing, Lapped}
-use Rattle.ring_service.specs.declared.client.SendFault.{SendFault}
-use Rattle.ring_service.specs.declared.client.SendFault.TheVariants.{TooLong, Refused}
+use Rattle.ring_service.specs.declared.client.SendFault.{SendFault, TheVariants.TooLong, TheVariants.Refused}
 use Rattle.ring_protocol.specs.Command.{LentRequest as Request, HasTextLengths, asked, content_of_request, spelling_of, type_id_of}
 use Rattle.ring_protocol.specs.Reply as reply
 

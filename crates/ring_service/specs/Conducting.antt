@@ -1,31 +1,20 @@
 -- The words of clauses for a conductor and its work.
 use Rattle.std.specs.Prelude.{◌≡◌, ◌≢◌, ◌⊎◌, ℕ, ◌+◌, ◌%◌, ◌<◌, ◌≤◌, List, [], ◌∷◌, ◌++◌, length}
-use Rattle.ring_words.specs.declared.read.end.Stop.{Stop}
+use Rattle.ring_words.specs.{declared.read.end.Stop.Stop, Read.stop_of}
 use Rattle.ring_words.specs.declared.read.end.Stop.TheVariants.{Limit, Block, Unpublished, Action}
-use Rattle.ring_words.specs.Read.{stop_of}
 use Rattle.ring_layout.specs.declared.message.Message.{Message}
-use Rattle.ring_table.specs.declared.claim.PlacedMessage.{PlacedMessage}
-use Rattle.ring_table.specs.declared.view.View.{View}
-use Rattle.ring_rings.specs.declared.ring.Consumer.{Consumer}
+use Rattle.ring_table.specs.declared.{claim.PlacedMessage.PlacedMessage, view.View.View}
+use Rattle.ring_rings.specs.{declared.ring.Consumer.Consumer, Seats.consumer_view}
 use Rattle.ring_rings.specs.Reading.{messages_of, stored_from, MovesHead, IsTight, FoundUnsettled, IsNext}
-use Rattle.ring_rings.specs.Seats.{consumer_view}
-use Rattle.ring_board.specs.declared.board.Board.{Board}
-use Rattle.ring_board.specs.declared.board.CopyReceiver.{CopyReceiver}
-use Rattle.ring_board.specs.declared.board.Transmitter.{Transmitter}
-use Rattle.ring_board.specs.declared.shared.view.View.{View as BoardView}
-use Rattle.ring_board.specs.Board.{heard_by}
+use Rattle.ring_board.specs.declared.board.{Board.Board, CopyReceiver.CopyReceiver, Transmitter.Transmitter}
+use Rattle.ring_board.specs.{declared.shared.view.View.View as BoardView, Board.heard_by, Views.as_joined, Views.joined}
 use Rattle.ring_board.specs.Seats.{IsTransmitterOf, receiver_view, shares_of as board_shares_of, view_of}
-use Rattle.ring_board.specs.Views.{as_joined, joined}
-use Rattle.ring_counters.specs.declared.values.seats.CounterValues.{CounterValues}
+use Rattle.ring_counters.specs.{declared.values.seats.CounterValues.CounterValues, Registry.fresh_registry}
 use Rattle.ring_counters.specs.declared.manager.CountersManager.{CountersManager}
-use Rattle.ring_counters.specs.Registry.{fresh_registry}
 use Rattle.ring_counters.specs.Manager.{registry_of, writes_of, shares_of, IsManagerOf, KeepsCounters}
-use Rattle.ring_service.specs.declared.conductor.Conductor.{Conductor}
-use Rattle.ring_service.specs.declared.conductor.Work.{Work}
-use Rattle.ring_service.specs.declared.conductor.WorkStop.{WorkStop}
+use Rattle.ring_service.specs.declared.conductor.{Conductor.Conductor, Work.Work, WorkStop.WorkStop}
 use Rattle.ring_service.specs.declared.conductor.WorkStop.TheVariants as work
-use Rattle.ring_service.specs.Fold.{Ledger, fold_of, at_moment}
-use Rattle.ring_service.specs.Serving.{HaveRoom, IsAtEnd}
+use Rattle.ring_service.specs.{Fold.Ledger, Fold.fold_of, Fold.at_moment, Serving.HaveRoom, Serving.IsAtEnd}
 
 -- the conductor's view of its ring
 abbrev pub ring_view : Conductor → View

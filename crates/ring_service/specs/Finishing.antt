@@ -1,35 +1,24 @@
 -- The parts that a conductor hands out when it finishes.
 use Rattle.std.specs.Prelude.{◌≡◌, ℕ, ◌-◌, nat_lt, if◌then◌else◌, ℤ, pos, List, length, Option, Some, None}
 use Rattle.ring_layout.specs.Refusals.{all_shares}
-use Rattle.ring_table.specs.declared.claim.PlacedMessage.{PlacedMessage}
-use Rattle.ring_table.specs.declared.claim.StagedClaim.{StagedClaim}
-use Rattle.ring_table.specs.declared.view.Service.{Service}
-use Rattle.ring_table.specs.Staged.{Bodies}
-use Rattle.ring_rings.specs.declared.ring.Consumer.{Consumer}
-use Rattle.ring_rings.specs.declared.ring.Producer.{Producer}
-use Rattle.ring_rings.specs.Closing.{AreOrdered, HandsOut, Serves}
-use Rattle.ring_rings.specs.Reading.{messages_of}
+use Rattle.ring_table.specs.declared.claim.{PlacedMessage.PlacedMessage, StagedClaim.StagedClaim}
+use Rattle.ring_table.specs.{declared.view.Service.Service, Staged.Bodies}
+use Rattle.ring_rings.specs.{declared.ring.Consumer.Consumer, declared.ring.Producer.Producer, Ring.sent, Ring.IsWhole}
+use Rattle.ring_rings.specs.{Closing.AreOrdered, Closing.HandsOut, Closing.Serves, Reading.messages_of}
 use Rattle.ring_rings.specs.Rescuing.{IsRescued}
-use Rattle.ring_rings.specs.Ring.{sent, IsWhole}
 use Rattle.ring_rings.specs.Seats.{claims_of, open_claims_of, seat_view, shares_of, view_of}
-use Rattle.ring_board.specs.declared.board.Board.{Board}
-use Rattle.ring_board.specs.declared.board.ClosedBoard.{ClosedBoard}
-use Rattle.ring_board.specs.declared.shared.view.Joined.{Joined}
-use Rattle.ring_board.specs.declared.shared.view.Record.{Record}
+use Rattle.ring_board.specs.declared.board.{Board.Board, ClosedBoard.ClosedBoard}
+use Rattle.ring_board.specs.{declared.shared.view.Joined.Joined, declared.shared.view.Record.Record, Runs.AreAllRuns}
 use Rattle.ring_board.specs.Closing.{IsClosed, closed_capacity, closed_words}
-use Rattle.ring_board.specs.Runs.{AreAllRuns}
 use Rattle.ring_board.specs.Board.{heard_by, transmitted}
 use Rattle.ring_board.specs.Seats.{capacity_of, shares_of as board_shares_of, start_of}
 use Rattle.ring_counters.specs.declared.manager.CountersManager.{CountersManager}
 use Rattle.ring_counters.specs.Manager.{registry_of, writes_of}
 use Rattle.ring_counters.specs.declared.values.seats.CounterValues.{CounterValues}
-use Rattle.ring_service.specs.declared.conductor.Conductor.{Conductor}
-use Rattle.ring_service.specs.declared.finishing.Finished.{Finished}
-use Rattle.ring_service.specs.declared.finishing.without.FinishedWithout.{FinishedWithout}
-use Rattle.ring_service.specs.declared.finishing.fault.FinishFault.{FinishFault}
+use Rattle.ring_service.specs.{declared.conductor.Conductor.Conductor, Account.IsFoldOf, Account.messages_in}
+use Rattle.ring_service.specs.declared.finishing.{Finished.Finished, without.FinishedWithout.FinishedWithout}
+use Rattle.ring_service.specs.declared.finishing.fault.{FinishFault.FinishFault, FinishRefused.FinishRefused}
 use Rattle.ring_service.specs.declared.finishing.fault.FinishFault.TheVariants.{ClaimsOpen, ProducersOut, ReceiversOut}
-use Rattle.ring_service.specs.declared.finishing.fault.FinishRefused.{FinishRefused}
-use Rattle.ring_service.specs.Account.{IsFoldOf, messages_in}
 use Rattle.ring_service.specs.Asking.{services_of}
 use Rattle.ring_service.specs.Conducting.{IsConductorOf, manager_in, received_of, ring_view, transmitter_of}
 

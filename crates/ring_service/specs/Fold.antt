@@ -1,15 +1,10 @@
 -- The effect of a list of messages, each at a moment.
 use Rattle.std.specs.Prelude.{ℕ, List, [], ◌∷◌, ◌++◌}
 use Rattle.ring_layout.specs.declared.message.Message.{Message}
-use Rattle.ring_counters.specs.declared.values.view.ValueWrite.{ValueWrite}
-use Rattle.ring_counters.specs.Registry.{Registry}
-use Rattle.ring_board.specs.declared.shared.view.Joined.{Joined}
-use Rattle.ring_board.specs.declared.shared.view.Taken.{Taken}
-use Rattle.ring_board.specs.declared.shared.view.View.{View}
-use Rattle.ring_board.specs.Seats.{next_record}
-use Rattle.ring_board.specs.TransmitterSteps.{sent_on}
-use Rattle.ring_protocol.specs.declared.reply.Reply.{Reply}
-use Rattle.ring_protocol.specs.Reply.{type_id_of, spelling_of}
+use Rattle.ring_counters.specs.{declared.values.view.ValueWrite.ValueWrite, Registry.Registry}
+use Rattle.ring_board.specs.declared.shared.view.{Joined.Joined, Taken.Taken, View.View}
+use Rattle.ring_board.specs.{Seats.next_record, TransmitterSteps.sent_on}
+use Rattle.ring_protocol.specs.{declared.reply.Reply.Reply, Reply.type_id_of, Reply.spelling_of}
 use Rattle.ring_service.specs.Applied.{applied}
 
 -- the counters, all value writes, and the view of the transmitter, whose part `sent` is its list

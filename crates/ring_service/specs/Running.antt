@@ -1,12 +1,8 @@
 -- Several calls of `do_work`, one after another.
 use Rattle.std.specs.Prelude.{◌≡◌, ◌≢◌, ◌⊎◌, ℕ, ◌+◌, List, [], ◌∷◌}
 use Rattle.ring_table.specs.declared.view.View.{View}
-use Rattle.ring_service.specs.declared.conductor.Cycle.{Cycle}
-use Rattle.ring_service.specs.declared.conductor.Work.{Work}
-use Rattle.ring_service.specs.declared.conductor.WorkStop.{WorkStop}
-use Rattle.ring_service.specs.declared.conductor.WorkStop.TheVariants.{BoardEnd}
-use Rattle.ring_service.specs.Fold.{Ledger}
-use Rattle.ring_service.specs.Conducting.{Works}
+use Rattle.ring_service.specs.declared.conductor.{Cycle.Cycle, WorkStop.WorkStop, WorkStop.TheVariants.BoardEnd}
+use Rattle.ring_service.specs.{declared.conductor.Work.Work, Fold.Ledger, Conducting.Works}
 
 abbrev pub report : ℕ → WorkStop → Work
 report messages stopped = record { messages = messages; stopped = stopped }

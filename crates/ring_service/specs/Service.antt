@@ -5,16 +5,12 @@ use Rattle.ring_layout.specs.declared.message.Message.{Message}
 use Rattle.ring_rings.specs.Ring.{message, received, sent}
 use Rattle.ring_board.specs.declared.board.CopyReceiver.{CopyReceiver}
 use Rattle.ring_board.specs.Board.{copied, lapped_count_of, new_copy, LapsOnce}
-use Rattle.ring_protocol.specs.declared.reply.Reply.{Reply}
+use Rattle.ring_protocol.specs.{declared.reply.Reply.Reply, Reply.correlation_id_of, Reply.Spells}
 use Rattle.ring_protocol.specs.Command.{Instruction, LentRequest as Request, asked, spelling_of, type_id_of}
-use Rattle.ring_protocol.specs.Reply.{correlation_id_of, Spells}
-use Rattle.ring_service.specs.declared.client.Client.{Client}
-use Rattle.ring_service.specs.declared.client.Polled.{Polled}
+use Rattle.ring_service.specs.declared.{client.Client.Client, client.Polled.Polled, conductor.Conductor.Conductor}
 use Rattle.ring_service.specs.declared.client.Polled.TheVariants.{Answered, Another, NoReply, Nothing, Lapped}
-use Rattle.ring_service.specs.declared.conductor.Conductor.{Conductor}
 use Rattle.ring_service.specs.Account.{Account, account_of, messages_in, reply_message}
-use Rattle.ring_service.specs.Asking.{producer_of, receiver_of}
-use Rattle.ring_service.specs.Conducting.{consumer_of, ledger_of}
+use Rattle.ring_service.specs.{Asking.producer_of, Asking.receiver_of, Conducting.consumer_of, Conducting.ledger_of}
 use Rattle.ring_service.specs.Fold.{Ledger, at_moment}
 
 -- the message that encodes a command

@@ -2,14 +2,10 @@
 use Rattle.std.specs.Prelude.{◌≡◌, ℕ, ◌<◌, ◌≤◌, ◌^◌, List, [], ◌∷◌}
 use Rattle.ring_words.specs.declared.read.action.Action.{Action}
 use Rattle.ring_words.specs.declared.read.action.Action.TheVariants.{Abort, Break, Commit, Continue}
-use Rattle.ring_layout.specs.declared.message.Message.{Message}
-use Rattle.ring_layout.specs.History.{span}
-use Rattle.ring_layout.specs.Places.{max_position, end_after}
-use Rattle.ring_board.specs.Seats.{IsTransmitterOf, view_of}
+use Rattle.ring_layout.specs.{declared.message.Message.Message, History.span, Places.max_position, Places.end_after}
+use Rattle.ring_board.specs.{Seats.IsTransmitterOf, Seats.view_of, declared.shared.view.View.View}
 use Rattle.ring_counters.specs.Manager.{registry_of, writes_of, shares_of, IsManagerOf}
-use Rattle.ring_service.specs.declared.conductor.working.Serving.{Serving}
-use Rattle.ring_service.specs.Fold.{Ledger, served}
-use Rattle.ring_board.specs.declared.shared.view.View.{View}
+use Rattle.ring_service.specs.{declared.conductor.working.Serving.Serving, Fold.Ledger, Fold.served}
 
 -- a reply of 12 bytes would end above the greatest position
 abbrev pub IsAtEnd : View → Type 0

@@ -1,27 +1,15 @@
 -- The headline of one whole run.
 use Rattle.std.specs.Prelude.{◌≡◌, ℕ, pos, [], ◌∷◌, ◌++◌, codes, length, map}
-use Rattle.ring_layout.specs.declared.message.ClaimState.TheVariants.{Committed}
-use Rattle.ring_layout.specs.declared.message.Message.{Message}
-use Rattle.ring_table.specs.declared.claim.StagedClaim.{StagedClaim}
-use Rattle.ring_table.specs.declared.claim.Stage.{Stage}
-use Rattle.ring_table.specs.declared.claim.Stage.TheVariants.{Stored}
-use Rattle.ring_rings.specs.Closing.{AreOrdered, Serves}
-use Rattle.ring_rings.specs.Opening.{first_consumer}
-use Rattle.ring_rings.specs.Reading.{messages_of}
-use Rattle.ring_rings.specs.Ring.{sent, IsWhole}
-use Rattle.ring_rings.specs.Seats.{claims_of, view_of}
-use Rattle.ring_board.specs.Closing.{closed_words, IsClosed}
-use Rattle.ring_board.specs.Rule.{opening_view}
-use Rattle.ring_board.specs.Runs.{AreAllRuns}
-use Rattle.ring_board.specs.Seats.{receiver_seat, receiver_view}
-use Rattle.ring_board.specs.Views.{as_joined, fewer, newcomer}
-use Rattle.ring_counters.specs.Manager.{registry_of, writes_of, IsManagerOf}
-use Rattle.ring_counters.specs.Registry.{fresh_registry}
+use Rattle.ring_layout.specs.declared.message.{ClaimState.TheVariants.Committed, Message.Message}
+use Rattle.ring_table.specs.declared.claim.{StagedClaim.StagedClaim, Stage.Stage, Stage.TheVariants.Stored}
+use Rattle.ring_rings.specs.{Closing.AreOrdered, Closing.Serves, Opening.first_consumer, Seats.claims_of, Seats.view_of}
+use Rattle.ring_rings.specs.{Reading.messages_of, Ring.sent, Ring.IsWhole}
+use Rattle.ring_board.specs.{Closing.closed_words, Closing.IsClosed, Rule.opening_view, Runs.AreAllRuns}
+use Rattle.ring_board.specs.{Seats.receiver_seat, Seats.receiver_view, Views.as_joined, Views.fewer, Views.newcomer}
+use Rattle.ring_counters.specs.{Manager.registry_of, Manager.writes_of, Manager.IsManagerOf, Registry.fresh_registry}
 use Rattle.ring_protocol.specs.declared.command.Request.TheVariants.{Allocate, Set}
 use Rattle.ring_protocol.specs.Command.{Instruction, spelling_of, type_id_of, with_id}
-use Rattle.ring_service.specs.declared.conductor.Work.{Work}
-use Rattle.ring_service.specs.declared.whole.Parties.{Parties}
-use Rattle.ring_service.specs.declared.whole.WholeRun.{WholeRun}
+use Rattle.ring_service.specs.declared.{conductor.Work.Work, whole.Parties.Parties, whole.WholeRun.WholeRun}
 use Rattle.ring_service.specs.Account.{account_of, fresh_account, messages_in}
 use Rattle.ring_service.specs.Asking.{IsHeard, client_seat, producer_of, receiver_of, service_of}
 use Rattle.ring_service.specs.Conducting.{KeepsTheRest, Works, board_view, ledger_of, ring_view}

@@ -4,8 +4,7 @@ pub(crate) mod without;
 
 ghost use Rattle.std.specs.Prelude.{◌≡◌, IfErr, IfOk, OnOk};
 ghost use Rattle.ring_layout.specs.Refusals.{all_shares};
-ghost use Rattle.ring_rings.specs.Closing.{IsRefusedAs};
-ghost use Rattle.ring_rings.specs.Seats.{open_claims_of, shares_of};
+ghost use Rattle.ring_rings.specs.{Closing.IsRefusedAs, Seats.open_claims_of, Seats.shares_of};
 ghost use Rattle.ring_board.specs.Seats.{shares_of as board_shares_of};
 ghost use Rattle.ring_service.specs.Conducting.{IsConductorOf, transmitter_of};
 ghost use Rattle.ring_service.specs.Finishing.{ComesBack, HandsOn, Headline, handed_back, refusal_to};

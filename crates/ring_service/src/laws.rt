@@ -1,9 +1,7 @@
 //! Laws of the fold of commands.
 ghost use Rattle.std.specs.Prelude.{◌≡◌, ◌++◌, ℕ, List};
-ghost use Rattle.ring_layout.specs.declared.message.Message.{Message};
-ghost use Rattle.ring_board.specs.declared.shared.view.Joined.{Joined};
-ghost use Rattle.ring_board.specs.declared.shared.view.Taken.{Taken};
-ghost use Rattle.ring_layout.specs.Lists.{Begins};
+ghost use Rattle.ring_layout.specs.{declared.message.Message.Message, Lists.Begins};
+ghost use Rattle.ring_board.specs.declared.shared.view.{Joined.Joined, Taken.Taken};
 ghost use Rattle.ring_service.specs.Fold.{Ledger, fold_of, with_receivers};
 
 /// States that a fold of two lists of messages, one after the other, is a fold of the second list from the end of the

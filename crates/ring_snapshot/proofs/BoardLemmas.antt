@@ -1,22 +1,15 @@
 -- The words of a closed broadcast buffer list its transmissions.
-use Rattle.std.proofs.Common.{◌≡◌, ℕ, zero, suc, ◌+◌, ◌-◌, ◌*◌, ◌/◌, ◌%◌, ◌^◌, ◌<◌, ◌≤◌, ◌⊎◌, List, [], ◌∷◌, ◌++◌, length, drop, slice_index, refl, ap, sym, ◌∙◌, subst, inl, inr, ⊎_elim, arith, ℤ, pos, ◌≤ℤ◌, true, false, Ok, eq-eqb}
-use Rattle.std.specs.Prelude.{Bool, int_lt, nat_lt, not, ◌&&◌, ◌||◌, if◌then◌else◌}
-use Rattle.std.specs.Int.{from_le_bytes, w64}
-use Rattle.std.proofs.lemmas.Bool.{cases_lt, lt-ltb, le-ltb, le-leb, lt-leb, cond-true, cond-false}
-use Rattle.std.proofs.lemmas.Nat.{mod_below}
-use mathlib.Core.Option.{some, some-injective, some-ne-none}
-use lib.ListN.{get_elem?}
-use Rattle.ring_layout.specs.Places.{index, room, rounded}
-use Rattle.ring_layout.specs.Headers.{padding_header, padding_type}
-use Rattle.ring_layout.proofs.Laps.{mod_aligned, mod_step}
-use Rattle.ring_layout.proofs.PlaceLemmas.{span_bounds}
-use Rattle.ring_layout.proofs.HeaderLemmas.{fits_pos}
+use Rattle.std.proofs.Common.{◌≡◌, ℕ, zero, suc, ◌+◌, ◌-◌, ◌*◌, ◌/◌, ◌%◌, ◌^◌, ◌<◌, ◌≤◌, ◌⊎◌, List, [], ◌∷◌, ◌++◌, length, drop, slice_index, refl, ap, sym, ◌∙◌, subst, inl, inr, ⊎_elim, arith, ℤ, pos, ◌≤ℤ◌, true, false, Ok, eq-eqb, Bool, int_lt, nat_lt, not, ◌&&◌, ◌||◌, if◌then◌else◌, w64, lt-ltb, le-ltb, le-leb}
+use Rattle.std.specs.Int.{from_le_bytes}
+use Rattle.std.proofs.lemmas.{Bool.cases_lt, Bool.lt-leb, Bool.cond-true, Bool.cond-false, Nat.mod_below}
+use Rattle.std.proofs.Math.{Option.some, Option.some-injective, Option.some-ne-none, ListN.get_elem?}
+use Rattle.ring_layout.specs.{Places.index, Places.room, Places.rounded, Headers.padding_header, Headers.padding_type}
+use Rattle.ring_layout.proofs.{Laps.mod_aligned, Laps.mod_step, PlaceLemmas.span_bounds, HeaderLemmas.fits_pos}
 use Rattle.ring_counters.specs.Records.{bytes_at}
 use Rattle.ring_board.specs.declared.shared.view.Record.{Record}
 use Rattle.ring_board.specs.Records.{end, Follows, Chain, end_of, last_of, header_of}
 use Rattle.ring_board.proofs.PlaceLemmas.{lies_cases, lies_after, lies_inside, lies_whole, chain_rises, chain_at, last_low}
-use Rattle.ring_snapshot.specs.declared.board_record.BoardRecord.{BoardRecord}
-use Rattle.ring_snapshot.specs.Listing.{ok_records}
+use Rattle.ring_snapshot.specs.{declared.board_record.BoardRecord.BoardRecord, Listing.ok_records}
 use Rattle.ring_snapshot.specs.BoardRecords.{BoardEntry, is_length, padding_at, message_at, entry_for, entry_at, listing, record_of, records_of, from_on}
 use Rattle.ring_snapshot.proofs.EntryLemmas.{not_padding, not_below_one, decoded, body_told}
 use Rattle.ring_snapshot.proofs.StepLemmas.{listing_ends, padded, IsThere, from_place, from_before}

@@ -1,25 +1,16 @@
 -- What the words of a closed broadcast buffer list from a position on.
-use Rattle.std.proofs.Common.{◌≡◌, ℕ, zero, suc, ◌+◌, ◌-◌, ◌*◌, ◌/◌, ◌%◌, ◌≤◌, ◌⊎◌, List, [], ◌∷◌, slice_index, refl, ap, sym, ◌∙◌, subst, inl, inr, ⊎_elim, arith, true, false, Err, eq-eqb}
-use Rattle.std.specs.Prelude.{not, ◌||◌, None}
-use Rattle.std.proofs.lemmas.Bool.{cases_lt, le-ltb, cond-false}
-use Rattle.std.proofs.lemmas.Nat.{mod_below, div-add-mod'}
-use Rattle.std.proofs.Math.Nat.{mul-mod_left}
-use mathlib.Core.Option.{some, some-injective, some-ne-none}
-use lib.ListN.{get_elem?}
-use Rattle.ring_layout.specs.Places.{IsBoardCapacity, room}
-use Rattle.ring_layout.proofs.Laps.{mod_step}
+use Rattle.std.proofs.Common.{◌≡◌, ℕ, zero, suc, ◌+◌, ◌-◌, ◌*◌, ◌/◌, ◌%◌, ◌≤◌, ◌⊎◌, List, [], ◌∷◌, slice_index, refl, ap, sym, ◌∙◌, subst, inl, inr, ⊎_elim, arith, true, false, Err, eq-eqb, not, ◌||◌, None, le-ltb, div-add-mod'}
+use Rattle.std.proofs.lemmas.{Bool.cases_lt, Bool.cond-false, Nat.mod_below}
+use Rattle.std.proofs.Math.{Nat.mul-mod_left, Option.some, Option.some-injective, Option.some-ne-none, ListN.get_elem?}
+use Rattle.ring_layout.{specs.Places.IsBoardCapacity, specs.Places.room, proofs.Laps.mod_step}
 use Rattle.ring_board.specs.declared.shared.view.Record.{Record}
-use Rattle.ring_board.specs.Layout.{intent_index, tail_index, latest_index}
-use Rattle.ring_board.specs.Records.{Chain, end, end_of, last_of}
-use Rattle.ring_board.specs.Closing.{IsClosed}
-use Rattle.ring_board.specs.Refusals.{IsRefusedBy}
+use Rattle.ring_board.specs.{Layout.intent_index, Layout.tail_index, Layout.latest_index, Refusals.IsRefusedBy}
+use Rattle.ring_board.specs.{Records.Chain, Records.end, Records.end_of, Records.last_of, Closing.IsClosed}
 use Rattle.ring_board.proofs.PlaceLemmas.{chain_at, lies_after, lies_whole}
 use Rattle.ring_board.proofs.OpeningLemmas.{capacity_whole, multiple}
-use Rattle.ring_snapshot.specs.declared.board_record.BoardRecord.{BoardRecord}
-use Rattle.ring_snapshot.specs.declared.board_finding.BoardFinding.{BoardFinding}
-use Rattle.ring_snapshot.specs.Listing.{ok_records}
+use Rattle.ring_snapshot.specs.declared.{board_record.BoardRecord.BoardRecord, board_finding.BoardFinding.BoardFinding}
+use Rattle.ring_snapshot.{specs.Listing.ok_records, proofs.StepLemmas.listing_ends}
 use Rattle.ring_snapshot.specs.BoardRecords.{BoardEntry, entry_at, listing, records_of, from_on, HaveTransmitted, BeginsAt, lap_of, positions_finding}
-use Rattle.ring_snapshot.proofs.StepLemmas.{listing_ends}
 use Rattle.ring_snapshot.proofs.StoredLemmas.{padding_stands, header_stands, body_stands}
 use Rattle.ring_snapshot.proofs.BoardLemmas.{Fit, last_fits, last_high, lap_in, from_on_none, AreKept, from_one}
 

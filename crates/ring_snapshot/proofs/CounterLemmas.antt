@@ -1,22 +1,15 @@
 -- The words of a registry list its counters.
-use Rattle.std.proofs.Common.{◌≡◌, ℕ, zero, suc, ◌+◌, ◌-◌, ◌*◌, ◌%◌, ◌^◌, ◌<◌, ◌≤◌, Bool, true, false, cond, List, ◌∷◌, map, filter, length, drop, slice_index, refl, ap, sym, ◌∙◌, arith, ℤ, pos, Ok, Err}
-use Rattle.std.specs.Prelude.{int_lt, not, ◌||◌, if◌then◌else◌, Option, Some, None}
-use Rattle.std.specs.List.{range_with_len}
-use Rattle.std.specs.Int.{cast_signed, w32}
-use Rattle.std.specs.Ordering.{int_eq}
-use Rattle.std.proofs.lemmas.Int.{to_z-of_z}
-use Rattle.std.proofs.lemmas.List.{get_or-drop}
+use Rattle.std.proofs.Common.{◌≡◌, ℕ, zero, suc, ◌+◌, ◌-◌, ◌*◌, ◌%◌, ◌^◌, ◌<◌, ◌≤◌, Bool, true, false, cond, List, ◌∷◌, map, filter, length, drop, slice_index, refl, ap, sym, ◌∙◌, arith, ℤ, pos, Ok, Err, int_lt, not, ◌||◌, if◌then◌else◌, Option, Some, None, w32, int_eq, get_or-drop}
+use Rattle.std.{specs.List.range_with_len, specs.Int.cast_signed, proofs.lemmas.Int.to_z-of_z}
 use Rattle.ring_layout.proofs.HeaderLemmas.{fits_pos}
 use Rattle.ring_counters.specs.Counter.{Status, Metadata}
 use Rattle.ring_counters.specs.Counter as ring_counters
 use Rattle.ring_counters.specs.Records.{bytes_at, metadata_of, IsMetadata, IsValues}
 use Rattle.ring_counters.specs.Registry.{Registry, count_of, counter_at, status_at, is_unused, is_allocated}
 use Rattle.ring_counters.proofs.RecordLemmas.{state_decoded, type_decoded, deadline_shown, length_decoded, metadata_decoded, value_decoded, registration_shown, owner_shown}
-use Rattle.ring_snapshot.specs.declared.counter.CounterState.{CounterState}
+use Rattle.ring_snapshot.specs.{declared.counter.CounterState.CounterState, RingRecords.length_in, CounterWords.HaveIds}
 use Rattle.ring_snapshot.specs.declared.counter.CounterState.TheVariants.{Allocated, Reclaimed}
 use Rattle.ring_snapshot.specs.declared.counters_finding.CountersFinding.TheVariants.{BadLabelLength}
-use Rattle.ring_snapshot.specs.RingRecords.{length_in}
-use Rattle.ring_snapshot.specs.CounterWords.{HaveIds}
 use Rattle.ring_snapshot.specs.CounterRecords.{CounterEntry, state_from, counter_of_records, with_label, with_state, entry_of, or_none, entries, Show, counter_as, counter_of, entries_of}
 
 -- ---- any words

@@ -1,15 +1,10 @@
 -- What the words of a record say: a length and a type id, and a body.
-use Rattle.std.proofs.Common.{◌≡◌, ℕ, ◌+◌, ◌*◌, ◌/◌, ◌%◌, ◌^◌, ◌<◌, List, length, drop, slice_index, refl, ap, ◌∙◌, arith, inl, inr, ℤ, pos, negsuc, ◌≤ℤ◌, FitsSigned, false}
-use Rattle.std.specs.Prelude.{All, int_lt}
-use Rattle.std.specs.Int.{from_le_bytes, w32, w64}
-use Rattle.std.proofs.lemmas.Int.{ints}
-use Rattle.std.proofs.lemmas.Bool.{cases_lt}
-use Rattle.std.proofs.lemmas.List.{ext_get_or, get_or-drop, get_or_past}
-use Rattle.std.proofs.lemmas.List.FromFn.{length-map-range_with_len, get_or-map-range_with_len}
-use Rattle.std.proofs.lemmas.List.Elements.{All-get_or}
+use Rattle.std.proofs.Common.{◌≡◌, ℕ, ◌+◌, ◌*◌, ◌/◌, ◌%◌, ◌^◌, ◌<◌, List, length, drop, slice_index, refl, ap, ◌∙◌, arith, inl, inr, ℤ, pos, negsuc, ◌≤ℤ◌, FitsSigned, false, All, int_lt, w32, w64, ext_get_or, get_or-drop}
+use Rattle.std.specs.Int.{from_le_bytes}
+use Rattle.std.proofs.lemmas.{Int.ints, Bool.cases_lt, List.Elements.All-get_or}
+use Rattle.std.proofs.lemmas.List.{get_or_past, FromFn.length-map-range_with_len, FromFn.get_or-map-range_with_len}
 use Rattle.ring_layout.specs.Headers.{header}
-use Rattle.ring_layout.proofs.HeaderLemmas.{len_of-header, type_of-header}
-use Rattle.ring_layout.proofs.WordBytes.{byte_of_word}
+use Rattle.ring_layout.proofs.{HeaderLemmas.len_of-header, HeaderLemmas.type_of-header, WordBytes.byte_of_word}
 use Rattle.ring_counters.specs.Records.{byte_at, bytes_at}
 use Rattle.ring_snapshot.specs.RingRecords.{length_in, type_in, is_padding_type}
 

@@ -1,10 +1,8 @@
 -- The steps by which the words of a plain ring come into the format.
 use Rattle.std.specs.Prelude.{◌==◌, if◌then◌else◌, set}
 use Rattle.std.proofs.Common.{◌≡◌, ◌≢◌, ℕ, zero, suc, ◌+◌, ◌/◌, ◌≤◌, ◌<◌, List, refl, ap, sym, ◌∙◌, arith, eq-eqb}
-use Rattle.std.proofs.lemmas.Nat.{mod_below}
-use Rattle.std.proofs.lemmas.Bool.{ne_eqb, le-leb, lt-leb, cond-true, cond-false}
-use Rattle.ring_layout.specs.Places.{index, IsCapacity}
-use Rattle.ring_layout.specs.Layout.{ring_words}
+use Rattle.std.proofs.lemmas.{Nat.mod_below, Bool.ne_eqb, Bool.le-leb, Bool.lt-leb, Bool.cond-true, Bool.cond-false}
+use Rattle.ring_layout.specs.{Places.index, Places.IsCapacity, Layout.ring_words}
 use Rattle.ring_layout.proofs.CapacityLemmas.{capacity_blocks}
 use Rattle.ring_snapshot.specs.Marks.{header_with, mark_at, run_of}
 use Rattle.ring_snapshot.specs.PlainWords.{joined_from, span_at, with_record}

@@ -1,25 +1,19 @@
 -- The words of a history list its records.
-use Rattle.std.proofs.Common.{◌≡◌, ℕ, zero, suc, ◌+◌, ◌-◌, ◌*◌, ◌/◌, ◌%◌, ◌^◌, ◌<◌, ◌≤◌, Bool, List, [], ◌∷◌, length, drop, slice_index, refl, ap, sym, ◌∙◌, arith, inl, inr, ℤ, pos, neg_ℤ, nat_abs, ◌≤ℤ◌, FitsSigned, true, false, Ok, rules}
-use Rattle.std.specs.Prelude.{int_lt, not, ◌&&◌, if◌then◌else◌}
-use Rattle.std.specs.Int.{from_le_bytes, w32, w64}
-use Rattle.std.proofs.lemmas.Bool.{ne_eqb, cond-true, cond-false}
-use Rattle.std.proofs.lemmas.List.Elements.{All-head, All-tail}
-use Rattle.ring_layout.specs.declared.message.Claim.{Claim}
+use Rattle.std.proofs.Common.{◌≡◌, ℕ, zero, suc, ◌+◌, ◌-◌, ◌*◌, ◌/◌, ◌%◌, ◌^◌, ◌<◌, ◌≤◌, Bool, List, [], ◌∷◌, length, drop, slice_index, refl, ap, sym, ◌∙◌, arith, inl, inr, ℤ, pos, neg_ℤ, nat_abs, ◌≤ℤ◌, FitsSigned, true, false, Ok, rules, int_lt, not, ◌&&◌, if◌then◌else◌, w32, w64, ne_eqb}
+use Rattle.std.specs.Int.{from_le_bytes}
+use Rattle.std.proofs.lemmas.{Bool.cond-true, Bool.cond-false, List.Elements.All-head, List.Elements.All-tail}
+use Rattle.ring_layout.specs.{declared.message.Claim.Claim, Headers.header, Headers.header_of, Headers.padding_type}
 use Rattle.ring_layout.specs.declared.message.ClaimState.TheVariants.{Open, Committed, Aborted}
-use Rattle.ring_layout.specs.History.{IsMessage, span_of, span}
+use Rattle.ring_layout.specs.{History.IsMessage, History.span_of, History.span, Picture.claim_word}
 use Rattle.ring_layout.specs.Places.{IsCapacity, index, room, next_place, end_of, rounded}
-use Rattle.ring_layout.specs.Picture.{claim_word}
-use Rattle.ring_layout.specs.Headers.{header, header_of, padding_type}
-use Rattle.ring_layout.proofs.Laps.{index_step, mod_aligned}
-use Rattle.ring_layout.proofs.CapacityLemmas.{capacity_blocks}
+use Rattle.ring_layout.proofs.{Laps.index_step, Laps.mod_aligned, CapacityLemmas.capacity_blocks}
 use Rattle.ring_layout.proofs.PlaceLemmas.{next_le, next_cases, next_within, next_aligned, span_bounds, end_of_le}
 use Rattle.ring_layout.proofs.PictureLemmas.{word_at_padding_header, word_at_record, word_at_rest}
 use Rattle.ring_layout.proofs.HeaderLemmas.{len_of-header, fits_pos, fits_neg}
 use Rattle.ring_words.proofs.HeadLemmas.{state_cases, header_open, header_committed, header_aborted}
 use Rattle.ring_counters.specs.Records.{bytes_at}
-use Rattle.ring_snapshot.specs.declared.record.Record.{Record}
+use Rattle.ring_snapshot.specs.{declared.record.Record.Record, Listing.ok_records}
 use Rattle.ring_snapshot.specs.declared.record.RecordState.TheVariants as shown
-use Rattle.ring_snapshot.specs.Listing.{ok_records}
 use Rattle.ring_snapshot.specs.RingRecords.{length_in, is_length, is_padding_type, passed_at, message_at, entry_for, entry_at, listing, claim_as, record_of_claim, records_of, Lie}
 use Rattle.ring_snapshot.proofs.EntryLemmas.{not_padding, not_below_one, decoded, body_told}
 use Rattle.ring_snapshot.proofs.StepLemmas.{listing_ends, IsThere, from_before}

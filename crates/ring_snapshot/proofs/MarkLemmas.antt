@@ -1,13 +1,9 @@
 -- What a mark and a slot show of a claim or of padding.
-use Rattle.std.specs.Prelude.{◌&&◌, ◌||◌, ◌==◌, ◌-◌, nat_le, nat_lt, int_lt}
-use Rattle.std.proofs.Common.{◌≡◌, ◌≢◌, ℕ, ◌+◌, ◌*◌, ◌/◌, ◌%◌, ◌^◌, ◌<◌, ◌≤◌, List, length, slice_index, refl, ap, sym, ◌∙◌, arith, inl, inr, pos, neg_ℤ, nat_abs, ◌≤ℤ◌, true, ℤ, eq-eqb}
-use Rattle.std.proofs.lemmas.Bool.{ne_eqb, lt-leb, le-leb, lt-ltb, cond-true, cond-false}
-use Rattle.std.proofs.lemmas.Int.{ints}
+use Rattle.std.proofs.Common.{◌≡◌, ◌≢◌, ℕ, ◌+◌, ◌*◌, ◌/◌, ◌%◌, ◌^◌, ◌<◌, ◌≤◌, List, length, slice_index, refl, ap, sym, ◌∙◌, arith, inl, inr, pos, neg_ℤ, nat_abs, ◌≤ℤ◌, true, ℤ, eq-eqb, ◌&&◌, ◌||◌, ◌==◌, ◌-◌, nat_le, nat_lt, int_lt, ne_eqb, le-leb, lt-ltb}
+use Rattle.std.proofs.lemmas.{Bool.lt-leb, Bool.cond-true, Bool.cond-false, Int.ints}
 use Rattle.ring_layout.specs.Marks.{padding_kind, open_kind, aborted_kind, committed_kind}
-use Rattle.ring_layout.specs.declared.message.Claim.{Claim}
+use Rattle.ring_layout.specs.{declared.message.Claim.Claim, History.span, Places.index, Places.IsCapacity}
 use Rattle.ring_layout.specs.Headers.{header, header_of, padding_header, padding_type}
-use Rattle.ring_layout.specs.History.{span}
-use Rattle.ring_layout.specs.Places.{index, IsCapacity}
 use Rattle.ring_layout.proofs.PlaceLemmas.{span_bounds}
 use Rattle.ring_layout.proofs.HeaderLemmas.{len_of-header, type_of-header, fits_pos}
 use Rattle.ring_words.proofs.HeadLemmas.{state_cases, header_open, header_committed, header_aborted}

@@ -1,27 +1,20 @@
 -- The words and the slots of a plain ring with a history, joined, are the words of the history.
-use Rattle.std.specs.Prelude.{All, if◌then◌else◌, is_none, min, nat_lt}
-use Rattle.std.proofs.Common.{◌≡◌, ◌≢◌, ℕ, zero, suc, ◌+◌, ◌-◌, ◌*◌, ◌/◌, ◌%◌, ◌<◌, ◌≤◌, List, [], ◌∷◌, length, slice_index, ap, sym, ◌∙◌, arith, inl, inr, true}
-use Rattle.std.proofs.lemmas.Bool.{cases_eq, cases_lt, cond-false, cond-true, le-ltb, ne_eqb}
-use Rattle.std.proofs.lemmas.List.{places}
-use Rattle.ring_layout.specs.Marks.{committed_kind, padding_kind}
-use Rattle.ring_layout.specs.declared.message.Claim.{Claim}
+use Rattle.std.proofs.Common.{◌≡◌, ◌≢◌, ℕ, zero, suc, ◌+◌, ◌-◌, ◌*◌, ◌/◌, ◌%◌, ◌<◌, ◌≤◌, List, [], ◌∷◌, length, slice_index, ap, sym, ◌∙◌, arith, inl, inr, true, All, if◌then◌else◌, is_none, min, nat_lt, le-ltb, ne_eqb}
+use Rattle.std.proofs.lemmas.{Bool.cases_eq, Bool.cases_lt, Bool.cond-false, Bool.cond-true, Nat.mod_below}
+use Rattle.std.proofs.lemmas.List.{places, Elements.All-cons, Elements.All-nil}
+use Rattle.ring_layout.specs.{Marks.committed_kind, Marks.padding_kind, Picture.claim_word, Picture.word_at}
+use Rattle.ring_layout.specs.{declared.message.Claim.Claim, Headers.header, Headers.header_of, Headers.padding_header}
 use Rattle.std.proofs.Common.{subst}
-use Rattle.std.proofs.lemmas.Nat.{mod_below}
-use Rattle.std.proofs.lemmas.List.Elements.{All-cons, All-nil}
-use Rattle.ring_layout.specs.History.{span_of, IsMessage}
-use Rattle.ring_layout.specs.Picture.{claim_word, word_at}
+use Rattle.ring_layout.specs.{History.span_of, History.IsMessage, Layout.ring_words}
 use Rattle.ring_layout.proofs.PictureLemmas.{word_at_padding, word_at_padding_header, word_at_record, word_at_rest}
 use Rattle.ring_layout.proofs.PlaceLemmas.{end_of_aligned, end_of_le, next_aligned, next_cases, next_le, next_within, span_bounds}
-use Rattle.ring_layout.specs.Layout.{ring_words}
 use Rattle.ring_layout.specs.Places.{end_of, index, next_place, room, IsCapacity}
 use Rattle.ring_layout.proofs.CapacityLemmas.{capacity_blocks}
 use Rattle.ring_layout.proofs.Laps.{mod_aligned, mod_room, IsLap, IsInLap, index_outside}
-use Rattle.ring_snapshot.specs.Marks.{mark_at, run_of, HasMark}
+use Rattle.ring_snapshot.{specs.Marks.mark_at, specs.Marks.run_of, specs.Marks.HasMark, proofs.JoinLemmas.joined_over}
 use Rattle.ring_snapshot.specs.PlainRecords.{ArePlain, HasClaim, HaveClaims}
 use Rattle.ring_snapshot.specs.PlainWords.{joined_between, joined_from, with_record, with_zeros}
-use Rattle.ring_layout.specs.Headers.{header, header_of, padding_header}
 use Rattle.ring_snapshot.specs.RingRecords.{positions_finding, Lie}
-use Rattle.ring_snapshot.proofs.JoinLemmas.{joined_over}
 use Rattle.ring_snapshot.proofs.PlainSteps.{Steps, lap, steps_claim, steps_padding}
 
 -- ---- claims

@@ -1,27 +1,17 @@
 -- The steps of the walk that joins the words and the slots of a plain ring.
-use Rattle.std.specs.Prelude.{◌&&◌, ◌||◌, if◌then◌else◌, int_lt, replicate, set, take, drop}
-use Rattle.std.proofs.Common.{◌≡◌, ◌≢◌, ℕ, suc, ◌+◌, ◌-◌, ◌*◌, ◌/◌, ◌%◌, ◌^◌, ◌<◌, ◌≤◌, ◌⊎◌, List, length, slice_index, refl, ap, sym, ◌∙◌, arith, inl, inr, ℤ, pos, neg_ℤ, nat_abs, FitsSigned, true}
-use Rattle.std.proofs.lemmas.Bool.{ne_eqb, cond-true, cond-false}
-use Rattle.std.proofs.lemmas.List.{get_or-set_same, length-set, places}
+use Rattle.std.proofs.Common.{◌≡◌, ◌≢◌, ℕ, suc, ◌+◌, ◌-◌, ◌*◌, ◌/◌, ◌%◌, ◌^◌, ◌<◌, ◌≤◌, ◌⊎◌, List, length, slice_index, refl, ap, sym, ◌∙◌, arith, inl, inr, ℤ, pos, neg_ℤ, nat_abs, FitsSigned, true, ◌&&◌, ◌||◌, if◌then◌else◌, int_lt, replicate, set, take, drop, ne_eqb, get_or-set_same, length-set, w32}
+use Rattle.std.proofs.lemmas.{Bool.cond-true, Bool.cond-false, List.places}
 use Rattle.std.proofs.Common.{eq-eqb}
-use Rattle.ring_layout.specs.Marks.{padding_kind}
-use Rattle.ring_layout.specs.declared.message.Claim.{Claim}
-use Rattle.ring_layout.specs.History.{overwritten, span_of}
-use Rattle.ring_layout.proofs.PlaceLemmas.{span_bounds}
+use Rattle.ring_layout.specs.{Marks.padding_kind, declared.message.Claim.Claim, Layout.ring_words}
+use Rattle.ring_layout.specs.{History.overwritten, History.span_of, Places.index, Places.IsCapacity, Places.rounded}
+use Rattle.ring_layout.proofs.{PlaceLemmas.span_bounds, HeaderLemmas.fits_neg, HeaderLemmas.fits_pos}
 use Rattle.ring_words.proofs.HeadLemmas.{state_cases, header_open, header_committed, header_aborted}
-use Rattle.ring_layout.specs.Layout.{ring_words}
-use Rattle.ring_layout.specs.Places.{index, IsCapacity, rounded}
-use Rattle.ring_layout.proofs.CapacityLemmas.{capacity_blocks}
-use Rattle.ring_layout.proofs.Laps.{IsLap, index_outside, index_step}
+use Rattle.ring_layout.proofs.{CapacityLemmas.capacity_blocks, Laps.IsLap, Laps.index_outside, Laps.index_step}
 use Rattle.ring_snapshot.specs.Marks.{HasMark, header_with, kind_in, kind_of, mark_at, run_of}
 use Rattle.ring_snapshot.specs.PlainWords.{body_at, joined_from, span_at, with_record}
-use Rattle.std.specs.Int.{w32}
 use Rattle.ring_layout.specs.Headers.{header, header_of, padding_header, padding_type}
-use Rattle.ring_layout.proofs.HeaderLemmas.{fits_neg, fits_pos}
-use Rattle.ring_snapshot.specs.RingRecords.{is_length, is_padding_type}
-use Rattle.ring_snapshot.proofs.EntryLemmas.{decoded}
-use Rattle.ring_snapshot.proofs.JoinLemmas.{joined_goes}
-use Rattle.ring_snapshot.proofs.ListingLemmas.{abs_neg, length_fits}
+use Rattle.ring_snapshot.{specs.RingRecords.is_length, specs.RingRecords.is_padding_type, proofs.EntryLemmas.decoded}
+use Rattle.ring_snapshot.proofs.{JoinLemmas.joined_goes, ListingLemmas.abs_neg, ListingLemmas.length_fits}
 use Rattle.ring_snapshot.proofs.MarkLemmas.{above_zero, shows_claim, shows_padding}
 
 -- ---- the words of one record

@@ -1,8 +1,6 @@
 -- The steps of the tests whether words look like those of a ring or a broadcast buffer.
-use Rattle.std.specs.Prelude.{true, false, ◌&&◌, Result, Ok, Err, IsOk, Option, Some, None, is_none}
 use Rattle.std.specs.Iterator.{YieldsFirst}
-use Rattle.std.proofs.Common.{◌≡◌, ◌≢◌, ℕ, zero, suc, ◌+◌, ◌<◌, List, [], ◌∷◌, slice_index, refl, ap, sym, subst, ◌∙◌, arith, eq-eqb}
-use Rattle.std.proofs.lemmas.Bool.{ne_eqb}
+use Rattle.std.proofs.Common.{◌≡◌, ◌≢◌, ℕ, zero, suc, ◌+◌, ◌<◌, List, [], ◌∷◌, slice_index, refl, ap, sym, subst, ◌∙◌, arith, eq-eqb, true, false, ◌&&◌, Result, Ok, Err, IsOk, Option, Some, None, is_none, ne_eqb}
 use Rattle.ring_layout.specs.Refusals.{IsRefusedBy}
 use Rattle.ring_snapshot.specs.Search.{all_ok, are_zero}
 

@@ -1,17 +1,12 @@
 -- What is in the words of a closed broadcast buffer: each store that a later lap has not covered.
-use Rattle.std.proofs.Common.{◌≡◌, ℕ, zero, suc, ◌+◌, ◌-◌, ◌*◌, ◌/◌, ◌%◌, ◌<◌, ◌≤◌, cond, ltb, eqb, List, [], ◌∷◌, ◌++◌, length, drop, get_or, slice_index, refl, ap, sym, ◌∙◌, subst, ⊎_elim, arith, eq-eqb, ne_eqb}
-use Rattle.std.specs.Int.{from_le_bytes, w64}
-use Rattle.std.proofs.lemmas.Bool.{lt-ltb, le-ltb, ltb-true, cond_both, cond-true, cond-false}
-use Rattle.std.proofs.lemmas.List.{drop-drop}
-use mathlib.Core.Option.{some, some-injective, some-ne-none}
-use lib.ListN.{get_elem?}
-use Rattle.ring_layout.specs.Places.{index}
-use Rattle.ring_layout.specs.Headers.{padding_header}
-use Rattle.ring_layout.proofs.Laps.{same_index, index_step}
-use Rattle.ring_layout.proofs.PlaceLemmas.{span_bounds}
-use Rattle.ring_board.specs.declared.shared.view.Record.{Record}
+use Rattle.std.proofs.Common.{◌≡◌, ℕ, zero, suc, ◌+◌, ◌-◌, ◌*◌, ◌/◌, ◌%◌, ◌<◌, ◌≤◌, cond, ltb, eqb, List, [], ◌∷◌, ◌++◌, length, drop, get_or, slice_index, refl, ap, sym, ◌∙◌, subst, ⊎_elim, arith, eq-eqb, ne_eqb, w64, lt-ltb, le-ltb, ltb-true, drop-drop}
+use Rattle.std.specs.Int.{from_le_bytes}
+use Rattle.std.proofs.lemmas.Bool.{cond_both, cond-true, cond-false}
+use Rattle.std.proofs.Math.{Option.some, Option.some-injective, Option.some-ne-none, ListN.get_elem?}
+use Rattle.ring_layout.specs.{Places.index, Headers.padding_header}
+use Rattle.ring_layout.proofs.{Laps.same_index, Laps.index_step, PlaceLemmas.span_bounds}
+use Rattle.ring_board.specs.{declared.shared.view.Record.Record, Closing.IsClosed}
 use Rattle.ring_board.specs.Records.{end, Follows, Chain, end_of, first_words, words_of_body, word_count, header_of, placed_words, gap, filled, stores, stores_of}
-use Rattle.ring_board.specs.Closing.{IsClosed}
 use Rattle.ring_board.proofs.PlaceLemmas.{index_below, lies_after, lies_inside, lies_whole, chain_rises, chain_at}
 use Rattle.ring_board.proofs.StoreLemmas.{at_joined, at_behind, stores_where, words_long}
 use Rattle.ring_board.proofs.LookLemmas.{gap_at, header_at, word_at}

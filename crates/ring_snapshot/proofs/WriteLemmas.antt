@@ -1,10 +1,7 @@
 -- The words that are written, and their bytes.
-use Rattle.std.proofs.Common.{◌≡◌, ℕ, ◌+◌, ◌<◌, List, [], ◌∷◌, ◌++◌, length, take, slice_index, refl, sym, ap, ◌∙◌, arith, append-nil}
-use Rattle.std.specs.Prelude.{◌≤◌, Some, None, map, slice_get}
-use Rattle.std.specs.List.{range_with_len}
-use Rattle.std.specs.Int.{to_le_bytes, w64}
-use Rattle.std.proofs.lemmas.List.{append_assoc, take_more}
-use Rattle.std.proofs.lemmas.List.FromFn.{length-map-range_with_len, get_or-map-range_with_len}
+use Rattle.std.proofs.Common.{◌≡◌, ℕ, ◌+◌, ◌<◌, List, [], ◌∷◌, ◌++◌, length, take, slice_index, refl, sym, ap, ◌∙◌, arith, append-nil, ◌≤◌, Some, None, map, slice_get, w64, append_assoc}
+use Rattle.std.specs.{List.range_with_len, Int.to_le_bytes}
+use Rattle.std.proofs.lemmas.List.{take_more, FromFn.length-map-range_with_len, FromFn.get_or-map-range_with_len}
 use Rattle.std.proofs.lemmas.Option.{slice_get_past, slice_get-get_or}
 use Rattle.ring_board.specs.Records.{bytes_of}
 

@@ -3,18 +3,13 @@
 use Rattle.std.specs.Prelude.{◌≡◌, ℕ, true, false, ◌+◌, ◌-◌, ◌/◌, ◌%◌, Bool, ◌&&◌, ◌||◌, ◌==◌, not, nat_le, nat_lt, int_lt, if◌then◌else◌, ℤ, pos, nat_abs, List, [], ◌∷◌, ◌++◌, length, slice_index, Result, Ok, Err, Option, Some, None, ◌⊎◌}
 use mathlib.Core.Option.{some}
 use lib.ListN.{get_elem?}
-use Rattle.ring_layout.specs.Places.{index, room, rounded}
-use Rattle.ring_layout.specs.Headers.{padding_type}
+use Rattle.ring_layout.specs.{Places.index, Places.room, Places.rounded, Headers.padding_type, Lists.or_else}
 use Rattle.ring_board.specs.declared.shared.view.Record.{Record}
-use Rattle.ring_board.specs.Layout.{intent_index, tail_index, latest_index}
-use Rattle.ring_board.specs.Closing.{IsClosed}
+use Rattle.ring_board.specs.{Layout.intent_index, Layout.tail_index, Layout.latest_index, Closing.IsClosed}
 use Rattle.ring_counters.specs.Records.{bytes_at}
-use Rattle.ring_snapshot.specs.declared.board_record.BoardRecord.{BoardRecord}
-use Rattle.ring_snapshot.specs.declared.board_finding.BoardFinding.{BoardFinding}
+use Rattle.ring_snapshot.specs.declared.{board_record.BoardRecord.BoardRecord, board_finding.BoardFinding.BoardFinding}
 use Rattle.ring_snapshot.specs.declared.board_finding.BoardFinding.TheVariants.{UnalignedPosition, TailBeforeLatest, IntentBeforeTail, TailTooFar, IntentTooFar, OutsideOfRecords, BadLength, BadType}
-use Rattle.ring_snapshot.specs.declared.listing.Listing.{Listing}
-use Rattle.ring_snapshot.specs.declared.board.BoardSnapshot.{BoardSnapshot}
-use Rattle.ring_layout.specs.Lists.{or_else}
+use Rattle.ring_snapshot.specs.declared.{listing.Listing.Listing, board.BoardSnapshot.BoardSnapshot}
 use Rattle.ring_snapshot.specs.Listing.{lies_inside, listed_by, left_of, after_padding, ok_records}
 use Rattle.ring_snapshot.specs.RingRecords.{length_in, type_in, is_padding_type}
 

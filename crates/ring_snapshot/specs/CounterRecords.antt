@@ -1,20 +1,15 @@
 -- The counters in any words of metadata records and value records, and those of a registry.
 use Rattle.std.specs.Prelude.{◌≡◌, ℕ, zero, suc, ◌+◌, ◌-◌, ◌*◌, ◌<◌, ◌||◌, not, int_lt, if◌then◌else◌, ℤ, pos, negsuc, nat_abs, FitsSigned, List, [], ◌∷◌, map, filter, drop, slice_index, Result, Ok, Err, Option, Some, None}
-use Rattle.std.specs.List.{range_with_len}
-use Rattle.std.specs.Int.{cast_signed, w64}
-use Rattle.std.specs.Ordering.{int_eq}
+use Rattle.std.specs.{List.range_with_len, Int.cast_signed, Int.w64, Ordering.int_eq}
 use Rattle.ring_counters.specs.Counter.{deadline_of, metadata_word, value_word}
 use Rattle.ring_counters.specs.Counter as ring_counters
 use Rattle.ring_counters.specs.Records.{bytes_at, IsWithinLimits}
 use Rattle.ring_counters.specs.Registry.{Registry, count_of, counter_at, status_at, is_unused, is_allocated}
-use Rattle.ring_snapshot.specs.declared.counter.Counter.{Counter}
-use Rattle.ring_snapshot.specs.declared.counter.CounterState.{CounterState}
+use Rattle.ring_snapshot.specs.declared.counter.{Counter.Counter, CounterState.CounterState}
 use Rattle.ring_snapshot.specs.declared.counter.CounterState.TheVariants.{Allocated, Reclaimed}
-use Rattle.ring_snapshot.specs.declared.counters_finding.CountersFinding.{CountersFinding}
+use Rattle.ring_snapshot.specs.{declared.counters_finding.CountersFinding.CountersFinding, CounterWords.HaveIds}
 use Rattle.ring_snapshot.specs.declared.counters_finding.CountersFinding.TheVariants.{BadState, BadLabelLength}
-use Rattle.ring_snapshot.specs.declared.counters.Counters.{Counters}
-use Rattle.ring_snapshot.specs.declared.counters.CountersSnapshot.{CountersSnapshot}
-use Rattle.ring_snapshot.specs.CounterWords.{HaveIds}
+use Rattle.ring_snapshot.specs.declared.counters.{Counters.Counters, CountersSnapshot.CountersSnapshot}
 use Rattle.ring_snapshot.specs.RingRecords.{length_in, type_in}
 
 abbrev pub CounterEntry : Type 0

@@ -4,14 +4,11 @@
 -- records, of which this one is the first. The slot at the same index has the header that the record has once it is
 -- committed. Positions are running byte counts, and C is the capacity of the buffer.
 use Rattle.std.specs.Prelude.{◌≡◌, ◌⊎◌, ℕ, ◌+◌, ◌-◌, ◌%◌, ◌^◌, ◌<◌, ◌≤◌, Bool, ◌&&◌, ◌||◌, ◌==◌, nat_le, nat_lt, int_lt, if◌then◌else◌, pos, neg_ℤ, nat_abs, List, length, slice_index}
-use Rattle.ring_layout.specs.declared.message.Claim.{Claim}
-use Rattle.ring_layout.specs.declared.message.ClaimState.{ClaimState}
+use Rattle.ring_layout.specs.{declared.message.Claim.Claim, declared.message.ClaimState.ClaimState, Layout.tail_index}
 use Rattle.ring_layout.specs.declared.message.ClaimState.TheVariants.{Open, Committed, Aborted}
 use Rattle.ring_layout.specs.Headers.{committed_header, header, padding_header, padding_type}
-use Rattle.ring_layout.specs.History.{IsMessage, span_of}
-use Rattle.ring_layout.specs.Layout.{tail_index}
+use Rattle.ring_layout.specs.{History.IsMessage, History.span_of, Places.index, Places.rounded}
 use Rattle.ring_layout.specs.Marks.{committed_kind, padding_kind, open_kind, aborted_kind}
-use Rattle.ring_layout.specs.Places.{index, rounded}
 use Rattle.ring_snapshot.specs.RingRecords.{length_in, type_in}
 
 abbrev pub kind_in : ℕ → ℕ

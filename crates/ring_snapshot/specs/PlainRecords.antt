@@ -1,14 +1,9 @@
 -- The words and the slots of a plain ring with a history. Positions are running byte counts, and C is the capacity of
 -- the buffer.
 use Rattle.std.specs.Prelude.{◌≡◌, ℕ, ◌+◌, ◌%◌, ◌<◌, ◌≤◌, List, [], ◌∷◌, ⊤, slice_index}
-use Rattle.ring_layout.specs.Marks.{padding_kind}
-use Rattle.ring_layout.specs.declared.message.Claim.{Claim}
-use Rattle.ring_layout.specs.History.{span_of}
-use Rattle.ring_layout.specs.Layout.{head_index, tail_index}
-use Rattle.ring_layout.specs.Picture.{claim_word}
-use Rattle.ring_layout.specs.Places.{index, next_place, end_of}
-use Rattle.ring_snapshot.specs.Marks.{mark_at, run_of, HasMark}
-use Rattle.ring_snapshot.specs.RingRecords.{Lie}
+use Rattle.ring_layout.specs.{Marks.padding_kind, declared.message.Claim.Claim, History.span_of, Picture.claim_word}
+use Rattle.ring_layout.specs.{Layout.head_index, Layout.tail_index, Places.index, Places.next_place, Places.end_of}
+use Rattle.ring_snapshot.specs.{Marks.mark_at, Marks.run_of, Marks.HasMark, RingRecords.Lie}
 
 -- A plain ring has a claim that comes after e, at this place: the marks of the claim and of the padding before it, and
 -- the words of its body. A run that began before goes on up to `run`, and has no padding.

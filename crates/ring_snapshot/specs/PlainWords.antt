@@ -2,9 +2,7 @@
 -- indexes. Positions are running byte counts, and C is the capacity of the buffer.
 use Rattle.std.specs.Prelude.{ℕ, zero, suc, ◌+◌, ◌-◌, ◌/◌, ◌&&◌, ◌||◌, ◌==◌, is_none, nat_le, int_lt, min, if◌then◌else◌, pos, nat_abs, List, replicate, take, drop, set, slice_index}
 use Rattle.ring_layout.specs.Marks.{padding_kind}
-use Rattle.ring_layout.specs.History.{overwritten}
-use Rattle.ring_layout.specs.Places.{index, rounded}
-use Rattle.ring_layout.specs.Layout.{head_index, tail_index}
+use Rattle.ring_layout.specs.{History.overwritten, Places.index, Places.rounded, Layout.head_index, Layout.tail_index}
 use Rattle.ring_snapshot.specs.Marks.{header_with, kind_in, mark_at, run_of}
 use Rattle.ring_snapshot.specs.RingRecords.{is_length, is_padding_type, length_in, positions_finding, type_in}
 

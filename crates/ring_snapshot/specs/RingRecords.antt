@@ -2,24 +2,16 @@
 -- of the buffer.
 use Rattle.std.specs.Prelude.{◌≡◌, ℕ, ◌+◌, ◌-◌, ◌/◌, ◌%◌, ◌^◌, ◌<◌, ◌≤◌, Bool, ◌&&◌, ◌==◌, not, nat_le, nat_lt, int_lt, int_le, if◌then◌else◌, ℤ, pos, nat_abs, List, [], ◌∷◌, All, length, slice_index, Result, Ok, Err, Option, Some, None, ◌||◌}
 use Rattle.std.specs.Int.{cast_signed, w32}
-use Rattle.ring_layout.specs.declared.message.Claim.{Claim}
-use Rattle.ring_layout.specs.declared.message.ClaimState.{ClaimState}
+use Rattle.ring_layout.specs.{declared.message.Claim.Claim, declared.message.ClaimState.ClaimState, Picture.word_at}
 use Rattle.ring_layout.specs.declared.message.ClaimState.TheVariants as claimed
-use Rattle.ring_layout.specs.History.{IsMessage, span_of}
-use Rattle.ring_layout.specs.Places.{index, next_place, end_of, rounded}
-use Rattle.ring_layout.specs.Picture.{word_at}
-use Rattle.ring_layout.specs.Headers.{padding_type}
-use Rattle.ring_layout.specs.Layout.{tail_index, head_index}
+use Rattle.ring_layout.specs.{History.IsMessage, History.span_of, Layout.tail_index, Layout.head_index, Lists.or_else}
+use Rattle.ring_layout.specs.{Places.index, Places.next_place, Places.end_of, Places.rounded, Headers.padding_type}
 use Rattle.ring_counters.specs.Records.{bytes_at}
-use Rattle.ring_layout.specs.Lists.{or_else}
 use Rattle.ring_snapshot.specs.Listing.{lies_inside, listed_by, left_of, after_padding}
-use Rattle.ring_snapshot.specs.declared.record.Record.{Record}
-use Rattle.ring_snapshot.specs.declared.record.RecordState.{RecordState}
+use Rattle.ring_snapshot.specs.declared.{record.Record.Record, record.RecordState.RecordState, listing.Listing.Listing}
 use Rattle.ring_snapshot.specs.declared.record.RecordState.TheVariants.{Open, Committed, Aborted, AbortedOrPadding, Unstored}
-use Rattle.ring_snapshot.specs.declared.ring_finding.RingFinding.{RingFinding}
+use Rattle.ring_snapshot.specs.declared.{ring_finding.RingFinding.RingFinding, ring.RingSnapshot.RingSnapshot}
 use Rattle.ring_snapshot.specs.declared.ring_finding.RingFinding.TheVariants.{UnalignedPosition, TailBeforeHead, TailTooFar, OutsideOfRecords, BadLength, BadType}
-use Rattle.ring_snapshot.specs.declared.listing.Listing.{Listing}
-use Rattle.ring_snapshot.specs.declared.ring.RingSnapshot.{RingSnapshot}
 
 abbrev pub Entry : Type 0
 Entry = Result Record RingFinding

@@ -1,7 +1,6 @@
 -- Words of memory that look like those of a ring.
 use Rattle.std.specs.Prelude.{ℕ, zero, suc, ◌+◌, ◌-◌, ◌/◌, ◌^◌, Bool, true, false, ◌&&◌, ◌||◌, ◌==◌, nat_le, nat_lt, not, is_none, List, [], ◌∷◌, min, take, drop, slice_index, Result, Ok, Err}
-use Rattle.ring_layout.specs.Places.{index}
-use Rattle.ring_layout.specs.Layout.{head_index, ring_words, tail_index}
+use Rattle.ring_layout.specs.{Places.index, Layout.head_index, Layout.ring_words, Layout.tail_index}
 use Rattle.ring_snapshot.specs.RingRecords.{listing, positions_finding}
 
 abbrev pub and_ok : {R F : Type 0} → Result R F → Bool → Bool

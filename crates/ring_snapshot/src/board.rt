@@ -31,12 +31,10 @@ pub type BoardRecords<'a> = Listing<BoardSnapshot<'a>>;
 
 impl<'a> BoardSnapshot<'a> {
     ghost use Rattle.std.specs.Prelude.{◌≡◌, ◌≢◌, ℕ, ◌+◌, ◌-◌, ◌*◌, ◌/◌, ◌%◌, ◌^◌, ◌<◌, ◌≤◌, List, length, slice_index, IfOk, IfErr, IsOkAnd};
-    ghost use Rattle.ring_layout.specs.Places.{IsBoardCapacity};
-    ghost use Rattle.ring_board.specs.declared.shared.view.Record.{Record};
+    ghost use Rattle.ring_layout.specs.Places.{IsBoardCapacity, rounded};
+    ghost use Rattle.ring_board.specs.{declared.shared.view.Record.Record, Refusals.IsRefusedBy};
     ghost use Rattle.ring_board.specs.Layout.{board_words, intent_index, tail_index, latest_index};
-    ghost use Rattle.ring_board.specs.Refusals.{IsRefusedBy};
     ghost use Rattle.ring_snapshot.specs.declared.board_finding.BoardFinding.TheVariants.{BadSize};
-    ghost use Rattle.ring_layout.specs.Places.{rounded};
     ghost use Rattle.ring_snapshot.specs.BoardRecords.{is_length, entry_at, intent_in, tail_in, latest_in, records_left, listed_from, first_whole, is_lap_whole, positions_finding, from_finding, HaveTransmitted, BeginsAt, lap_of, transmitted_from};
 
     /// Takes the words of a broadcast buffer. Returns `BadSize` if no broadcast buffer has this many words.

@@ -38,8 +38,7 @@ impl<'a> CountersSnapshot<'a> {
     ghost use Rattle.std.specs.Prelude.{◌≡◌, ◌≢◌, ℕ, ◌+◌, ◌*◌, ◌<◌, ◌≤◌, List, length, drop, slice_index, IfOk, IfErr};
     ghost use Rattle.ring_counters.specs.Registry.{Registry};
     ghost use Rattle.ring_snapshot.specs.declared.counters_finding.CountersFinding.TheVariants.{BadSize};
-    ghost use Rattle.ring_snapshot.specs.CounterWords.{HaveIds};
-    ghost use Rattle.ring_snapshot.specs.RingRecords.{length_in};
+    ghost use Rattle.ring_snapshot.specs.{CounterWords.HaveIds, RingRecords.length_in};
     ghost use Rattle.ring_snapshot.specs.CounterRecords.{Show, state_from, with_label, entry_of, counters_left, counters_in, entries_from};
 
     /// Takes the words of counters. Returns `BadSize` if no counters have this many words.

@@ -18,8 +18,7 @@ pub struct Listing<B> {
 
 impl<B: Buffer> Listing<B> {
     ghost use Rattle.std.specs.Prelude.{◌≡◌, ◌+◌, ◌-◌, ◌/◌, ◌%◌, ◌^◌, ◌≤◌};
-    ghost use Rattle.ring_snapshot.specs.Listing.{left_of, listed_by};
-    ghost use Rattle.ring_snapshot.specs.Search.{all_ok};
+    ghost use Rattle.ring_snapshot.specs.{Listing.left_of, Listing.listed_by, Search.all_ok};
 
     /// Returns the records from a position on.
     pub(crate) fn new(buffer: B, at: u64, tail: u64) -> Self

@@ -1,7 +1,6 @@
 //! The records of a ring.
 ghost use Rattle.std.specs.Prelude.{◌≡◌, length};
-ghost use Rattle.ring_layout.specs.Places.{IsCapacity};
-ghost use Rattle.ring_layout.specs.Layout.{ring_words};
+ghost use Rattle.ring_layout.specs.{Places.IsCapacity, Layout.ring_words};
 
 pub(crate) mod mark;
 pub(crate) mod plain;
@@ -34,14 +33,11 @@ pub type Records<'a> = Listing<RingSnapshot<'a>>;
 
 impl<'a> RingSnapshot<'a> {
     ghost use Rattle.std.specs.Prelude.{◌≡◌, ◌≢◌, ℕ, ◌+◌, ◌-◌, ◌*◌, ◌/◌, ◌%◌, ◌^◌, ◌<◌, ◌≤◌, ◌==◌, if◌then◌else◌, List, [], length, slice_index, IfOk, IfErr};
-    ghost use Rattle.ring_layout.specs.declared.message.Claim.{Claim};
-    ghost use Rattle.ring_layout.specs.Places.{IsCapacity};
+    ghost use Rattle.ring_layout.specs.{declared.message.Claim.Claim, Places.IsCapacity, Places.rounded};
     ghost use Rattle.ring_layout.specs.Layout.{tail_index, head_cache_index, head_index, correlation_index, heartbeat_index, ring_words};
     ghost use Rattle.ring_board.specs.Refusals.{IsRefusedBy};
     ghost use Rattle.ring_snapshot.specs.declared.record.RecordState.TheVariants.{Aborted, AbortedOrPadding};
-    ghost use Rattle.ring_snapshot.specs.declared.ring_finding.RingFinding.TheVariants.{BadSize};
-    ghost use Rattle.ring_layout.specs.Places.{rounded};
-    ghost use Rattle.ring_snapshot.specs.Listing.{ok_records};
+    ghost use Rattle.ring_snapshot.specs.{declared.ring_finding.RingFinding.TheVariants.BadSize, Listing.ok_records};
     ghost use Rattle.ring_snapshot.specs.RingRecords.{is_length, entry_at, records_left, listed_from, records_of, Lie, head_in, tail_in, positions_finding, from_finding};
 
     /// Takes the words of a ring. Returns `BadSize` if no ring has this many words.

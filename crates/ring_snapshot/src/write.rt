@@ -1,8 +1,7 @@
 //! Writes the words of a ring, a closed broadcast buffer or counters.
 ghost use Rattle.std.specs.Prelude.{◌≡◌, ℕ, List, OnOk, slice_get};
 ghost use Rattle.std.specs.Io.KnownBytes.{Appends};
-ghost use Rattle.ring_board.specs.Closing.{closed_words};
-ghost use Rattle.ring_board.specs.Records.{bytes_of};
+ghost use Rattle.ring_board.specs.{Closing.closed_words, Records.bytes_of};
 ghost use Rattle.ring_counters.specs.Manager.{registry_of};
 ghost use Rattle.ring_snapshot.specs.WordLists.{metadata_words, value_words};
 

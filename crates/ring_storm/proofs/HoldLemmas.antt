@@ -1,26 +1,19 @@
 -- What the commands of a storm make of the counters: each client's counter has the last number that it set.
-use Rattle.std.proofs.Common.{◌≡◌, ◌∙◌, ◌⊎◌, ℕ, suc, ◌+◌, ◌<◌, ◌≤◌, ◌^◌, true, true≢false, cond, if◌then◌else◌, pos, List, [], ◌∷◌, ◌++◌, length, Option, Some, None, inl, inr, refl, sym, ap, subst, arith, get_or-set_other, get_or-set_same}
-use Rattle.std.specs.Prelude.{slice_index_or, slice_set}
-use Rattle.std.proofs.lemmas.Bool.{cases_eq, cases_lt, eq-eqb, lt-leb, ne_eqb}
-use Rattle.std.proofs.lemmas.List.{get_or_past}
-use Rattle.std.proofs.lemmas.List.Quantifiers.{position-Some}
+use Rattle.std.proofs.Common.{◌≡◌, ◌∙◌, ◌⊎◌, ℕ, suc, ◌+◌, ◌<◌, ◌≤◌, ◌^◌, true, true≢false, cond, if◌then◌else◌, pos, List, [], ◌∷◌, ◌++◌, length, Option, Some, None, inl, inr, refl, sym, ap, subst, arith, get_or-set_other, get_or-set_same, slice_index_or, slice_set, eq-eqb, ne_eqb}
+use Rattle.std.proofs.lemmas.Bool.{cases_eq, cases_lt, lt-leb}
+use Rattle.std.proofs.lemmas.List.{get_or_past, Quantifiers.position-Some}
 use Rattle.ring_layout.specs.declared.message.Message.{Message}
-use Rattle.ring_table.specs.declared.claim.StagedClaim.{StagedClaim}
-use Rattle.ring_table.specs.Passing.{placed_committed_of}
-use Rattle.ring_table.specs.Services.{times}
+use Rattle.ring_table.specs.{declared.claim.StagedClaim.StagedClaim, Passing.placed_committed_of, Services.times}
 use Rattle.ring_rings.specs.Reading.{messages_of}
 use Rattle.ring_counters.specs.declared.fault.IdFault.TheVariants.{BadId, NotAllocated}
-use Rattle.ring_counters.specs.Counter.{Counter, unused_counter}
+use Rattle.ring_counters.specs.{Counter.Counter, Counter.unused_counter, Views.value_write}
 use Rattle.ring_counters.specs.Registry.{Registry, count_of, counter_at, given, id_refusal_of, is_allocated, new_counter, status_at, unused_id, with_value}
-use Rattle.ring_counters.specs.Views.{value_write}
-use Rattle.ring_protocol.specs.declared.reply.Reply.{Reply}
+use Rattle.ring_protocol.specs.{declared.reply.Reply.Reply, Command.Instruction, Command.with_id}
 use Rattle.ring_protocol.specs.declared.reply.Reply.TheVariants as told
 use Rattle.ring_protocol.specs.declared.command.Request.TheVariants.{Allocate, Set}
-use Rattle.ring_protocol.specs.Command.{Instruction, with_id}
 use Rattle.ring_protocol.specs.Command as command
 use Rattle.ring_protocol.specs.Reply as reply
-use Rattle.ring_protocol.proofs.ReadCommands.{spelled_again}
-use Rattle.ring_protocol.proofs.ReadReplies.{one}
+use Rattle.ring_protocol.proofs.{ReadCommands.spelled_again, ReadReplies.one}
 use Rattle.ring_service.specs.Account.{Account, account_of, entered, reply_message, untimed}
 use Rattle.ring_service.specs.Applied.{Outcome, allocated, applied, done_unless, obeyed, obeyed_if_read}
 use Rattle.ring_storm.specs.Turns.{counter_told, label_of, last_set, turn_of}

@@ -1,48 +1,32 @@
 -- The number of counters in use after a storm: one for each client.
-use Rattle.std.proofs.Common.{◌≡◌, ◌∙◌, ◌⊎◌, ℕ, zero, suc, ◌+◌, ◌<◌, ◌≤◌, ◌^◌, ◌%◌, ◌==◌, Bool, true, false, cond, if◌then◌else◌, ℤ, pos, List, [], ◌∷◌, ◌++◌, length, map, Option, Some, None, Ok, add-one, inl, inr, refl, sym, ap, subst, arith}
-use Rattle.std.specs.Prelude.{All, count_by, find, not, nat_lt}
-use Rattle.std.specs.Fmt.{decimal}
-use Rattle.std.specs.List.{position_or_len, list_all}
-use Rattle.std.proofs.Math.ListN.{length-set}
-use Rattle.std.proofs.lemmas.Bool.{cases_lt, cond-true, le-ltb, lt-ltb, ne_eqb}
-use Rattle.std.proofs.lemmas.Fmt.{IsAscii-decimal, length-decimal-le}
-use Rattle.std.proofs.lemmas.List.{length-map, length-replicate}
-use Rattle.std.proofs.lemmas.List.Elements.{All-cons, All-nil, All-weaker}
-use Rattle.std.proofs.lemmas.List.Folds.{sum_by-replicate}
-use Rattle.std.proofs.lemmas.List.FromFn.{fill_by_all}
-use Rattle.std.proofs.lemmas.List.Quantifiers.{position-Some}
-use Rattle.std.proofs.lemmas.List.Sums.{length-filter, list_all-from_AllPass, sum_by-cons}
-use Rattle.std.proofs.lemmas.Str.Ascii.{All-from_ascii}
-use Rattle.ring_layout.specs.declared.message.Message.{Message}
-use Rattle.ring_layout.specs.declared.message.ClaimState.TheVariants.{Committed}
-use Rattle.ring_table.specs.declared.claim.StagedClaim.{StagedClaim}
-use Rattle.ring_table.specs.declared.claim.Stage.{Stage}
-use Rattle.ring_table.specs.declared.claim.Stage.TheVariants.{Stored}
-use Rattle.ring_table.specs.Owners.{insert_claim, interleaved}
-use Rattle.ring_table.specs.declared.view.Service.{Service}
+use Rattle.std.proofs.Common.{◌≡◌, ◌∙◌, ◌⊎◌, ℕ, zero, suc, ◌+◌, ◌<◌, ◌≤◌, ◌^◌, ◌%◌, ◌==◌, Bool, true, false, cond, if◌then◌else◌, ℤ, pos, List, [], ◌∷◌, ◌++◌, length, map, Option, Some, None, Ok, add-one, inl, inr, refl, sym, ap, subst, arith, All, count_by, find, not, nat_lt, decimal, length-set, le-ltb, lt-ltb, ne_eqb}
+use Rattle.std.{specs.List.position_or_len, specs.List.list_all, proofs.lemmas.Str.Ascii.All-from_ascii}
+use Rattle.std.proofs.lemmas.{Bool.cases_lt, Bool.cond-true, Fmt.IsAscii-decimal, Fmt.length-decimal-le}
+use Rattle.std.proofs.lemmas.List.{length-map, length-replicate, Folds.sum_by-replicate}
+use Rattle.std.proofs.lemmas.List.{Elements.All-cons, Elements.All-nil, Elements.All-weaker, Quantifiers.position-Some}
+use Rattle.std.proofs.lemmas.List.{FromFn.fill_by_all, Sums.length-filter, Sums.list_all-from_AllPass, Sums.sum_by-cons}
+use Rattle.ring_layout.specs.declared.message.{Message.Message, ClaimState.TheVariants.Committed}
+use Rattle.ring_table.specs.declared.claim.{StagedClaim.StagedClaim, Stage.Stage, Stage.TheVariants.Stored}
+use Rattle.ring_table.specs.{Owners.insert_claim, Owners.interleaved, declared.view.Service.Service}
 use Rattle.ring_table.specs.Passing.{placed_committed_of, placed_message, shown_at}
 use Rattle.ring_rings.specs.Reading.{messages_of}
 use Rattle.ring_board.specs.declared.shared.view.Joined.{Joined}
 use Rattle.ring_counters.specs.declared.fault.AllocateRefused.TheVariants.{LabelNotAscii, LabelTooLong}
-use Rattle.ring_counters.specs.declared.fault.IdFault.{IdFault}
+use Rattle.ring_counters.specs.{declared.fault.IdFault.IdFault, Views.value_write}
 use Rattle.ring_counters.specs.Counter.{Status, Unused, Allocated, Reclaimed, Counter, unused_counter}
 use Rattle.ring_layout.specs.Lists.{or_else}
 use Rattle.ring_counters.specs.Registry.{Registry, allocated_in, allocation_of, answer, count_of, counter_at, fresh_registry, given, id_refusal_of, ids_of, is_allocated, is_due, is_unused, live_ids, live_of, new_counter, status_at, text_refusal_of, unused_id, with_value, without}
-use Rattle.ring_counters.specs.Views.{value_write}
 use Rattle.ring_counters.proofs.AgreeLemmas.{accepted_inside}
 use Rattle.ring_counters.proofs.QueueLemmas.{count_less, count_more, count_same, used_from_allocated}
-use Rattle.ring_protocol.specs.declared.reply.Reply.{Reply}
+use Rattle.ring_protocol.specs.{declared.reply.Reply.Reply, Reading.command_of, Reading.set_of}
 use Rattle.ring_protocol.specs.declared.reply.Reply.TheVariants as told
-use Rattle.ring_protocol.specs.Bad.{or_malformed}
+use Rattle.ring_protocol.specs.{Bad.or_malformed, Field.◌>>=◌, Field.◌⊗◌, Field.i64_at, Field.u32_at, Field.u64_at}
 use Rattle.ring_protocol.specs.declared.command.Request.TheVariants.{Allocate, Set}
 use Rattle.ring_protocol.specs.Command.{Instruction, HasSpelling, spelling_of, type_id_of, with_id}
-use Rattle.ring_protocol.specs.Field.{◌>>=◌, ◌⊗◌, i64_at, u32_at, u64_at}
-use Rattle.ring_protocol.specs.Reading.{command_of, set_of}
 use Rattle.ring_protocol.specs.Reply as reply
 use Rattle.ring_protocol.proofs.ReadCommands.{command_again}
-use Rattle.ring_storm.specs.declared.plan.StormPlan.{StormPlan}
+use Rattle.ring_storm.specs.{declared.plan.StormPlan.StormPlan, Storming.counters_after, Storming.storm_counters}
 use Rattle.ring_service.specs.Applied.{allocated, applied, done_unless, obeyed, obeyed_if_read}
-use Rattle.ring_storm.specs.Storming.{counters_after, storm_counters}
 use Rattle.ring_storm.specs.Turns.{AreAllTurns, AreTurns, ClientHistory, Turns, label_of}
 
 -- Counters of which none was freed ---------------------------------------------

@@ -1,9 +1,6 @@
 -- Claims of several clients, put together by rising place: each client's stay in their order.
-use Rattle.std.proofs.Common.{◌≡◌, ◌⊎◌, ◌<◌, ◌≤◌, List, [], ◌∷◌, Bool, true, false, if◌then◌else◌, inl, inr, refl, subst, arith}
-use Rattle.std.specs.Prelude.{nat_lt}
-use Rattle.std.proofs.lemmas.Bool.{ltb-false}
-use Rattle.ring_table.specs.declared.claim.StagedClaim.{StagedClaim}
-use Rattle.ring_table.specs.Owners.{insert_claim, interleaved}
+use Rattle.std.proofs.Common.{◌≡◌, ◌⊎◌, ◌<◌, ◌≤◌, List, [], ◌∷◌, Bool, true, false, if◌then◌else◌, inl, inr, refl, subst, arith, nat_lt, ltb-false}
+use Rattle.ring_table.specs.{declared.claim.StagedClaim.StagedClaim, Owners.insert_claim, Owners.interleaved}
 use Rattle.ring_table.specs.Staged.{AreAbove, AreRising}
 
 -- the third list has those of the first and of the second, each in their order

@@ -1,10 +1,8 @@
 -- Numbers drawn, modulo 2^64: numbers below it are the same.
 use Rattle.std.proofs.Common.{◌≡◌, ℕ, ◌<◌, ◌≤◌, ◌%◌, ◌^◌, List, [], ◌∷◌, ◌++◌, refl, ap, arith}
 use Rattle.ring_layout.specs.Lists.{total}
-use Rattle.ring_table.specs.declared.view.Service.{Service}
-use Rattle.ring_table.specs.Services.{times}
-use Rattle.ring_service.specs.Asking.{drawn_in}
-use Rattle.ring_service.proofs.DrawLemmas.{same_one}
+use Rattle.ring_table.specs.{declared.view.Service.Service, Services.times}
+use Rattle.ring_service.{specs.Asking.drawn_in, proofs.DrawLemmas.same_one}
 
 abbrev pub reduced : List ℕ → List ℕ
 reduced [] = []

@@ -1,21 +1,13 @@
 -- What a client's calls keep of its producer: claims whose places rise, its draws, and the producers joined into it.
 use Rattle.std.proofs.Common.{true, ◌≡◌, ◌∙◌, ℕ, zero, suc, ◌≤◌, ℤ, List, [], ◌∷◌, ◌++◌, length, Result, Ok, Err, IfErr, OnOk, inl, inr, sym, ap, subst, arith}
-use mathlib.Core.Option.{some-injective, some-ne-none}
-use lib.ListN.{get_elem?}
-use Rattle.ring_layout.specs.History.{span}
-use Rattle.ring_layout.proofs.PlaceLemmas.{next_le}
-use Rattle.ring_table.specs.declared.claim.StagedClaim.{StagedClaim}
-use Rattle.ring_table.specs.declared.view.ProducerView.{ProducerView}
-use Rattle.ring_table.specs.declared.view.Service.{Service}
-use Rattle.ring_table.specs.declared.view.View.{View}
-use Rattle.ring_table.specs.ProducerSteps.{EndBelow}
-use Rattle.ring_table.specs.Services.{once_below, times, times_drawn}
-use Rattle.ring_table.specs.Staged.{AreRising, claim_end}
+use Rattle.std.proofs.Math.{Option.some-injective, Option.some-ne-none, ListN.get_elem?}
+use Rattle.ring_layout.{specs.History.span, proofs.PlaceLemmas.next_le}
+use Rattle.ring_table.specs.{declared.claim.StagedClaim.StagedClaim, Staged.AreRising, Staged.claim_end}
+use Rattle.ring_table.specs.declared.view.{ProducerView.ProducerView, Service.Service, View.View}
+use Rattle.ring_table.specs.{ProducerSteps.EndBelow, Services.once_below, Services.times, Services.times_drawn}
 use Rattle.ring_rings.specs.Claiming.{Contends, RefusesTry, Writes, record_behind}
-use Rattle.ring_rings.specs.declared.fault.TryFault.{TryFault}
-use Rattle.ring_rings.specs.declared.fault.TryFault.TheVariants.{Refused, Contended}
-use Rattle.ring_rings.specs.Joining.{Joins}
-use Rattle.ring_rings.proofs.RisingLemmas.{rising_more}
+use Rattle.ring_rings.specs.declared.fault.TryFault.{TryFault, TheVariants.Refused, TheVariants.Contended}
+use Rattle.ring_rings.{specs.Joining.Joins, proofs.RisingLemmas.rising_more}
 use Rattle.ring_service.specs.declared.client.SendFault.{SendFault}
 use Rattle.ring_service.specs.declared.client.SendFault.TheVariants as fault
 use Rattle.ring_service.specs.Asking.{drawn_in, IsSendable, RefusesAs, SendsAs}

@@ -1,37 +1,23 @@
 -- Commands and replies begin with their correlation id: each reply has that of its command.
-use Rattle.std.proofs.Common.{◌≡◌, ◌∙◌, ℕ, ◌+◌, ◌-◌, ◌<◌, ◌^◌, ◌==◌, Bool, true, false, cond, if◌then◌else◌, List, [], ◌∷◌, ◌++◌, length, take, drop, append_assoc, Option, Some, None, Result, Ok, Err, refl, sym, ap, arith}
-use Rattle.std.specs.Prelude.{nat_lt}
-use Rattle.std.specs.Int.{from_le_bytes, w64}
-use Rattle.std.proofs.lemmas.List.{append-nil}
-use Rattle.ring_layout.specs.declared.message.Message.{Message}
-use Rattle.ring_layout.specs.declared.message.ClaimState.TheVariants.{Committed}
-use Rattle.ring_table.specs.declared.claim.StagedClaim.{StagedClaim}
-use Rattle.ring_table.specs.declared.claim.Stage.{Stage}
-use Rattle.ring_table.specs.declared.claim.Stage.TheVariants.{Stored}
+use Rattle.std.proofs.Common.{◌≡◌, ◌∙◌, ℕ, ◌+◌, ◌-◌, ◌<◌, ◌^◌, ◌==◌, Bool, true, false, cond, if◌then◌else◌, List, [], ◌∷◌, ◌++◌, length, take, drop, append_assoc, Option, Some, None, Result, Ok, Err, refl, sym, ap, arith, nat_lt, w64, append-nil}
+use Rattle.std.specs.Int.{from_le_bytes}
+use Rattle.ring_layout.specs.declared.message.{Message.Message, ClaimState.TheVariants.Committed}
+use Rattle.ring_table.specs.declared.claim.{StagedClaim.StagedClaim, Stage.Stage, Stage.TheVariants.Stored}
 use Rattle.ring_table.specs.Owners.{insert_claim, interleaved}
-use Rattle.ring_table.specs.Passing.{placed_committed_of, placed_message, shown_at}
-use Rattle.ring_table.specs.Services.{times}
+use Rattle.ring_table.specs.{Passing.placed_committed_of, Passing.placed_message, Passing.shown_at, Services.times}
 use Rattle.ring_rings.specs.Reading.{messages_of}
-use Rattle.ring_counters.specs.declared.fault.AllocateRefused.{AllocateRefused}
-use Rattle.ring_counters.specs.declared.fault.IdFault.{IdFault}
-use Rattle.ring_counters.specs.declared.values.view.ValueWrite.{ValueWrite}
-use Rattle.ring_counters.specs.Counter.{Counter}
+use Rattle.ring_counters.specs.declared.fault.{AllocateRefused.AllocateRefused, IdFault.IdFault}
+use Rattle.ring_counters.specs.{declared.values.view.ValueWrite.ValueWrite, Counter.Counter, Views.value_write}
 use Rattle.ring_counters.specs.Registry.{Registry, allocation_of, closed_in, id_refusal_of, new_counter, owned_ids, reclaimed_in, with_value}
-use Rattle.ring_counters.specs.Views.{value_write}
-use Rattle.ring_protocol.specs.declared.reply.Reply.{Reply}
+use Rattle.ring_protocol.specs.{declared.reply.Reply.Reply, declared.command.Request.Request, Command.Instruction}
 use Rattle.ring_protocol.specs.declared.reply.Reply.TheVariants as told
-use Rattle.ring_protocol.specs.Bad.{correlation_of}
-use Rattle.ring_protocol.specs.declared.command.Request.{Request}
+use Rattle.ring_protocol.{specs.Bad.correlation_of, proofs.ReadCommands.spelled_again, proofs.Readers.u64_reader}
 use Rattle.ring_protocol.specs.declared.command.Request.TheVariants.{Allocate, AllocateOwned, Close, Free, Set}
-use Rattle.ring_protocol.specs.Command.{Instruction}
 use Rattle.ring_protocol.specs.Command as command
-use Rattle.ring_protocol.specs.Field.{i32_field, u32_field, u64_at, u64_field}
+use Rattle.ring_protocol.specs.{Field.i32_field, Field.u32_field, Field.u64_at, Field.u64_field, Codes.bad_owner_code}
 use Rattle.ring_protocol.specs.Reply as reply
-use Rattle.ring_protocol.proofs.ReadCommands.{spelled_again}
-use Rattle.ring_protocol.proofs.Readers.{u64_reader}
 use Rattle.ring_service.specs.Account.{Account, account_of, entered, reply_message, untimed}
 use Rattle.ring_service.specs.Applied.{allocated, applied, done_unless, obeyed, obeyed_if_read, refused}
-use Rattle.ring_protocol.specs.Codes.{bad_owner_code}
 
 -- the correlation id that a message begins with
 abbrev pub stamp : Message → ℕ

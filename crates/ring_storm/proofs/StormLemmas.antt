@@ -1,53 +1,28 @@
 -- What a storm counts.
-use Rattle.std.proofs.Common.{◌≡◌, ℕ, ◌+◌, ◌*◌, ◌≤◌, List, [], ◌∷◌, ◌++◌, ◌/◌, ◌<◌, length, length-append, max, refl, sym, ap, ◌∙◌, subst, inl, inr, arith}
-use Rattle.std.specs.Int.{IsPowerOfTwo}
-use Rattle.std.proofs.lemmas.List.{append-nil, length-replicate}
-use Rattle.std.proofs.lemmas.Bool.{cases_lt}
-use Rattle.ring_layout.specs.declared.message.Claim.{Claim}
-use Rattle.ring_layout.specs.declared.message.Message.{Message}
+use Rattle.std.proofs.Common.{◌≡◌, ℕ, ◌+◌, ◌*◌, ◌≤◌, List, [], ◌∷◌, ◌++◌, ◌/◌, ◌<◌, length, length-append, max, refl, sym, ap, ◌∙◌, subst, inl, inr, arith, append-nil}
+use Rattle.std.{specs.Int.IsPowerOfTwo, proofs.lemmas.List.length-replicate, proofs.lemmas.Bool.cases_lt}
+use Rattle.ring_layout.specs.{declared.message.Claim.Claim, declared.message.Message.Message, History.committed_of}
 use Rattle.ring_layout.specs.declared.message.ClaimState.TheVariants.{Open, Committed, Aborted}
-use Rattle.ring_layout.specs.History.{committed_of}
-use Rattle.ring_words.specs.Drain.{AllSettled}
-use Rattle.ring_words.specs.Ring.{Ring, Has}
-use Rattle.ring_table.specs.declared.claim.PlacedMessage.{PlacedMessage}
-use Rattle.ring_table.specs.declared.claim.StagedClaim.{StagedClaim}
-use Rattle.ring_table.specs.declared.claim.Stage.{Stage}
-use Rattle.ring_table.specs.declared.claim.Stage.TheVariants.{Moved, Padded, Stored}
-use Rattle.ring_table.specs.declared.view.View.{View}
-use Rattle.ring_table.specs.Passing.{placed_committed_of, placed_message, shown_at}
-use Rattle.ring_table.specs.Staged.{unplaced}
-use Rattle.ring_table.specs.declared.view.Service.{Service}
-use Rattle.ring_table.specs.OpenClaims.{open_count}
-use Rattle.ring_table.specs.Services.{once_below}
-use Rattle.ring_table.proofs.LawLemmas.{none_open}
-use Rattle.ring_rings.specs.Closing.{HandsOut}
-use Rattle.ring_board.specs.declared.shared.view.Joined.{Joined}
-use Rattle.ring_board.specs.declared.shared.view.Record.{Record}
-use Rattle.ring_board.specs.Runs.{AreAllRuns}
-use Rattle.ring_rings.specs.Reading.{messages_of}
-use Rattle.ring_counters.specs.declared.values.view.ValueWrite.{ValueWrite}
-use Rattle.ring_counters.specs.Counter.{unused_counter}
+use Rattle.ring_words.specs.{Drain.AllSettled, Ring.Ring, Ring.Has}
+use Rattle.ring_table.specs.declared.claim.{PlacedMessage.PlacedMessage, StagedClaim.StagedClaim}
+use Rattle.ring_table.specs.declared.claim.Stage.{Stage, TheVariants.Moved, TheVariants.Padded, TheVariants.Stored}
+use Rattle.ring_table.specs.{declared.view.View.View, declared.view.Service.Service, OpenClaims.open_count}
+use Rattle.ring_table.specs.{Passing.placed_committed_of, Passing.placed_message, Passing.shown_at, Services.once_below}
+use Rattle.ring_table.{specs.Staged.unplaced, proofs.LawLemmas.none_open}
+use Rattle.ring_rings.specs.{Closing.HandsOut, Reading.messages_of, Ring.sent_in, Ring.IsWhole}
+use Rattle.ring_board.specs.{declared.shared.view.Joined.Joined, declared.shared.view.Record.Record, Runs.AreAllRuns}
+use Rattle.ring_counters.specs.{declared.values.view.ValueWrite.ValueWrite, Counter.unused_counter}
 use Rattle.ring_counters.specs.Registry.{Registry, count_of, fresh_registry, live_of}
-use Rattle.ring_service.specs.declared.conductor.Work.{Work}
-use Rattle.ring_storm.specs.declared.plan.StormPlan.{StormPlan}
-use Rattle.ring_storm.specs.declared.plan.StormReport.{StormReport}
-use Rattle.ring_service.specs.Applied.{applied}
-use Rattle.ring_service.specs.Account.{IsFoldOf, messages_in}
-use Rattle.ring_service.specs.Conducting.{Works}
-use Rattle.ring_rings.specs.Ring.{sent_in, IsWhole}
+use Rattle.ring_service.specs.{declared.conductor.Work.Work, Fold.Ledger, Fold.fold_of, Fold.at_moment, Fold.served}
+use Rattle.ring_storm.specs.declared.plan.{StormPlan.StormPlan, StormReport.StormReport}
+use Rattle.ring_service.specs.{Applied.applied, Account.IsFoldOf, Account.messages_in, Conducting.Works}
 use Rattle.ring_service.specs.Asking.{drawn_in}
-use Rattle.ring_storm.specs.Turns.{AreAllTurns}
+use Rattle.ring_storm.{specs.Turns.AreAllTurns, proofs.TurnLemmas.nothing}
 use Rattle.ring_storm.specs.Storming.{IsBoardFor, IsPlan, IsReportBy, all_commands, counters_after, storm_counters, sum_of}
-use Rattle.ring_service.specs.Fold.{Ledger, fold_of, at_moment, served}
 use Rattle.ring_protocol.specs.Reading.{command_of}
-use Rattle.ring_rings.proofs.SentLemmas.{messages_of-append}
-use Rattle.ring_service.proofs.FinishLemmas.{drained}
-use Rattle.ring_rings.proofs.ReceivedLemmas.{lengths}
-use Rattle.ring_service.proofs.SizeLemmas.{reads}
-use Rattle.ring_service.proofs.DrawLemmas.{all_drawn}
-use Rattle.ring_storm.proofs.LiveLemmas.{storm_live}
-use Rattle.ring_storm.proofs.SumLemmas.{all_draws, storm_own, storm_sum}
-use Rattle.ring_storm.proofs.TurnLemmas.{nothing}
+use Rattle.ring_rings.proofs.{SentLemmas.messages_of-append, ReceivedLemmas.lengths}
+use Rattle.ring_service.proofs.{FinishLemmas.drained, SizeLemmas.reads, DrawLemmas.all_drawn}
+use Rattle.ring_storm.proofs.{LiveLemmas.storm_live, SumLemmas.all_draws, SumLemmas.storm_own, SumLemmas.storm_sum}
 
 -- The counters -----------------------------------------------------------------
 

@@ -1,34 +1,24 @@
 -- The sum of the counters after a storm: each client's counter has the last number that it set.
-use Rattle.std.proofs.Common.{◌≡◌, ◌∙◌, ℕ, zero, suc, ◌+◌, ◌-◌, ◌*◌, ◌<◌, ◌≤◌, ◌^◌, ◌%◌, ◌==◌, Bool, true, false, if◌then◌else◌, ◌+ℤ◌, pos, List, [], ◌∷◌, ◌++◌, length, fold, map, min, replicate, inl, inr, refl, sym, ap, subst, arith}
-use Rattle.std.specs.Prelude.{filter, slice_index_or}
-use Rattle.std.specs.Int.{saturate_signed, w64}
-use Rattle.std.proofs.Math.IntN.{ℤ_set}
-use Rattle.std.proofs.Math.Logic.{∥∥₁_elim, ∥∥₁_map}
-use Rattle.std.proofs.lemmas.Bool.{cases_lt}
+use Rattle.std.proofs.Common.{◌≡◌, ◌∙◌, ℕ, zero, suc, ◌+◌, ◌-◌, ◌*◌, ◌<◌, ◌≤◌, ◌^◌, ◌%◌, ◌==◌, Bool, true, false, if◌then◌else◌, ◌+ℤ◌, pos, List, [], ◌∷◌, ◌++◌, length, fold, map, min, replicate, inl, inr, refl, sym, ap, subst, arith, filter, slice_index_or, w64}
+use Rattle.std.specs.Int.{saturate_signed}
+use Rattle.std.proofs.{Math.IntN.ℤ_set, Math.Logic.∥∥₁_elim, Math.Logic.∥∥₁_map, lemmas.Bool.cases_lt}
 use Rattle.std.proofs.lemmas.List.{get_or-replicate, get_or_past, length-map, length-replicate}
-use Rattle.ring_layout.specs.declared.message.Message.{Message}
-use Rattle.ring_table.specs.declared.claim.StagedClaim.{StagedClaim}
-use Rattle.ring_table.specs.declared.view.Service.{Service}
-use Rattle.ring_table.specs.Passing.{placed_committed_of}
-use Rattle.ring_table.specs.Services.{once_below, times}
+use Rattle.ring_layout.{specs.declared.message.Message.Message, proofs.Sums.total-append}
+use Rattle.ring_table.specs.declared.{claim.StagedClaim.StagedClaim, view.Service.Service}
+use Rattle.ring_table.specs.{Passing.placed_committed_of, Services.once_below, Services.times}
 use Rattle.ring_rings.specs.Reading.{messages_of}
-use Rattle.ring_board.specs.declared.shared.view.Joined.{Joined}
-use Rattle.ring_board.specs.declared.shared.view.Record.{Record}
-use Rattle.ring_board.specs.Runs.{AreAllRuns}
-use Rattle.ring_counters.specs.declared.values.view.ValueWrite.{ValueWrite}
-use Rattle.ring_counters.specs.Counter.{Counter, unused_counter}
+use Rattle.ring_board.specs.{declared.shared.view.Joined.Joined, declared.shared.view.Record.Record, Runs.AreAllRuns}
+use Rattle.ring_counters.specs.{declared.values.view.ValueWrite.ValueWrite, Counter.Counter, Counter.unused_counter}
 use Rattle.ring_counters.specs.Registry.{Registry, count_of, counter_at, fresh_registry, ids_of, live_ids, live_of, value_at}
 use Rattle.ring_service.specs.Account.{Account, IsFoldOf, account_of, fresh_account, messages_in, untimed}
 use Rattle.ring_storm.specs.Storming.{sum_of, with_value_of, HasOwnCounter}
 use Rattle.ring_service.specs.Asking.{drawn_in}
 use Rattle.ring_storm.specs.Turns.{AreAllTurns, AreTurns, ClientHistory, last_set, turn_of}
-use Rattle.ring_layout.proofs.Sums.{total-append}
 use Rattle.ring_service.proofs.DrawLemmas.{all_drawn, drawn_below, draws_in, one_at_most}
-use Rattle.ring_storm.proofs.HoldLemmas.{Ends, Holds, all_done}
+use Rattle.ring_storm.proofs.{HoldLemmas.Ends, HoldLemmas.Holds, HoldLemmas.all_done, TurnLemmas.drew_all}
 use Rattle.ring_storm.proofs.LiveLemmas.{HasLive, all_ask, fresh, is_live, live_counted}
 use Rattle.ring_storm.proofs.OrderLemmas.{Has, at_first, runs_heard, turn_says_in}
 use Rattle.ring_storm.proofs.ReducedLemmas.{drawn_reduced, none_reduced, reduced, reduced-append}
-use Rattle.ring_storm.proofs.TurnLemmas.{drew_all}
 use Rattle.ring_storm.proofs.StampLemmas.{Each, IsSaid, all_stamped, command_begins, each_behind, each_interleaved, messages_by, messages_by-append, stamp, stamped, stamped_interleaved, stamps, stamps-append}
 
 -- Correlation ids ------------------------------------------------------------------------

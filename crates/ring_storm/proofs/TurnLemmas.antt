@@ -1,20 +1,13 @@
 -- What a client's calls add to its claims and its copies.
-use Rattle.std.proofs.Common.{◌≡◌, ◌∙◌, ℕ, zero, suc, ◌+◌, ◌≤◌, List, [], ◌∷◌, ◌++◌, append_assoc, Bool, true, true≢false, Option, Some, None, is_some, OnSome, Result, Ok, Err, IfErr, OnOk, is_ok, add-one, length, length-append, inl, inr, refl, sym, ap, subst, arith}
+use Rattle.std.proofs.Common.{◌≡◌, ◌∙◌, ℕ, zero, suc, ◌+◌, ◌≤◌, List, [], ◌∷◌, ◌++◌, append_assoc, Bool, true, true≢false, Option, Some, None, is_some, OnSome, Result, Ok, Err, IfErr, OnOk, is_ok, add-one, length, length-append, inl, inr, refl, sym, ap, subst, arith, append-nil}
 use Rattle.std.specs.Bool.{OnFalse, OnTrue}
-use Rattle.std.proofs.lemmas.List.{append-nil}
-use Rattle.ring_table.specs.declared.claim.StagedClaim.{StagedClaim}
-use Rattle.ring_table.specs.declared.view.View.{View}
-use Rattle.ring_table.specs.declared.view.Service.{Service}
-use Rattle.ring_table.specs.Owners.{interleaved}
-use Rattle.ring_table.specs.Staged.{AreRising}
-use Rattle.ring_board.specs.declared.shared.view.Joined.{Joined}
-use Rattle.ring_board.specs.Views.{Sat}
+use Rattle.ring_table.specs.declared.{claim.StagedClaim.StagedClaim, view.View.View, view.Service.Service}
+use Rattle.ring_table.specs.{Owners.interleaved, Staged.AreRising}
+use Rattle.ring_board.specs.{declared.shared.view.Joined.Joined, Views.Sat}
 use Rattle.ring_rings.specs.Claiming.{RefusesTry, Writes, record_behind}
-use Rattle.ring_rings.specs.declared.fault.TryFault.{TryFault}
-use Rattle.ring_rings.specs.declared.fault.TryFault.TheVariants.{Refused, Contended}
-use Rattle.ring_service.specs.declared.client.Polled.{Polled}
+use Rattle.ring_rings.specs.declared.fault.TryFault.{TryFault, TheVariants.Refused, TheVariants.Contended}
+use Rattle.ring_service.specs.declared.client.{Polled.Polled, SendFault.SendFault}
 use Rattle.ring_service.specs.declared.client.Polled.TheVariants.{Answered, Another, NoReply, Nothing, Lapped}
-use Rattle.ring_service.specs.declared.client.SendFault.{SendFault}
 use Rattle.ring_service.specs.declared.client.SendFault.TheVariants as fault
 use Rattle.ring_service.specs.Asking.{IsHeard, IsSendable, RefusesAs, SendsAs}
 use Rattle.ring_protocol.specs.Command.{LentRequest as Request, Instruction, asked, spelling_of, type_id_of}

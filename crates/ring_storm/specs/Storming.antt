@@ -1,52 +1,29 @@
 -- The words of clauses for a storm.
 use Rattle.std.specs.Prelude.{◌≡◌, ◌⊎◌, ℕ, ◌+◌, ◌*◌, ◌/◌, ◌<◌, ◌≤◌, ◌^◌, ℤ, pos, ◌+ℤ◌, IsTrue, List, [], ◌∷◌, ◌++◌, fold, length, nat_lt, if◌then◌else◌, Option, None, Some, unwrap_or}
 use Rattle.std.specs.Int.{is_power_of_two, IsPowerOfTwo, saturate_signed, w64}
-use Rattle.ring_layout.specs.declared.message.Message.{Message}
-use Rattle.ring_layout.specs.Refusals.{all_shares}
-use Rattle.ring_table.specs.declared.claim.StagedClaim.{StagedClaim}
-use Rattle.ring_table.specs.declared.view.Service.{Service}
-use Rattle.ring_table.specs.Owners.{interleaved}
-use Rattle.ring_table.specs.Passing.{placed_committed_of}
-use Rattle.ring_table.specs.ProducerSteps.{EndBelow}
-use Rattle.ring_table.specs.Services.{once_below}
-use Rattle.ring_table.specs.Staged.{AreRising}
-use Rattle.ring_rings.specs.declared.ring.Ring.{Ring}
-use Rattle.ring_rings.specs.declared.bodies.Bodies.{Ghosts}
-use Rattle.ring_rings.specs.Closing.{AreOrdered}
-use Rattle.ring_rings.specs.declared.ring.Producer.{Producer}
-use Rattle.ring_rings.specs.Reading.{messages_of}
+use Rattle.ring_layout.specs.{declared.message.Message.Message, Refusals.all_shares}
+use Rattle.ring_table.specs.{declared.claim.StagedClaim.StagedClaim, declared.view.Service.Service, Services.once_below}
+use Rattle.ring_table.specs.{Owners.interleaved, Passing.placed_committed_of, ProducerSteps.EndBelow, Staged.AreRising}
+use Rattle.ring_rings.specs.declared.{ring.Ring.Ring, bodies.Bodies.Ghosts, ring.Producer.Producer}
+use Rattle.ring_rings.specs.{Closing.AreOrdered, Reading.messages_of}
 use Rattle.ring_rings.specs.Seats.{capacity_of, claims_of, open_claims_of, seen_tail_of, shares_of, start_of, IsConsumerOf, IsProducerOf}
-use Rattle.ring_board.specs.declared.board.Board.{Board}
-use Rattle.ring_board.specs.declared.shared.view.Joined.{Joined}
-use Rattle.ring_board.specs.declared.shared.view.Record.{Record}
-use Rattle.ring_board.specs.Closing.{closed_capacity}
-use Rattle.ring_board.specs.Runs.{AreAllRuns}
-use Rattle.ring_board.specs.Seats.{IsReceiverOf, receiver_view, shares_of as board_shares}
-use Rattle.ring_board.specs.Views.{as_joined}
-use Rattle.ring_counters.specs.declared.values.view.ValueWrite.{ValueWrite}
-use Rattle.ring_counters.specs.declared.values.seats.CounterValues.{CounterValues}
-use Rattle.ring_counters.specs.Counter.{Counter}
-use Rattle.ring_counters.specs.Manager.{registry_of, writes_of}
+use Rattle.ring_board.specs.declared.{board.Board.Board, shared.view.Joined.Joined, shared.view.Record.Record}
+use Rattle.ring_board.specs.{Closing.closed_capacity, Views.as_joined}
+use Rattle.ring_board.specs.{Runs.AreAllRuns, Seats.IsReceiverOf, Seats.receiver_view, Seats.shares_of as board_shares}
+use Rattle.ring_counters.specs.declared.values.{view.ValueWrite.ValueWrite, seats.CounterValues.CounterValues}
+use Rattle.ring_counters.specs.{Counter.Counter, Manager.registry_of, Manager.writes_of}
 use Rattle.ring_counters.specs.Registry.{Registry, counter_at, fresh_registry, is_allocated, live_of, status_at, value_at}
-use Rattle.ring_service.specs.declared.conductor.Conductor.{Conductor}
-use Rattle.ring_service.specs.declared.finishing.Finished.{Finished}
-use Rattle.ring_storm.specs.declared.seats.Failure.{Failure}
+use Rattle.ring_service.specs.declared.{conductor.Conductor.Conductor, finishing.Finished.Finished}
+use Rattle.ring_storm.specs.declared.{seats.Failure.Failure, seats.StormEnd.StormEnd, shared.Shared.Shared}
 use Rattle.ring_storm.specs.declared.seats.Failure.TheVariants as fails
 use Rattle.ring_storm.specs.declared.conductor.ConductorEnd.{ConductorEnd}
-use Rattle.ring_storm.specs.declared.plan.StormFault.{StormFault}
+use Rattle.ring_storm.specs.declared.plan.{StormFault.StormFault, StormPlan.StormPlan, StormReport.StormReport}
 use Rattle.ring_storm.specs.declared.plan.StormFault.TheVariants.{BadPlan, OutOfMemory, TurnsSpent}
-use Rattle.ring_storm.specs.declared.plan.StormPlan.{StormPlan}
-use Rattle.ring_storm.specs.declared.plan.StormReport.{StormReport}
-use Rattle.ring_storm.specs.declared.seats.StormClient.{StormClient}
-use Rattle.ring_storm.specs.declared.seats.Endpoints.{Endpoints}
-use Rattle.ring_storm.specs.declared.seats.LevelEnd.{LevelEnd}
-use Rattle.ring_storm.specs.declared.seats.StormEnd.{StormEnd}
-use Rattle.ring_storm.specs.declared.shared.Shared.{Shared}
-use Rattle.ring_service.specs.Applied.{applied}
+use Rattle.ring_storm.specs.declared.seats.{StormClient.StormClient, Endpoints.Endpoints, LevelEnd.LevelEnd}
+use Rattle.ring_service.specs.{Applied.applied, Account.IsFoldOf, Account.messages_in}
 use Rattle.ring_service.specs.Asking.{draws_of, producer_of, receiver_of, service_of, services_of, drawn_in}
 use Rattle.ring_service.specs.Conducting.{IsConductorOf, manager_in, received_of, transmitter_of, value_shares_of}
 use Rattle.ring_service.specs.Finishing.{HandsOn, Headline, claims_in, joined_by, joined_in, received_in, replies_in, services_in}
-use Rattle.ring_service.specs.Account.{IsFoldOf, messages_in}
 use Rattle.ring_storm.specs.Turns.{AreAllTurns, AreAnswered, ClientHistory, claims_by, copies_by, draws_by, label_of, last_set}
 
 -- The plan ---------------------------------------------------------------------

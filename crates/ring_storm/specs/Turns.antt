@@ -2,21 +2,14 @@
 use Rattle.std.specs.Prelude.{◌≡◌, ℕ, zero, suc, ◌==◌, ◌%◌, ◌^◌, pos, if◌then◌else◌, List, [], ◌∷◌, ◌++◌, codes}
 use Rattle.std.specs.Fmt.{decimal}
 use Rattle.ring_layout.specs.declared.message.ClaimState.TheVariants.{Committed}
-use Rattle.ring_table.specs.declared.claim.StagedClaim.{StagedClaim}
-use Rattle.ring_table.specs.declared.claim.Stage.TheVariants.{Stored}
-use Rattle.ring_table.specs.Owners.{interleaved}
-use Rattle.ring_table.specs.Staged.{AreRising}
-use Rattle.ring_table.specs.declared.view.Service.{Service}
+use Rattle.ring_table.specs.declared.claim.{StagedClaim.StagedClaim, Stage.TheVariants.Stored}
+use Rattle.ring_table.specs.{Owners.interleaved, Staged.AreRising, declared.view.Service.Service}
 use Rattle.ring_rings.specs.Seats.{claims_of}
-use Rattle.ring_board.specs.declared.shared.view.Joined.{Joined}
-use Rattle.ring_board.specs.declared.shared.view.Taken.{Taken}
-use Rattle.ring_board.specs.Board.{copied}
+use Rattle.ring_board.specs.{declared.shared.view.Joined.Joined, declared.shared.view.Taken.Taken, Board.copied}
 use Rattle.ring_protocol.specs.declared.reply.Reply.{Reply}
 use Rattle.ring_protocol.specs.declared.reply.Reply.TheVariants.{Allocated, Done, Refused, Closed}
-use Rattle.ring_service.specs.declared.client.Client.{Client}
-use Rattle.ring_service.specs.Asking.{draws_of, producer_of, receiver_of}
-use Rattle.ring_protocol.specs.declared.command.Request.{Request}
-use Rattle.ring_protocol.specs.declared.command.Request.TheVariants.{Allocate, Set}
+use Rattle.ring_service.specs.{declared.client.Client.Client, Asking.draws_of, Asking.producer_of, Asking.receiver_of}
+use Rattle.ring_protocol.specs.declared.command.Request.{Request, TheVariants.Allocate, TheVariants.Set}
 use Rattle.ring_protocol.specs.Command.{Instruction, spelling_of, type_id_of, with_id}
 use Rattle.ring_protocol.specs.Reply as reply
 

@@ -1,7 +1,6 @@
 //! The conductor of a storm.
 ghost use Rattle.std.specs.Prelude.{◌≡◌, ◌+◌, ◌≤◌, IsTrue};
-ghost use Rattle.ring_storm.specs.Storming.{HasCounters, IsConductorAt, IsPlan, KeepsReceivers};
-ghost use Rattle.ring_storm.specs.Storming.{all_commands, taken_by};
+ghost use Rattle.ring_storm.specs.Storming.{HasCounters, IsConductorAt, IsPlan, KeepsReceivers, all_commands, taken_by};
 
 use crate::shared::Shared;
 use crossbeam_utils::Backoff;

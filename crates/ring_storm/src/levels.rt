@@ -2,8 +2,7 @@
 ghost use Rattle.std.specs.Prelude.{◌≡◌, ◌+◌, ◌<◌, ◌≤◌, [], None, Some};
 ghost use Rattle.ring_storm.specs.declared.seats.Failure.TheVariants.{OutOfMemory};
 ghost use Rattle.ring_rings.specs.Seats.{shares_of, IsConsumerOf};
-ghost use Rattle.ring_service.specs.Conducting.{IsConductorOf};
-ghost use Rattle.ring_service.specs.Finishing.{joined_by};
+ghost use Rattle.ring_service.specs.{Conducting.IsConductorOf, Finishing.joined_by};
 ghost use Rattle.ring_storm.specs.Storming.{HasConducted, HasCounters, HasSeatsBack, HasWorked, IsClientAt};
 ghost use Rattle.ring_storm.specs.Storming.{IsClientOf, IsEndAt, IsFreshAt, IsNew, IsPlan, TakesSeats};
 ghost use Rattle.ring_storm.specs.Storming.{all_commands, board_shares_of, failure_after, taken_by};

@@ -1,11 +1,8 @@
 //! The report of a storm.
 ghost use Rattle.std.specs.Prelude.{◌≡◌, ◌≤◌, List, length};
-ghost use Rattle.ring_layout.specs.declared.message.Claim.{Claim};
-ghost use Rattle.ring_layout.specs.History.{committed_of};
-ghost use Rattle.ring_words.specs.Drain.{AllSettled};
-ghost use Rattle.ring_words.specs.Ring.{Has};
-ghost use Rattle.ring_counters.specs.Manager.{registry_of};
-ghost use Rattle.ring_counters.specs.Registry.{count_of, live_of};
+ghost use Rattle.ring_layout.specs.{declared.message.Claim.Claim, History.committed_of};
+ghost use Rattle.ring_words.specs.{Drain.AllSettled, Ring.Has};
+ghost use Rattle.ring_counters.specs.{Manager.registry_of, Registry.count_of, Registry.live_of};
 ghost use Rattle.ring_storm.specs.Storming.{sum_of};
 
 use crate::plan::StormReport;

@@ -1,7 +1,6 @@
 //! The clients and the conductor of a storm, with their seats.
 ghost use Rattle.std.specs.Prelude.{◌≡◌, ◌≢◌};
-ghost use Rattle.ring_storm.specs.declared.plan.StormFault.TheVariants.{BadPlan};
-ghost use Rattle.ring_storm.specs.Storming.{fault_of};
+ghost use Rattle.ring_storm.specs.{declared.plan.StormFault.TheVariants.BadPlan, Storming.fault_of};
 
 use crate::plan::StormFault;
 use ring_rings::Producer;

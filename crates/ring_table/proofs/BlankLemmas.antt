@@ -1,25 +1,19 @@
 -- Words that show headers alone, in the format: they show the same claims without bytes.
 use Rattle.std.proofs.Common.{◌≡◌, ◌≢◌, ℕ, ◌+◌, ◌-◌, ◌/◌, ◌%◌, ◌^◌, ◌≤◌, ◌<◌, pos, neg_ℤ, List, [], ◌∷◌, length, replicate, slice_index, sym, refl, ap, ◌∙◌, subst, ⊎_elim, lt-ltb, le-ltb, arith}
-use mathlib.Core.Logic.{dite}
-use native.Mathlib.Decide.{ℕ_discrete}
+use Rattle.std.proofs.Math.{Logic.dite, Decide.ℕ_discrete}
 use Rattle.std.proofs.lemmas.Bool.{cases_lt, cond-true, cond-false}
-use Rattle.std.proofs.lemmas.List.{length-replicate}
-use Rattle.std.proofs.lemmas.List.Elements.{All-replicate}
-use Rattle.std.proofs.lemmas.Nat.{mod_below}
-use Rattle.ring_layout.specs.declared.message.Message.{Message}
+use Rattle.std.proofs.lemmas.{List.length-replicate, List.Elements.All-replicate, Nat.mod_below}
+use Rattle.ring_layout.specs.{declared.message.Message.Message, Layout.head_index, Layout.tail_index}
 use Rattle.ring_layout.specs.declared.message.ClaimState.TheVariants.{Open, Committed, Aborted}
 use Rattle.ring_layout.specs.History.{IsMessage, span}
 use Rattle.ring_layout.specs.Headers.{header, header_of, padding_header, padding_type}
-use Rattle.ring_layout.specs.Layout.{head_index, tail_index}
 use Rattle.ring_layout.specs.Places.{IsCapacity, index, next_place, room}
-use Rattle.ring_layout.proofs.HeaderLemmas.{fits_neg}
-use Rattle.ring_layout.proofs.PlaceLemmas.{next_cases}
+use Rattle.ring_layout.proofs.{HeaderLemmas.fits_neg, PlaceLemmas.next_cases}
 use Rattle.ring_table.specs.Changes.{blank}
 use Rattle.ring_table.specs.Staged.{in_words, elsewhere, StagedClaim, Stage, Moved, Padded, Stored, claim_end, stage_state, staged_span, masked_padding, masked_record, padding_word, part_word, shown_header, staged_word, staged_word_at, ArePlaced, LiesAfter, staged_end, body_word}
 use Rattle.ring_table.specs.Rescued.{one_if_unsettled, silent_of, silent_bytes, unsettled_count, ShowsClaims}
-use Rattle.ring_table.proofs.BodyWords.{body_word-zeros}
+use Rattle.ring_table.proofs.{BodyWords.body_word-zeros, StagedPlaces.capacity_aligned, StagedPlaces.claim_aligned}
 use Rattle.ring_table.proofs.HeaderReads.{halves, high_half, type_below, shown_other, shown_padding}
-use Rattle.ring_table.proofs.StagedPlaces.{capacity_aligned, claim_aligned}
 use Rattle.ring_table.proofs.StagedWords.{staged_word-body, staged_word-header, staged_word-padding, staged_word-padding_behind}
 
 -- the claim with zeros for its bytes

@@ -1,21 +1,14 @@
 -- Where records lie: the slots of a record are side by side, and no two records from the head on share one.
 use Rattle.std.proofs.Common.{◌≡◌, ℕ, zero, suc, ◌+◌, ◌-◌, ◌*◌, ◌/◌, ◌%◌, ◌≤◌, ◌<◌, ◌⊎◌, List, [], ◌∷◌, length, sym, refl, ap, ◌∙◌, subst, inl, inr, ⊎_elim, arith}
-use mathlib.Core.Option.{Option, some, some-injective, some-ne-none}
-use lib.ListN.{get_elem?}
+use Rattle.std.proofs.Math.{Option.Option, Option.some, Option.some-injective, Option.some-ne-none, ListN.get_elem?}
 use Rattle.std.proofs.lemmas.Bool.{cases_lt}
-use Rattle.ring_layout.specs.History.{span}
-use Rattle.ring_layout.specs.Places.{index, next_place}
-use Rattle.ring_layout.proofs.Laps.{mod_step, apart}
-use Rattle.ring_layout.proofs.PlaceLemmas.{next_within}
+use Rattle.ring_layout.specs.{History.span, Places.index, Places.next_place}
+use Rattle.ring_layout.proofs.{Laps.mod_step, Laps.apart, PlaceLemmas.next_within}
 use Rattle.ring_table.specs.Staged.{Bodies, StagedClaim, PlacedMessage, claim_end, staged_span, ArePlaced}
-use Rattle.ring_table.specs.Owners.{OwnedHistory, all_of}
-use Rattle.ring_table.specs.Passing.{Reaches, IsSettled, placed_message}
-use Rattle.ring_table.specs.Views.{View}
-use Rattle.ring_table.specs.Rule.{Kept}
-use Rattle.ring_table.specs.SlotSteps.{words_of}
-use Rattle.ring_table.proofs.RangeLemmas.{Outside, AreHome}
+use Rattle.ring_table.specs.{Owners.OwnedHistory, Owners.all_of, Rule.Kept}
+use Rattle.ring_table.specs.{Passing.Reaches, Passing.IsSettled, Passing.placed_message, Views.View, SlotSteps.words_of}
+use Rattle.ring_table.proofs.{RangeLemmas.Outside, RangeLemmas.AreHome, ReachLemmas.none_of, ReachLemmas.shown_cases}
 use Rattle.ring_table.proofs.StagedPlaces.{capacity_aligned, start_aligned, lies_in, places_aligned, one_at_position}
-use Rattle.ring_table.proofs.ReachLemmas.{none_of, shown_cases}
 
 -- a record of n bytes is in the lap from the head on
 pub record BodyIn (C head place n : ℕ) : Type 0 where

@@ -1,14 +1,10 @@
 -- A word stored into a body.
-use Rattle.std.proofs.Common.{◌≡◌, ◌≢◌, ℕ, zero, suc, ◌+◌, ◌-◌, ◌%◌, ◌^◌, ◌≤◌, ◌<◌, List, ◌++◌, refl, take, drop, length, slice_index, sym, ap, ◌∙◌, arith, inl, inr, replicate, min}
-use Rattle.std.specs.Prelude.{All}
-use Rattle.std.specs.Int.{to_le_bytes, w64}
-use Rattle.std.proofs.lemmas.Bool.{cases_lt}
-use Rattle.std.proofs.lemmas.Nat.{from_le_bytes-to_le_bytes_8}
-use Rattle.std.proofs.lemmas.List.{length-take, length-drop, length-append, get_or_append_left, get_or-append_right, get_or-take, get_or-drop, get_or-replicate, get_or_past, length-replicate}
-use Rattle.std.proofs.lemmas.List.Elements.{All-append, All-take, All-drop}
+use Rattle.std.proofs.Common.{◌≡◌, ◌≢◌, ℕ, zero, suc, ◌+◌, ◌-◌, ◌%◌, ◌^◌, ◌≤◌, ◌<◌, List, ◌++◌, refl, take, drop, length, slice_index, sym, ap, ◌∙◌, arith, inl, inr, replicate, min, All, w64, length-take, length-drop, length-append, get_or-take, get_or-drop}
+use Rattle.std.{specs.Int.to_le_bytes, proofs.lemmas.Nat.from_le_bytes-to_le_bytes_8}
+use Rattle.std.proofs.lemmas.{Bool.cases_lt, List.Elements.All-append, List.Elements.All-take, List.Elements.All-drop}
+use Rattle.std.proofs.lemmas.List.{get_or_append_left, get_or-append_right, get_or-replicate, get_or_past, length-replicate}
 use Rattle.ring_layout.proofs.WordBytes.{from_le_bytes-same}
-use Rattle.ring_table.specs.Staged.{body_word}
-use Rattle.ring_table.specs.Changes.{with_word}
+use Rattle.ring_table.specs.{Staged.body_word, Changes.with_word}
 
 -- the bytes of the word, as far as the body goes
 part : ℕ → ℕ → List ℕ → List ℕ

@@ -1,27 +1,16 @@
 -- The steps as the functions call them: at the word that the code computes, under the capacity that the caller has.
 use Rattle.std.proofs.Common.{◌≡◌, ℕ, ◌+◌, ◌/◌, ◌≤◌, ◌<◌, ℤ, List, true, eqb, sym, refl, ap, ◌∙◌, subst, arith}
-use Rattle.atomic_table.specs.Seated.{TableId}
-use mathlib.Core.Option.{some}
-use lib.ListN.{get_elem?}
-use Rattle.atomic_table.specs.Table.{State, Allows}
-use Rattle.atomic_table.specs.declared.shared.Seat.{Seat}
-use Rattle.ring_layout.specs.declared.message.ClaimState.{ClaimState}
-use Rattle.ring_layout.specs.declared.message.ClaimState.TheVariants.{Open}
-use Rattle.ring_layout.specs.Headers.{header_of}
-use Rattle.ring_layout.specs.Places.{index}
+use Rattle.atomic_table.specs.{Seated.TableId, Table.State, Table.Allows, declared.shared.Seat.Seat}
+use Rattle.std.proofs.{Math.Option.some, Math.ListN.get_elem?, lemmas.Nat.mod_below}
+use Rattle.ring_layout.specs.declared.message.ClaimState.{ClaimState, TheVariants.Open}
+use Rattle.ring_layout.specs.{Headers.header_of, Places.index, Places.next_place, History.span}
 use Rattle.ring_table.specs.Staged.{PlacedMessage, Bodies, in_words, elsewhere, StagedClaim, Stage, Stored, IsStored, AreRising}
-use Rattle.ring_table.specs.Changes.{changed, staged, moved_claim}
+use Rattle.ring_table.specs.{Changes.changed, Changes.staged, Changes.moved_claim, Seats.IsSeatOf, Seats.IsSameSeat}
 use Rattle.ring_table.specs.Views.{Key, View, ConsumerView, with_claims, with_claim, with_consumer, stands_at}
-use Rattle.ring_layout.specs.Places.{next_place}
-use Rattle.ring_layout.specs.History.{span}
 use Rattle.ring_table.specs.ProducerSteps.{Mine, HasClaimAt, Changes, IsStagedOpen, StoresSettled, with_changed}
-use Rattle.ring_table.specs.Seats.{IsSeatOf, IsSameSeat}
-use Rattle.ring_table.proofs.LoadLemmas.{Ok}
-use Rattle.ring_table.proofs.StoreLemmas.{settles}
-use Rattle.ring_table.proofs.ShelfLemmas.{CarriesOn, CarriesIn}
+use Rattle.ring_table.proofs.{LoadLemmas.Ok, StoreLemmas.settles, ShelfLemmas.CarriesOn, ShelfLemmas.CarriesIn}
 use Rattle.ring_table.proofs.MarkSteps.{Obeys, Rests, RestsIn, SameReader, lift_any, rests_same}
 use Rattle.ring_table.proofs.CarryLemmas.{lift, carries_same, carries_on, carries_claim, carries_changed, one_claim}
-use Rattle.std.proofs.lemmas.Nat.{mod_below}
 
 -- the view is of the same ring, and has the same slots out
 pub record IsOf (v w : View) : Type 0 where

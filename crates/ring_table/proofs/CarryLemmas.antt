@@ -1,22 +1,14 @@
 -- What steps and seats leave of claims and of the read, as the shelf asks it.
 use Rattle.std.proofs.Common.{◌≡◌, ◌≢◌, ℕ, zero, suc, ◌≤◌, ◌<◌, ◌⊎◌, List, [], ◌∷◌, ◌++◌, Bool, true, false, cond, ltb, set, slice_index, sym, refl, ap, ◌∙◌, subst, inl, inr, ⊎_elim, arith}
-use mathlib.Core.Option.{Option, some, some-injective, some-ne-none}
-use mathlib.Core.Logic.{dite}
-use native.Mathlib.Decide.{ℕ_discrete}
-use lib.ListN.{get_elem?}
-use Rattle.std.proofs.lemmas.Bool.{false≢true}
+use Rattle.std.proofs.Math.{Option.Option, Option.some, Option.some-injective, Option.some-ne-none, Decide.ℕ_discrete}
+use Rattle.std.proofs.{Math.Logic.dite, Math.ListN.get_elem?, lemmas.Bool.false≢true}
 use Rattle.atomic_table.specs.Table.{State, carried_after, keeps, Allows, Splits, Joins}
 use Rattle.ring_table.specs.Staged.{Bodies, in_words, elsewhere, StagedClaim, IsStored, AreRising}
-use Rattle.ring_table.specs.Changes.{changed, changed_at, fresh_stage}
-use Rattle.ring_table.specs.Owners.{insert_claim, interleaved}
+use Rattle.ring_table.specs.{Changes.changed, Changes.changed_at, Changes.fresh_stage, Rule.Kept, Shelf.HasShelf}
+use Rattle.ring_table.specs.{Owners.insert_claim, Owners.interleaved, ProducerSteps.Mine, ProducerSteps.HasClaim}
 use Rattle.ring_table.specs.Views.{View, without_consumer, consumer_alone, with_consumer_of, without_share, producer_alone, with_producer_of, with_claims, with_claim, spent}
-use Rattle.ring_table.specs.ProducerSteps.{Mine, HasClaim}
-use Rattle.ring_table.specs.Rule.{Kept}
-use Rattle.ring_table.specs.Shelf.{HasShelf}
-use Rattle.ring_table.proofs.ListLemmas.{at_more}
-use Rattle.ring_table.proofs.HistoryLemmas.{changed_at_place, changed_at_other}
-use Rattle.ring_table.proofs.LawLemmas.{above_at}
-use Rattle.ring_table.proofs.LoadLemmas.{Ok}
+use Rattle.ring_table.proofs.{ListLemmas.at_more, LoadLemmas.Ok}
+use Rattle.ring_table.proofs.{HistoryLemmas.changed_at_place, HistoryLemmas.changed_at_other, LawLemmas.above_at}
 use Rattle.ring_table.proofs.ShelfLemmas.{IsAsWas, HasWas, CarriesOn, CarriesIn, stepped_shelf, parted_shelf, met_shelf}
 
 -- ---- views

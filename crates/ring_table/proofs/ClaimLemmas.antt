@@ -1,32 +1,19 @@
 -- The moves of the tail keep the rule.
-use Rattle.ring_table.specs.Staged.{Bodies}
-use Rattle.std.proofs.Common.{◌≡◌, ◌≢◌, ℕ, ◌+◌, ◌/◌, ◌^◌, ◌≤◌, ◌<◌, ℤ, FitsSigned, List, [], ◌∷◌, ◌++◌, eqb, set, slice_index, sym, refl, ap, ◌∙◌, subst, length, arith}
-use mathlib.Core.Option.{some, some-injective}
-use lib.ListN.{get_elem?}
+use Rattle.ring_table.specs.{Staged.Bodies, Staged.StagedClaim, Staged.claim_end, Staged.staged_end, Rule.Kept}
+use Rattle.std.proofs.Common.{◌≡◌, ◌≢◌, ℕ, ◌+◌, ◌/◌, ◌^◌, ◌≤◌, ◌<◌, ℤ, FitsSigned, List, [], ◌∷◌, ◌++◌, eqb, set, slice_index, sym, refl, ap, ◌∙◌, subst, length, arith, w32}
+use Rattle.std.proofs.{Math.Option.some, Math.Option.some-injective, Math.ListN.get_elem?, lemmas.List.length-replicate}
 use prog.Atomic.{either}
-use Rattle.atomic_table.specs.Table.{keeps, Allows}
-use Rattle.atomic_table.proofs.Lists.{exchanged, set_here}
-use Rattle.std.proofs.lemmas.List.{length-replicate}
-use Rattle.ring_layout.specs.History.{IsMessage, span}
-use Rattle.ring_layout.specs.Places.{next_place, end_after}
-use Rattle.ring_layout.specs.Layout.{tail_index}
-use Rattle.ring_layout.proofs.PlaceLemmas.{next_le}
-use Rattle.std.specs.Int.{w32}
-use Rattle.ring_layout.specs.Headers.{open_header}
-use Rattle.ring_table.proofs.HeaderWords.{one_type, one_length}
-use Rattle.ring_table.specs.Staged.{StagedClaim, claim_end, staged_end}
-use Rattle.ring_table.specs.Changes.{blank, moved_claim}
-use Rattle.ring_table.specs.Owners.{OwnedHistory, all_of}
+use Rattle.atomic_table.{specs.Table.keeps, specs.Table.Allows, proofs.Lists.exchanged, proofs.Lists.set_here}
+use Rattle.ring_layout.specs.{History.IsMessage, History.span, Places.next_place, Places.end_after, Headers.open_header}
+use Rattle.ring_layout.specs.{Layout.tail_index, Refusals.all_shares}
+use Rattle.ring_layout.proofs.{PlaceLemmas.next_le, ListLemmas.at_below}
+use Rattle.ring_table.proofs.{HeaderWords.one_type, HeaderWords.one_length, StagedWords.staged_word-fresh}
+use Rattle.ring_table.specs.{Changes.blank, Changes.moved_claim, Owners.OwnedHistory, Owners.all_of}
 use Rattle.ring_table.specs.Views.{Logs, View, Wanted, logged, with_producer, with_tail, with_claim}
-use Rattle.ring_table.specs.Rule.{Kept}
 use Rattle.ring_table.specs.ProducerSteps.{Mine, IsClaimable, MovesTail, MovesOwnTail}
-use Rattle.ring_table.proofs.StagedWords.{staged_word-fresh}
 use Rattle.ring_table.proofs.HistoryLemmas.{staged_end-append, owned_by-append, owned_by-append_other}
-use Rattle.ring_layout.proofs.ListLemmas.{at_below}
-use Rattle.ring_layout.specs.Refusals.{all_shares}
-use Rattle.ring_table.proofs.KnowLemmas.{knows_after}
+use Rattle.ring_table.proofs.{KnowLemmas.knows_after, MemoryLemmas.memory_appended, MemoryLemmas.service_elsewhere}
 use Rattle.ring_table.proofs.StepLemmas.{sole_sees_top, becomes}
-use Rattle.ring_table.proofs.MemoryLemmas.{memory_appended, service_elsewhere}
 use Rattle.ring_table.proofs.LoadLemmas.{Ok, May, sees, end_below, tail_position}
 
 -- a header gives what is wanted back

@@ -1,27 +1,17 @@
 -- The consumer clears what it has passed, and stores the head.
-use Rattle.ring_table.specs.Staged.{Bodies}
+use Rattle.ring_table.specs.{Staged.Bodies, Staged.PlacedMessage, Staged.staged_word_at, Rule.Kept, ProducerSteps.Mine}
 use Rattle.std.proofs.Common.{◌≡◌, ℕ, ◌+◌, ◌-◌, ◌/◌, ◌%◌, ◌≤◌, ◌<◌, List, [], ◌∷◌, ◌++◌, cond, ltb, true, set, get_or, slice_index, sym, refl, ap, ◌∙◌, subst, ⊎_elim, lt-ltb, le-ltb, length-set, get_or-set_other, get_or-set_same, arith}
-use mathlib.Core.Option.{some}
-use mathlib.Core.Logic.{dite}
-use native.Mathlib.Decide.{ℕ_discrete}
-use native.Mathlib.Nat.{add-mod_right}
-use lib.ListN.{get_elem?}
+use Rattle.std.proofs.Math.{Option.some, Logic.dite, Decide.ℕ_discrete, Nat.add-mod_right, ListN.get_elem?}
 use Rattle.std.proofs.lemmas.Bool.{cases_lt}
 use Rattle.atomic_table.specs.Table.{State, keeps, Allows}
-use Rattle.ring_layout.specs.Places.{index}
-use Rattle.ring_layout.specs.Layout.{tail_index, head_index}
-use Rattle.ring_table.specs.Staged.{PlacedMessage, staged_word_at}
-use Rattle.ring_table.specs.Owners.{OwnedHistory, all_of}
-use Rattle.ring_table.specs.Passing.{Reaches}
+use Rattle.ring_layout.specs.{Places.index, Layout.tail_index, Layout.head_index}
+use Rattle.ring_table.specs.{Owners.OwnedHistory, Owners.all_of, Passing.Reaches}
 use Rattle.ring_table.specs.Views.{ConsumerView, View, with_consumer, cleared_to, stands_at}
-use Rattle.ring_table.specs.Rule.{Kept}
-use Rattle.ring_table.specs.ProducerSteps.{Mine}
 use Rattle.ring_table.specs.ConsumerSteps.{LoadsPassed, ClearsWord, StoresHead, StoresHeadBefore}
 use Rattle.ring_table.proofs.StagedPlaces.{capacity_aligned, start_aligned, nothing_behind}
 use Rattle.ring_table.proofs.ReachLemmas.{reach_bounds, reach_aligned, back_before_last}
 use Rattle.ring_table.proofs.MemoryLemmas.{index_inside, not_inside, one_position}
-use Rattle.ring_table.proofs.LoadLemmas.{Ok, May, sees}
-use Rattle.ring_table.proofs.ConsumeLemmas.{consumed}
+use Rattle.ring_table.proofs.{LoadLemmas.Ok, LoadLemmas.May, LoadLemmas.sees, ConsumeLemmas.consumed}
 
 -- ---- the last of a list
 

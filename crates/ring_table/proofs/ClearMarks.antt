@@ -1,29 +1,19 @@
 -- The consumer stores the head in one step, which clears the headers that it has passed: their marks stay.
 use Rattle.std.proofs.Common.{◌≡◌, ℕ, zero, suc, ◌+◌, ◌-◌, ◌*◌, ◌/◌, ◌%◌, ◌≤◌, ◌<◌, List, [], ◌∷◌, ◌++◌, cond, true, set, slice_index, ⊎_elim, lt-ltb, sym, refl, ap, ◌∙◌, subst, length, length-set, get_or-set_other, arith}
-use mathlib.Core.Option.{some}
-use lib.ListN.{get_elem?}
+use Rattle.std.proofs.Math.{Option.some, ListN.get_elem?}
 use Rattle.atomic_table.specs.Table.{State, keeps, Allows}
 use Rattle.atomic_table.proofs.Lists.{set_here, set_again}
-use Rattle.ring_layout.specs.Places.{index}
-use Rattle.ring_layout.specs.Layout.{head_index}
-use Rattle.ring_layout.proofs.ListLemmas.{at_below}
-use Rattle.ring_table.specs.Staged.{PlacedMessage, elsewhere, staged_word_at}
-use Rattle.ring_table.specs.Owners.{OwnedHistory, all_of}
-use Rattle.ring_table.specs.Passing.{Reaches}
+use Rattle.ring_layout.{specs.Places.index, specs.Layout.head_index, proofs.ListLemmas.at_below}
+use Rattle.ring_table.specs.{Staged.PlacedMessage, Staged.elsewhere, Staged.staged_word_at, ProducerSteps.Mine}
+use Rattle.ring_table.specs.{Owners.OwnedHistory, Owners.all_of, Marks.mark_of, Marks.KeepsMarks, Marks.MayStop}
+use Rattle.ring_table.specs.{Passing.Reaches, Rule.Kept, ConsumerSteps.StoresHead, ConsumerSteps.StoresHeadBefore}
 use Rattle.ring_table.specs.Views.{ConsumerView, View, cleared_to, no_run, stands_at, with_consumer}
-use Rattle.ring_table.specs.Rule.{Kept}
-use Rattle.ring_table.specs.ProducerSteps.{Mine}
-use Rattle.ring_table.specs.ConsumerSteps.{StoresHead, StoresHeadBefore}
-use Rattle.ring_table.specs.Marks.{mark_of, KeepsMarks, MayStop}
-use Rattle.ring_table.proofs.StagedPlaces.{capacity_aligned, start_aligned}
+use Rattle.ring_table.proofs.{StagedPlaces.capacity_aligned, StagedPlaces.start_aligned, CarryLemmas.carries_on}
 use Rattle.ring_table.proofs.ReachLemmas.{reach_bounds, reach_aligned, back_before_last}
-use Rattle.ring_table.proofs.MemoryLemmas.{not_inside, one_position}
+use Rattle.ring_table.proofs.{MemoryLemmas.not_inside, MemoryLemmas.one_position, OutLemmas.set_twice}
 use Rattle.ring_table.proofs.ClearLemmas.{clears_at, one_end, stores_head_at}
-use Rattle.ring_table.proofs.ShelfLemmas.{stepped_shelf}
-use Rattle.ring_table.proofs.CarryLemmas.{carries_on}
-use Rattle.ring_table.proofs.OutLemmas.{set_twice}
+use Rattle.ring_table.proofs.{ShelfLemmas.stepped_shelf, MarkSteps.Marked, MarkSteps.header_near, MarkSteps.remarked_by}
 use Rattle.ring_table.proofs.EncodeLemmas.{encodes_risen, encodes_trailer, reads_risen, reads_trailer}
-use Rattle.ring_table.proofs.MarkSteps.{Marked, header_near, remarked_by}
 use Rattle.ring_table.proofs.RunLemmas.{begins_at, bound_at}
 
 module _ (C start : ℕ) (s : State ℕ View) (m : KeepsMarks C start s.words s.homes s.views) (id : ℕ) (v : View)

@@ -1,22 +1,14 @@
 -- What the last state of a closed ring says.
-use Rattle.ring_table.specs.Staged.{Bodies, in_words}
+use Rattle.ring_table.specs.Staged.{Bodies, in_words, StagedClaim, AreStored, staged_word_at, staged_end}
 use Rattle.std.proofs.Common.{◌≡◌, ◌≢◌, ℕ, ◌≤◌, List, ◌∷◌, cond, true, sym, ap, ◌∙◌, subst, ⊎_elim, length, le-ltb, arith}
-use mathlib.Core.Option.{some}
-use lib.ListN.{get_elem?}
-use Rattle.ring_layout.specs.Places.{end_of}
-use Rattle.ring_layout.specs.Picture.{word_at}
-use Rattle.ring_table.specs.Staged.{StagedClaim, AreStored, staged_word_at, staged_end}
-use Rattle.ring_table.specs.Owners.{OwnedHistory, all_of}
+use Rattle.std.proofs.Math.{Option.some, ListN.get_elem?}
+use Rattle.ring_layout.{specs.Places.end_of, specs.Picture.word_at, proofs.Sums.total-sole, specs.Refusals.all_shares}
+use Rattle.ring_table.specs.{Owners.OwnedHistory, Owners.all_of, Closed.IsClosed, Closed.restarted, Closed.LeavesRest}
 use Rattle.ring_table.specs.Services.{times_drawn, once_below, AreServed}
-use Rattle.ring_table.specs.Views.{ConsumerView, View}
+use Rattle.ring_table.{specs.Views.ConsumerView, specs.Views.View, proofs.ListLemmas.there_or_past}
 use Rattle.ring_table.specs.Rule.{IsLawful, IsMemory, IsService, IsIdle, Kept}
-use Rattle.ring_table.specs.Closed.{IsClosed, restarted, LeavesRest}
-use Rattle.ring_table.proofs.OwnerLemmas.{owned_by-sole}
+use Rattle.ring_table.proofs.{OwnerLemmas.owned_by-sole, StepLemmas.others_poor, StepLemmas.sole_sees_top}
 use Rattle.ring_table.proofs.RestLemmas.{end_of-claims_of, staged_word_at-claims_of, splits, stored_rest, claims_of-restarted}
-use Rattle.ring_layout.proofs.Sums.{total-sole}
-use Rattle.ring_layout.specs.Refusals.{all_shares}
-use Rattle.ring_table.proofs.ListLemmas.{there_or_past}
-use Rattle.ring_table.proofs.StepLemmas.{others_poor, sole_sees_top}
 
 -- what the last state says, of any ring
 pub record Closes (B : Bodies) (C start : ℕ) (words : List ℕ) (v : View) : Type 0 where

@@ -1,34 +1,19 @@
 -- A closed ring whose bodies lie in slots: its parts, and the words that are made of them.
 use Rattle.std.proofs.Common.{◌≡◌, ℕ, zero, suc, ◌+◌, ◌-◌, ◌*◌, ◌≤◌, ◌<◌, ◌⊎◌, List, [], ◌∷◌, cond, length, slice_index, refl, sym, ap, ◌∙◌, subst, ⊎_elim, le-ltb, arith}
-use mathlib.Core.Option.{Option, some, some-injective, some-ne-none}
-use mathlib.Core.Logic.{dite}
-use native.Mathlib.Decide.{ℕ_discrete}
-use lib.ListN.{get_elem?}
-use Rattle.std.proofs.lemmas.Bool.{cases_lt}
+use Rattle.std.proofs.Math.{Option.Option, Option.some, Option.some-injective, Option.some-ne-none, Decide.ℕ_discrete}
+use Rattle.std.proofs.{Math.Logic.dite, Math.ListN.get_elem?, lemmas.Bool.cases_lt}
 use Rattle.ring_layout.specs.Layout.{ring_words, tail_index, head_index, correlation_index, heartbeat_index}
-use Rattle.ring_layout.specs.Places.{IsCapacity, index}
+use Rattle.ring_layout.specs.{Places.IsCapacity, Places.index, Headers.committed_header}
 use Rattle.ring_table.specs.Staged.{in_words, elsewhere, StagedClaim, PlacedMessage, staged_end, staged_word_at}
-use Rattle.ring_table.specs.Owners.{OwnedHistory, all_of}
-use Rattle.ring_table.specs.Passing.{IsSettled, AreSettled}
-use Rattle.ring_table.specs.Views.{ConsumerView, View}
-use Rattle.ring_table.specs.ProducerSteps.{HasClaim}
-use Rattle.ring_table.specs.Rule.{IsMemory, Kept}
+use Rattle.ring_table.specs.{Owners.OwnedHistory, Owners.all_of, Passing.IsSettled, Passing.AreSettled}
+use Rattle.ring_table.specs.{Views.ConsumerView, Views.View, Rule.IsMemory, Rule.Kept, Closed.IsClosed, Closed.IsLast}
+use Rattle.ring_table.{specs.ProducerSteps.HasClaim, specs.Walk.Parts, specs.Walk.Walked, proofs.StepLemmas.one_view}
 use Rattle.ring_table.specs.Shelf.{IsClaimOf, IsOut, IsOwnOut, IsGotOut, IsShelf}
-use Rattle.ring_table.specs.Closed.{IsClosed, IsLast}
-use Rattle.ring_table.specs.Walk.{Parts, Walked}
 use Rattle.ring_table.proofs.CloseLemmas.{Closes, all_own, closes, idle}
-use Rattle.ring_table.proofs.LawLemmas.{none_open}
-use Rattle.ring_table.proofs.MemoryLemmas.{index_inside}
-use Rattle.ring_table.proofs.PictureWords.{read_at}
-use Rattle.ring_table.proofs.ReachLemmas.{stored_of}
-use Rattle.ring_table.proofs.ShelfLemmas.{nothing_out}
-use Rattle.ring_table.proofs.SlotBytes.{first_word_of, slot_later}
-use Rattle.ring_table.proofs.ListLemmas.{there_or_past}
-use Rattle.ring_table.proofs.OutLemmas.{has_owned}
-use Rattle.ring_table.proofs.MarkWords.{committed_small}
-use Rattle.ring_layout.specs.Headers.{committed_header}
+use Rattle.ring_table.proofs.{LawLemmas.none_open, PictureWords.read_at, ReachLemmas.stored_of, OutLemmas.has_owned}
+use Rattle.ring_table.proofs.{MemoryLemmas.index_inside, ShelfLemmas.nothing_out, ListLemmas.there_or_past}
+use Rattle.ring_table.proofs.{SlotBytes.first_word_of, SlotBytes.slot_later, MarkWords.committed_small}
 use Rattle.ring_table.proofs.StagedPlaces.{capacity_aligned, lies_in, nothing_behind}
-use Rattle.ring_table.proofs.StepLemmas.{one_view}
 
 claim_there : (h : OwnedHistory) (k : ℕ) (x : ℕ × StagedClaim) → get_elem? h k ≡ some x
     → get_elem? (all_of h) k ≡ some x.1

@@ -1,40 +1,23 @@
 -- The mark of a run is stored: the rule with marks.
 use Rattle.std.proofs.Common.{◌≡◌, ◌≢◌, ◌⊎◌, ℕ, ◌+◌, ◌/◌, ◌%◌, ◌≤◌, ◌<◌, List, [], ◌∷◌, ◌++◌, cond, ltb, set, slice_index, sym, refl, ap, ◌∙◌, subst, inl, inr, ⊎_elim, length, length-set, get_or-set_other, get_or-set_same, lt-ltb, le-ltb, arith}
-use mathlib.Core.Option.{Option, some}
-use mathlib.Core.Logic.{dite}
-use native.Mathlib.Decide.{ℕ_discrete}
-use lib.ListN.{get_elem?}
+use Rattle.std.proofs.Math.{Option.Option, Option.some, Logic.dite, Decide.ℕ_discrete, ListN.get_elem?}
 use Rattle.std.proofs.lemmas.Bool.{cases_lt, cond-true, cond-false}
 use Rattle.atomic_table.specs.Table.{State, Allows, homes_after}
-use Rattle.ring_layout.specs.declared.message.Message.{Message}
-use Rattle.ring_layout.specs.Headers.{committed_header}
-use Rattle.ring_layout.specs.History.{span}
-use Rattle.ring_layout.specs.Places.{index}
+use Rattle.ring_layout.specs.declared.message.{Message.Message, ClaimState.TheVariants.Committed}
+use Rattle.ring_layout.specs.{Headers.committed_header, History.span, Places.index}
 use Rattle.ring_table.specs.Staged.{elsewhere, StagedClaim, AreRising, Stored, claim_end}
-use Rattle.ring_layout.specs.declared.message.ClaimState.TheVariants.{Committed}
-use Rattle.ring_table.specs.Passing.{placed_message}
-use Rattle.ring_table.specs.Views.{View, with_claims}
-use Rattle.ring_table.specs.ProducerSteps.{Mine}
-use Rattle.ring_table.specs.Rule.{IsLawful}
-use Rattle.ring_table.specs.Ranges.{gives_first}
-use Rattle.ring_table.specs.Shelf.{IsShelf}
-use Rattle.ring_table.specs.SlotSteps.{with_out, HasBody}
+use Rattle.ring_table.specs.{Passing.placed_message, Rule.IsLawful, Ranges.gives_first, Shelf.IsShelf}
+use Rattle.ring_table.specs.{Views.View, Views.with_claims, ProducerSteps.Mine, SlotSteps.with_out, SlotSteps.HasBody}
 use Rattle.ring_table.specs.Marks.{at_position, bytes_of, kind_of, IsCommitted, IsOfRun, KeepsMarks}
 use Rattle.ring_table.specs.Runs.{run_bytes, run_claims, run_slots, AreMessages, StoresRun}
-use Rattle.ring_table.proofs.DecodeLemmas.{inner_word}
+use Rattle.ring_table.proofs.{DecodeLemmas.inner_word, RangeLemmas.valid_gives, SlotCalls.header_of_claim}
 use Rattle.ring_table.proofs.EncodeLemmas.{Fills, Rewrites, encodes_rewritten, reads_beside}
-use Rattle.ring_table.proofs.HomeLemmas.{home_kept, none_left}
-use Rattle.ring_table.proofs.LoadLemmas.{stands}
+use Rattle.ring_table.proofs.{HomeLemmas.home_kept, HomeLemmas.none_left, RunShelf.homes_are, RunShelf.run_shelf}
+use Rattle.ring_table.proofs.{LoadLemmas.stands, MarkWords.whole_bytes, StoreLemmas.rising, RunSlots.one_held}
 use Rattle.ring_table.proofs.MarkSteps.{Marked, remarked, rests_after, rests_same, with_headers}
-use Rattle.ring_table.proofs.MarkWords.{whole_bytes}
 use Rattle.ring_table.proofs.MemoryLemmas.{index_inside, not_inside, one_position}
-use Rattle.ring_table.proofs.RangeLemmas.{valid_gives}
-use Rattle.ring_table.proofs.SlotCalls.{header_of_claim}
-use Rattle.ring_table.proofs.StoreLemmas.{rising}
 use Rattle.ring_table.proofs.RunClaims.{first_committed, first_word_is, run_inside, run_word, some_span}
 use Rattle.ring_table.proofs.RunKept.{FillsRun, RunWords, blank_there, its, kept_now}
-use Rattle.ring_table.proofs.RunShelf.{homes_are, run_shelf}
-use Rattle.ring_table.proofs.RunSlots.{one_held}
 
 -- the headers of the records of a run in these words
 abbrev pub run_headers : ℕ → ℕ → List Message → List ℕ → List ℕ

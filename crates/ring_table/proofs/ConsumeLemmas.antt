@@ -1,31 +1,18 @@
 -- The consumer's loads keep the rule, and what a step of it owes.
-use Rattle.ring_table.specs.Staged.{in_words}
-use Rattle.ring_table.specs.Staged.{Bodies, shown_header}
-use Rattle.std.proofs.Common.{◌≡◌, ℕ, ◌+◌, ◌-◌, ◌/◌, ◌%◌, ◌^◌, ◌≤◌, ◌<◌, ℤ, pos, negsuc, ◌≤ℤ◌, FitsSigned, List, [], ◌∷◌, ◌++◌, cond, true, set, get_or, slice_index, sym, refl, ap, ◌∙◌, subst, ⊎_elim, le-ltb, arith}
-use mathlib.Core.Option.{some}
-use mathlib.Core.Logic.{dite}
-use native.Mathlib.Decide.{ℕ_discrete}
-use lib.ListN.{get_elem?}
-use Rattle.std.specs.Int.{cast_signed, cast_unsigned, w32}
-use Rattle.std.proofs.lemmas.Bool.{cases_lt}
-use Rattle.std.proofs.lemmas.Int.{to_z-of_z, ints}
+use Rattle.ring_table.specs.Staged.{in_words, Bodies, shown_header, PlacedMessage, staged_end, staged_word_at}
+use Rattle.std.proofs.Common.{◌≡◌, ℕ, ◌+◌, ◌-◌, ◌/◌, ◌%◌, ◌^◌, ◌≤◌, ◌<◌, ℤ, pos, negsuc, ◌≤ℤ◌, FitsSigned, List, [], ◌∷◌, ◌++◌, cond, true, set, get_or, slice_index, sym, refl, ap, ◌∙◌, subst, ⊎_elim, le-ltb, arith, w32}
+use Rattle.std.proofs.Math.{Option.some, Logic.dite, Decide.ℕ_discrete, ListN.get_elem?}
+use Rattle.std.specs.Int.{cast_signed, cast_unsigned}
+use Rattle.std.proofs.lemmas.{Bool.cases_lt, Int.to_z-of_z, Int.ints, List.set-get_or}
 use Rattle.atomic_table.specs.Table.{State, keeps, Allows}
-use Rattle.ring_layout.specs.History.{IsMessage}
-use Rattle.ring_layout.specs.Places.{index, rounded}
-use Rattle.ring_layout.specs.Headers.{header, padding_type}
-use Rattle.ring_table.specs.Staged.{PlacedMessage, staged_end, staged_word_at}
-use Rattle.ring_table.specs.Owners.{OwnedHistory, all_of}
-use Rattle.ring_table.specs.Passing.{Reaches}
-use Rattle.ring_table.specs.Services.{AreServed}
+use Rattle.ring_layout.specs.{History.IsMessage, Places.index, Places.rounded, Headers.header, Headers.padding_type}
+use Rattle.ring_table.specs.{Owners.OwnedHistory, Owners.all_of, Passing.Reaches, Rule.IsMemory, Rule.Knows, Rule.Kept}
+use Rattle.ring_table.specs.{Services.AreServed, ProducerSteps.Mine}
 use Rattle.ring_table.specs.Views.{Logs, ConsumerView, Run, View, logged, no_run, with_run, scanned}
-use Rattle.ring_table.specs.Rule.{IsMemory, Knows, Kept}
-use Rattle.ring_table.specs.ProducerSteps.{Mine}
 use Rattle.ring_table.specs.ConsumerSteps.{with_scan, IsInside, LoadsHeader, LoadsBody}
-use Rattle.ring_table.proofs.StagedPlaces.{capacity_aligned, start_aligned}
+use Rattle.ring_table.proofs.{StagedPlaces.capacity_aligned, StagedPlaces.start_aligned, KnowLemmas.knows_on}
 use Rattle.ring_table.proofs.ReachLemmas.{reach_bounds, reach_aligned, shows_body}
 use Rattle.ring_table.proofs.HeaderReads.{low_half, halves, shown_low, Leads, leads}
-use Rattle.std.proofs.lemmas.List.{set-get_or}
-use Rattle.ring_table.proofs.KnowLemmas.{knows_on}
 use Rattle.ring_table.proofs.StepLemmas.{sees_top_after, becomes}
 use Rattle.ring_table.proofs.MemoryLemmas.{GoesOn, IsNoService, index_inside, not_inside, service_elsewhere}
 use Rattle.ring_table.proofs.LoadLemmas.{Ok, May, sees}

@@ -1,27 +1,20 @@
 -- The headers that marks and slots show.
 use Rattle.std.proofs.Common.{◌≡◌, ◌≢◌, ℕ, ◌+◌, ◌-◌, ◌*◌, ◌%◌, ◌^◌, ◌≤◌, ◌<◌, pos, List, [], ◌∷◌, ◌++◌, length, replicate, sym, refl, ap, ◌∙◌, subst, ⊎_elim, lt-ltb, le-ltb, eq-eqb, ne_eqb, arith}
 use Rattle.std.specs.Prelude.{⊤}
-use mathlib.Core.Logic.{dite}
-use native.Mathlib.Decide.{ℕ_discrete}
+use Rattle.std.proofs.Math.{Logic.dite, Decide.ℕ_discrete}
 use Rattle.std.proofs.lemmas.Bool.{cases_lt, cond-true, cond-false}
-use Rattle.std.proofs.lemmas.List.{length-replicate}
-use Rattle.std.proofs.lemmas.List.Elements.{All-replicate}
+use Rattle.std.proofs.lemmas.List.{length-replicate, Elements.All-replicate}
 use Rattle.ring_layout.specs.Marks.{committed_kind, padding_kind, open_kind, aborted_kind}
-use Rattle.ring_layout.specs.declared.message.Message.{Message}
+use Rattle.ring_layout.specs.{declared.message.Message.Message, Places.IsCapacity, Places.next_place}
 use Rattle.ring_layout.specs.declared.message.ClaimState.TheVariants.{Open, Committed, Aborted}
 use Rattle.ring_layout.specs.History.{IsMessage, span}
 use Rattle.ring_layout.specs.Headers.{header_of, open_header, committed_header}
-use Rattle.ring_layout.specs.Places.{IsCapacity, next_place}
-use Rattle.ring_layout.proofs.CapacityLemmas.{capacity_blocks}
-use Rattle.ring_layout.proofs.HeaderLemmas.{fits_pos}
-use Rattle.ring_layout.proofs.PlaceLemmas.{next_cases}
+use Rattle.ring_layout.proofs.{CapacityLemmas.capacity_blocks, HeaderLemmas.fits_pos, PlaceLemmas.next_cases}
 use Rattle.ring_table.specs.Staged.{elsewhere, StagedClaim, Stage, Moved, Padded, Stored, ArePlaced, LiesAfter, claim_end, staged_end, staged_span, stage_state, masked_padding, masked_record, padding_word, staged_word, staged_word_at}
-use Rattle.ring_table.specs.Changes.{blank}
+use Rattle.ring_table.specs.{Changes.blank, Marks.decoded, Marks.IsMarkOf}
 use Rattle.ring_table.specs.Passing.{AreSettled, IsSettled, placed_committed_of, shown_at}
 use Rattle.ring_table.specs.Rescued.{one_if_unsettled, silent_of, silent_bytes, unsettled_count, Settles}
-use Rattle.ring_table.specs.Marks.{decoded, IsMarkOf}
-use Rattle.ring_table.proofs.HeaderReads.{halves}
-use Rattle.ring_table.proofs.MarkWords.{shows_claim, shows_mark, shows_padding}
+use Rattle.ring_table.proofs.{HeaderReads.halves, MarkWords.shows_claim, MarkWords.shows_mark, MarkWords.shows_padding}
 use Rattle.ring_table.proofs.StagedPlaces.{capacity_aligned, claim_aligned}
 use Rattle.ring_table.proofs.StagedWords.{staged_word-header, staged_word-padding, staged_word-padding_behind, staged_word-record}
 

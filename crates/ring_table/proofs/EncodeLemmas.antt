@@ -1,17 +1,11 @@
 -- The words encode headers as both change.
 use Rattle.std.proofs.Common.{◌≡◌, ◌≢◌, ◌⊎◌, ℕ, ◌+◌, ◌-◌, ◌/◌, ◌%◌, ◌≤◌, ◌<◌, List, cond, eqb, set, get_or, slice_index, sym, refl, ap, ◌∙◌, subst, inl, inr, ⊎_elim, length, length-set, get_or-set_other, get_or-set_same, eq-eqb, ne_eqb, arith}
-use mathlib.Core.Logic.{dite}
-use native.Mathlib.Decide.{ℕ_discrete}
-use native.Mathlib.Nat.{add-mod_right}
+use Rattle.std.proofs.Math.{Logic.dite, Decide.ℕ_discrete, Nat.add-mod_right}
 use Rattle.std.proofs.lemmas.Bool.{cases_lt, cond-true, cond-false}
-use Rattle.ring_layout.specs.Marks.{committed_kind}
-use Rattle.ring_layout.specs.Places.{index}
-use Rattle.ring_table.specs.Staged.{elsewhere}
-use Rattle.ring_table.specs.Rule.{IsLawful}
-use Rattle.ring_table.specs.Views.{Run, no_run}
+use Rattle.ring_layout.specs.{Marks.committed_kind, Places.index}
+use Rattle.ring_table.specs.{Staged.elsewhere, Rule.IsLawful, Views.Run, Views.no_run}
 use Rattle.ring_table.specs.Marks.{at_position, bytes_of, kind_of, mark_of, Begins, Encodes, IsCommitted, IsOfRun, Precedes, ReadsRun}
-use Rattle.ring_table.proofs.MemoryLemmas.{not_inside, one_position}
-use Rattle.ring_table.proofs.MarkWords.{whole_bytes}
+use Rattle.ring_table.proofs.{MemoryLemmas.not_inside, MemoryLemmas.one_position, MarkWords.whole_bytes}
 
 -- the ends with this one at q
 abbrev pub end_set : ℕ → ℕ → (ℕ → ℕ) → ℕ → ℕ

@@ -1,21 +1,16 @@
 -- The loop that fills the slots of a body.
-use Rattle.std.proofs.Common.{◌≡◌, ℕ, zero, suc, ◌+◌, ◌*◌, ◌/◌, ◌%◌, ◌^◌, ◌-◌, subst, ◌<◌, ◌≤◌, ◌⊎◌, inl, inr, ⊎_elim, List, [], ◌∷◌, ◌++◌, All, drop, take, get_or, slice_index, length, length-append, sym, refl, ap, ◌∙◌, append-nil, arith}
-use mathlib.Core.Option.{some, some-injective, some-ne-none}
-use lib.ListN.{get_elem?}
-use Rattle.std.specs.List.{slice_range}
-use Rattle.std.specs.Int.{from_le_bytes, to_le_bytes, w64}
-use Rattle.std.proofs.lemmas.List.Elements.{All-get_or}
-use Rattle.std.proofs.lemmas.Bool.{cases_lt}
-use Rattle.std.proofs.lemmas.List.{ext_get_or, get_or-drop, get_or-take, take_rest}
+use Rattle.std.proofs.Common.{◌≡◌, ℕ, zero, suc, ◌+◌, ◌*◌, ◌/◌, ◌%◌, ◌^◌, ◌-◌, subst, ◌<◌, ◌≤◌, ◌⊎◌, inl, inr, ⊎_elim, List, [], ◌∷◌, ◌++◌, All, drop, take, get_or, slice_index, length, length-append, sym, refl, ap, ◌∙◌, append-nil, arith, slice_range, w64, ext_get_or, get_or-drop, get_or-take}
+use Rattle.std.proofs.Math.{Option.some, Option.some-injective, Option.some-ne-none, ListN.get_elem?}
+use Rattle.std.specs.Int.{from_le_bytes, to_le_bytes}
+use Rattle.std.proofs.lemmas.{List.Elements.All-get_or, Bool.cases_lt, List.take_rest}
 use Rattle.ring_layout.proofs.WordBytes.{from_le_bytes-same, byte_of_word, byte_of_bytes, overwritten_before, overwritten_inside}
-use Rattle.ring_table.specs.Ranges.{numbered, values_of}
+use Rattle.ring_table.specs.{Ranges.numbered, Ranges.values_of, Filling.Begins, Filling.Copying, Filling.Filling}
 use Rattle.ring_table.proofs.RangeLemmas.{first_of_some, turned_on, values_numbered}
 use Rattle.ring_table.specs.Staged.{body_word, headed}
 use Rattle.ring_table.proofs.SlotBytes.{later_word, length_headed}
 use Rattle.ring_table.specs.SlotSteps.{AreWordsOf, HasBody, HasSlots, words_of}
 use Rattle.ring_layout.specs.History.{overwritten}
 use Rattle.std.proofs.Common.{append_assoc}
-use Rattle.ring_table.specs.Filling.{Begins, Copying, Filling}
 
 pub none_of : (l : List ℕ) → length l ≡ 0 → l ≡ []
 none_of [] e = refl

@@ -1,11 +1,9 @@
 -- The headers that the code packs are those of the claims.
-use Rattle.std.proofs.Common.{◌≡◌, ℕ, ℤ, FitsSigned, sym, ap, ◌∙◌}
-use Rattle.std.specs.Int.{cast_signed, cast_unsigned, w32}
-use Rattle.std.proofs.lemmas.Int.{to_z-of_z}
+use Rattle.std.proofs.Common.{◌≡◌, ℕ, ℤ, FitsSigned, sym, ap, ◌∙◌, w32}
+use Rattle.std.{specs.Int.cast_signed, specs.Int.cast_unsigned, proofs.lemmas.Int.to_z-of_z}
 use Rattle.ring_layout.specs.declared.message.ClaimState.TheVariants.{Committed, Aborted}
 use Rattle.ring_layout.specs.Headers.{aborted_header, committed_header, header_of, open_header}
-use Rattle.ring_table.specs.Staged.{StagedClaim}
-use Rattle.ring_table.specs.ProducerSteps.{IsStagedOpen}
+use Rattle.ring_table.specs.{Staged.StagedClaim, ProducerSteps.IsStagedOpen}
 
 pub packs_open : (word n : ℕ) (type_id : ℤ) → FitsSigned w32 type_id
     → word ≡ open_header (cast_signed w32 (cast_unsigned w32 type_id)) n → word ≡ open_header type_id n

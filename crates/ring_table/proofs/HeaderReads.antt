@@ -1,25 +1,18 @@
 -- A header of positive length leads a read on.
 use Rattle.ring_table.specs.Staged.{Bodies, in_words, elsewhere, padding_mark, padding_word, shown_header}
-use Rattle.std.proofs.Common.{◌≡◌, ◌≢◌, ℕ, zero, suc, ◌+◌, ◌-◌, ◌/◌, ◌%◌, ◌^◌, ◌≤◌, ◌<◌, ℤ, ◌≤ℤ◌, pos, negsuc, neg_ℤ, FitsSigned, List, [], ◌∷◌, ◌++◌, cond, sym, refl, ap, ◌∙◌, subst, inl, inr, ⊎_elim, length, lt-ltb, le-ltb, append_assoc, eq-eqb, ne_eqb, arith}
-use Rattle.std.specs.Int.{cast_unsigned, w32}
-use Rattle.std.proofs.lemmas.Bool.{cond-true, cond-false}
-use mathlib.Core.Logic.{dite}
-use native.Mathlib.Decide.{ℕ_discrete}
-use Rattle.std.proofs.lemmas.Int.{ints}
-use Rattle.std.proofs.lemmas.Nat.{mod_low, shr_high, mod_below}
-use Rattle.ring_layout.specs.declared.message.Message.{Message}
+use Rattle.std.proofs.Common.{◌≡◌, ◌≢◌, ℕ, zero, suc, ◌+◌, ◌-◌, ◌/◌, ◌%◌, ◌^◌, ◌≤◌, ◌<◌, ℤ, ◌≤ℤ◌, pos, negsuc, neg_ℤ, FitsSigned, List, [], ◌∷◌, ◌++◌, cond, sym, refl, ap, ◌∙◌, subst, inl, inr, ⊎_elim, length, lt-ltb, le-ltb, append_assoc, eq-eqb, ne_eqb, arith, w32}
+use Rattle.std.{specs.Int.cast_unsigned, proofs.Math.Logic.dite, proofs.Math.Decide.ℕ_discrete}
+use Rattle.std.proofs.lemmas.{Bool.cond-true, Bool.cond-false, Int.ints, Nat.mod_low, Nat.shr_high, Nat.mod_below}
+use Rattle.ring_layout.specs.{declared.message.Message.Message, Places.IsCapacity, Places.next_place, Places.rounded}
 use Rattle.ring_layout.specs.declared.message.ClaimState.TheVariants.{Open, Committed, Aborted}
 use Rattle.ring_layout.specs.History.{IsMessage}
-use Rattle.ring_layout.specs.Places.{IsCapacity, next_place, rounded}
 use Rattle.ring_layout.specs.Headers.{header, header_of, padding_header, padding_type}
-use Rattle.ring_layout.proofs.Laps.{mod_aligned}
-use Rattle.ring_layout.proofs.PlaceLemmas.{next_cases, next_within}
+use Rattle.ring_layout.proofs.{Laps.mod_aligned, PlaceLemmas.next_cases, PlaceLemmas.next_within}
 use Rattle.ring_layout.proofs.HeaderLemmas.{pattern_below, fits_pos, fits_neg}
 use Rattle.ring_table.specs.Staged.{StagedClaim, PlacedMessage, Stage, Moved, Padded, Stored, claim_of, staged_span, claim_end, masked_padding, masked_record, staged_word, staged_word_at}
 use Rattle.ring_table.specs.Passing.{IsSettled, placed_message, shown_at, Reaches}
 use Rattle.ring_table.proofs.StagedPlaces.{StandFrom, claim_aligned, capacity_aligned}
-use Rattle.ring_table.proofs.StagedWords.{staged_word-header, staged_word-padding}
-use Rattle.ring_table.proofs.ReachLemmas.{reach_bounds}
+use Rattle.ring_table.proofs.{StagedWords.staged_word-header, StagedWords.staged_word-padding, ReachLemmas.reach_bounds}
 
 -- the two halves of a header
 pub low_half : (len type_id : ℤ) → FitsSigned w32 len → header len type_id % 2 ^ 32 ≡ cast_unsigned w32 len

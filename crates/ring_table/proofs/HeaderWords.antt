@@ -1,7 +1,6 @@
 -- A claimed or committed header gives its type id and length back.
-use Rattle.std.proofs.Common.{◌≡◌, ℕ, zero, suc, ◌+◌, ◌/◌, ◌%◌, ◌^◌, ◌<◌, ℤ, pos, neg_ℤ, FitsSigned, sym, refl, ap, ◌∙◌, arith}
-use Rattle.std.specs.Int.{cast_signed, w32}
-use Rattle.std.proofs.lemmas.Int.{ints}
+use Rattle.std.proofs.Common.{◌≡◌, ℕ, zero, suc, ◌+◌, ◌/◌, ◌%◌, ◌^◌, ◌<◌, ℤ, pos, neg_ℤ, FitsSigned, sym, refl, ap, ◌∙◌, arith, w32}
+use Rattle.std.{specs.Int.cast_signed, proofs.lemmas.Int.ints}
 use Rattle.ring_layout.specs.Headers.{committed_header, header, open_header}
 use Rattle.ring_layout.proofs.HeaderLemmas.{len_of-header, type_of-header, fits_neg, fits_pos}
 

@@ -1,15 +1,10 @@
 -- A history with one claim more, and with one claim changed.
-use Rattle.ring_table.specs.Staged.{Bodies}
-use Rattle.std.proofs.Common.{◌≡◌, ◌≢◌, ℕ, zero, suc, ◌+◌, List, [], ◌∷◌, ◌++◌, Bool, true, false, cond, eqb, ltb, true≢false, sym, refl, ap, ◌∙◌, subst, eq-eqb, ne_eqb}
-use mathlib.Core.Option.{some, some-injective, some-ne-none}
-use mathlib.Core.Logic.{dite}
-use native.Mathlib.Decide.{ℕ_discrete}
-use lib.ListN.{get_elem?}
-use Rattle.std.proofs.lemmas.Bool.{eqb-true}
-use Rattle.ring_layout.specs.History.{IsMessage}
-use Rattle.ring_layout.specs.Places.{next_place}
+use Rattle.ring_table.specs.{Staged.Bodies, Changes.changed_at, Changes.changed}
+use Rattle.std.proofs.Common.{◌≡◌, ◌≢◌, ℕ, zero, suc, ◌+◌, List, [], ◌∷◌, ◌++◌, Bool, true, false, cond, eqb, ltb, true≢false, sym, refl, ap, ◌∙◌, subst, eq-eqb, ne_eqb, eqb-true}
+use Rattle.std.proofs.Math.{Option.some, Option.some-injective, Option.some-ne-none, Decide.ℕ_discrete, ListN.get_elem?}
+use Rattle.std.proofs.Math.Logic.{dite}
+use Rattle.ring_layout.specs.{History.IsMessage, Places.next_place}
 use Rattle.ring_table.specs.Staged.{StagedClaim, staged_span, claim_end, staged_word, staged_word_at, LiesAfter, ArePlaced, staged_end}
-use Rattle.ring_table.specs.Changes.{changed_at, changed}
 use Rattle.ring_table.specs.Owners.{OwnedHistory, all_of, owned_by, edited_one, edited}
 
 -- ---- one claim at the end

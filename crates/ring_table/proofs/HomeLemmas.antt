@@ -1,45 +1,28 @@
 -- The steps that give a body's slots back keep the rule.
-use Rattle.std.proofs.Common.{◌≡◌, ◌≢◌, ℕ, ℤ, FitsSigned, ◌+◌, ◌/◌, ◌^◌, ◌≤◌, ◌<◌, List, [], ◌∷◌, ◌++◌, true, set, map, slice_index, sym, refl, ap, ◌∙◌, subst, ⊎_elim, length, append-nil, arith}
-use Rattle.std.specs.Prelude.{All}
-use mathlib.Core.Option.{some}
-use mathlib.Core.Logic.{dite}
-use native.Mathlib.Decide.{ℕ_discrete}
-use lib.ListN.{get_elem?}
+use Rattle.std.proofs.Common.{◌≡◌, ◌≢◌, ℕ, ℤ, FitsSigned, ◌+◌, ◌/◌, ◌^◌, ◌≤◌, ◌<◌, List, [], ◌∷◌, ◌++◌, true, set, map, slice_index, sym, refl, ap, ◌∙◌, subst, ⊎_elim, length, append-nil, arith, All, w32}
+use Rattle.std.proofs.Math.{Option.some, Logic.dite, Decide.ℕ_discrete, ListN.get_elem?}
 use Rattle.std.proofs.lemmas.List.{length-replicate}
 use Rattle.atomic_table.specs.Table.{State, Allows, homes_after, carried_after}
 use Rattle.atomic_table.proofs.Lists.{at_set, set_here}
-use Rattle.std.specs.Int.{w32}
-use Rattle.ring_layout.specs.declared.message.ClaimState.{ClaimState}
-use Rattle.ring_layout.specs.declared.message.ClaimState.TheVariants.{Open}
-use Rattle.ring_layout.specs.Headers.{committed_header, header_of}
-use Rattle.ring_layout.proofs.HeaderLemmas.{pattern_below}
-use Rattle.ring_layout.specs.Places.{index}
-use Rattle.ring_layout.proofs.ListLemmas.{at_below}
-use Rattle.ring_layout.specs.declared.message.Message.{Message}
+use Rattle.ring_layout.specs.declared.message.{ClaimState.ClaimState, ClaimState.TheVariants.Open, Message.Message}
+use Rattle.ring_layout.specs.{Headers.committed_header, Headers.header_of, Places.index}
+use Rattle.ring_layout.proofs.{HeaderLemmas.pattern_below, ListLemmas.at_below}
 use Rattle.ring_table.specs.Staged.{elsewhere, StagedClaim, PlacedMessage, Padded, Stored, AreRising, body_word, slot_bytes}
 use Rattle.ring_table.specs.Changes.{blank, changed, stored_as, with_body}
-use Rattle.ring_table.specs.Passing.{IsSettled, placed_message}
+use Rattle.ring_table.specs.{Passing.IsSettled, Passing.placed_message, Shelf.IsClaimOf, Shelf.IsShelf}
 use Rattle.ring_table.specs.Views.{View, with_claims}
-use Rattle.ring_table.specs.ProducerSteps.{Mine, HasClaim, with_changed}
-use Rattle.ring_table.specs.Rule.{Kept}
+use Rattle.ring_table.specs.{ProducerSteps.Mine, ProducerSteps.HasClaim, ProducerSteps.with_changed, Rule.Kept}
 use Rattle.ring_table.specs.Ranges.{numbered, values_of, gives_first, laid}
-use Rattle.ring_table.specs.Shelf.{IsClaimOf, IsShelf}
 use Rattle.ring_table.specs.SlotSteps.{words_of, AreWordsOf, HasBody, with_out, StoresRecord, GivesBody, ReturnsBody, ReturnsSlots, body_loads}
 use Rattle.ring_table.proofs.RangeLemmas.{values_numbered, carried_gives, valid_gives, homes_gives}
-use Rattle.ring_table.proofs.HistoryLemmas.{changed_at_place, changed_at_other}
-use Rattle.ring_table.proofs.StagedPlaces.{one_at_place}
-use Rattle.ring_table.proofs.StagedWords.{staged_word-header, staged_word-stored_as}
-use Rattle.ring_table.proofs.HeaderWords.{one_committed}
-use Rattle.ring_table.proofs.LoadLemmas.{Ok}
-use Rattle.ring_table.proofs.StoreLemmas.{FillsClaim, header_step, rising}
-use Rattle.ring_table.proofs.StoreBodies.{gives_body}
-use Rattle.ring_table.proofs.CarryLemmas.{Holds, was_changed, one_claim}
-use Rattle.ring_table.proofs.FillLemmas.{same_body, word_there}
-use Rattle.ring_table.proofs.BodyPlaces.{Lies}
+use Rattle.ring_table.proofs.{HistoryLemmas.changed_at_place, HistoryLemmas.changed_at_other, HeaderWords.one_committed}
+use Rattle.ring_table.proofs.{StagedPlaces.one_at_place, OutLemmas.set_twice, OutLemmas.outed, OutLemmas.loaded}
+use Rattle.ring_table.proofs.{StagedWords.staged_word-header, StagedWords.staged_word-stored_as, StoreBodies.gives_body}
+use Rattle.ring_table.proofs.{LoadLemmas.Ok, FillLemmas.same_body, FillLemmas.word_there}
+use Rattle.ring_table.proofs.{StoreLemmas.FillsClaim, StoreLemmas.header_step, StoreLemmas.rising, BodyPlaces.Lies}
+use Rattle.ring_table.proofs.{CarryLemmas.Holds, CarryLemmas.was_changed, CarryLemmas.one_claim, SlotLemmas.gives_shelf}
 use Rattle.ring_table.proofs.OutPlaces.{own_lies, got_lies, in_history, one_out}
 use Rattle.ring_table.proofs.SlotBytes.{first_word_of, length_slot, small_slot, slot_one}
-use Rattle.ring_table.proofs.SlotLemmas.{gives_shelf}
-use Rattle.ring_table.proofs.OutLemmas.{set_twice, outed, loaded}
 
 -- claims of a view that has them as before
 same_claims : (views : List View) (id : ℕ) (v w : View) (c : StagedClaim) → get_elem? views id ≡ some v

@@ -1,7 +1,6 @@
 -- What a seat knows as the history, the consumer and the draws go on.
 use Rattle.std.proofs.Common.{◌≡◌, ℕ, ◌≤◌, ◌<◌, List, [], ◌∷◌, true, sym, refl, ap, ◌∙◌, subst, arith}
-use Rattle.ring_table.specs.Owners.{OwnedHistory, owned_by}
-use Rattle.ring_table.specs.Services.{Service, AreServed}
+use Rattle.ring_table.specs.{Owners.OwnedHistory, Owners.owned_by, Services.Service, Services.AreServed}
 use Rattle.ring_table.specs.Views.{ConsumerView, ProducerView, View, new_producer}
 use Rattle.ring_table.specs.Rule.{IsIdle, Knows}
 

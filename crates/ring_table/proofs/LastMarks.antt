@@ -1,22 +1,14 @@
 -- The marks that a table left.
-use Rattle.std.proofs.Common.{◌≡◌, ◌≢◌, ℕ, suc, ◌+◌, ◌/◌, ◌%◌, ◌≤◌, ◌<◌, List, [], ◌∷◌, ◌++◌, cond, length, slice_index, sym, refl, ap, ◌∙◌, subst, ⊎_elim, le-ltb, arith}
-use mathlib.Core.Option.{Option, some}
-use lib.ListN.{get_elem?}
-use Rattle.std.proofs.lemmas.Bool.{cases_lt}
-use Rattle.std.proofs.lemmas.List.{ext_get_or}
+use Rattle.std.proofs.Common.{◌≡◌, ◌≢◌, ℕ, suc, ◌+◌, ◌/◌, ◌%◌, ◌≤◌, ◌<◌, List, [], ◌∷◌, ◌++◌, cond, length, slice_index, sym, refl, ap, ◌∙◌, subst, ⊎_elim, le-ltb, arith, ext_get_or}
+use Rattle.std.proofs.{Math.Option.Option, Math.Option.some, Math.ListN.get_elem?, lemmas.Bool.cases_lt}
 use Rattle.ring_layout.specs.Headers.{committed_header}
-use Rattle.ring_layout.specs.Places.{index, max_position}
-use Rattle.ring_layout.specs.Layout.{head_index, tail_index}
-use Rattle.ring_table.specs.Closed.{restarted}
-use Rattle.ring_table.specs.Rescued.{ShowsClaims}
+use Rattle.ring_layout.specs.{Places.index, Places.max_position, Layout.head_index, Layout.tail_index}
+use Rattle.ring_table.specs.{Closed.restarted, Rescued.ShowsClaims}
 use Rattle.ring_table.specs.Staged.{elsewhere, StagedClaim, ArePlaced, staged_end, staged_word_at}
-use Rattle.ring_table.specs.Owners.{OwnedHistory, all_of}
-use Rattle.ring_table.specs.Passing.{AreSettled, IsSettled}
-use Rattle.ring_table.specs.Views.{View}
+use Rattle.ring_table.specs.{Owners.OwnedHistory, Owners.all_of, Passing.AreSettled, Passing.IsSettled, Views.View}
 use Rattle.ring_table.specs.Marks.{AreMarked, IsCommitted, IsDecoded, IsMarkOf, KeepsMarks, MayDecode, ShowsRuns, bytes_of, mark_of}
 use Rattle.ring_table.proofs.StagedPlaces.{capacity_aligned, start_aligned}
-use Rattle.ring_table.proofs.MemoryLemmas.{head_bounds}
-use Rattle.ring_table.proofs.MarkWords.{whole_bytes, few_of, long_bytes}
+use Rattle.ring_table.proofs.{MemoryLemmas.head_bounds, MarkWords.whole_bytes, MarkWords.few_of, MarkWords.long_bytes}
 use Rattle.ring_table.proofs.MarkSteps.{header_near, position_of}
 use Rattle.ring_table.proofs.RunPlaces.{head_of_committed, none_inside}
 use Rattle.ring_table.proofs.DecodeLemmas.{HeadAt, all_filled_out, decode_all, filled_ends, filled_none, filled_placed}

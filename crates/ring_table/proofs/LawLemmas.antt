@@ -1,15 +1,12 @@
 -- Claims put together, counted, and changed.
 use Rattle.std.proofs.Common.{◌≡◌, ◌≢◌, ℕ, zero, suc, ◌+◌, ◌≤◌, ◌<◌, List, [], ◌∷◌, ◌++◌, cond, sym, refl, ap, ◌∙◌, subst, inl, inr, lt-ltb, le-ltb, arith}
-use mathlib.Core.Option.{some, some-injective, some-ne-none}
-use lib.ListN.{get_elem?}
+use Rattle.std.proofs.Math.{Option.some, Option.some-injective, Option.some-ne-none, ListN.get_elem?}
 use Rattle.std.proofs.lemmas.Bool.{cases_lt}
 use Rattle.ring_layout.specs.declared.message.ClaimState.TheVariants.{Open, Committed, Aborted}
 use Rattle.ring_table.specs.Staged.{StagedClaim, Stage, Moved, Padded, Stored, stage_state, claim_end, AreAbove, AreRising, AreStored, IsStored}
 use Rattle.ring_table.specs.Changes.{changed}
-use Rattle.ring_table.specs.Owners.{insert_claim, interleaved}
-use Rattle.ring_table.specs.Passing.{IsSettled, AreSettled}
-use Rattle.ring_table.specs.ProducerSteps.{EndBelow}
-use Rattle.ring_table.specs.OpenClaims.{one_if_open, open_count, AreBelow}
+use Rattle.ring_table.specs.{Owners.insert_claim, Owners.interleaved, Passing.IsSettled, Passing.AreSettled}
+use Rattle.ring_table.specs.{ProducerSteps.EndBelow, OpenClaims.one_if_open, OpenClaims.open_count, OpenClaims.AreBelow}
 use Rattle.ring_table.proofs.HistoryLemmas.{changed_at_place, changed_at_other}
 
 -- ---- a claim at the end

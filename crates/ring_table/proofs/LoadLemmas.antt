@@ -1,29 +1,17 @@
 -- A producer's loads keep the rule.
-use Rattle.ring_table.specs.Staged.{in_words}
-use Rattle.ring_table.specs.Staged.{Bodies}
+use Rattle.ring_table.specs.{Staged.in_words, Staged.Bodies, Owners.OwnedHistory, Owners.all_of, Passing.IsSettled}
 use Rattle.std.proofs.Common.{◌≡◌, ℕ, ◌+◌, ◌%◌, ◌≤◌, List, cond, set, get_or, slice_index, sym, refl, ap, ◌∙◌, subst, le-ltb, arith}
-use mathlib.Core.Option.{some}
-use lib.ListN.{get_elem?}
+use Rattle.std.proofs.{Math.Option.some, Math.ListN.get_elem?, lemmas.List.set-get_or}
 use Rattle.atomic_table.specs.Table.{State, keeps, Allows, Act, Valid, stepped, carried_after}
-use Rattle.ring_layout.specs.Places.{index}
-use Rattle.ring_layout.specs.Layout.{tail_index, head_index}
+use Rattle.ring_layout.{specs.Places.index, specs.Layout.tail_index, specs.Layout.head_index, proofs.Sums.total-least}
 use Rattle.ring_table.specs.Staged.{StagedClaim, Moved, IsStored, AreRising, staged_word_at, staged_end}
-use Rattle.ring_table.specs.Owners.{OwnedHistory, all_of}
-use Rattle.ring_table.specs.Passing.{IsSettled}
-use Rattle.ring_table.specs.Services.{times_drawn, once_below}
+use Rattle.ring_table.specs.{Services.times_drawn, Services.once_below, Rule.Knows, Rule.Kept, Rule.shares_of}
 use Rattle.ring_table.specs.Views.{Logs, View, logged, with_producer, with_tail, with_head}
-use Rattle.ring_table.specs.Rule.{Knows, Kept, shares_of}
 use Rattle.ring_table.specs.ProducerSteps.{Mine, IsPosition, EndBelow, LoadsTail, LoadsHead, HasClaim, LoadsOwn}
 use Rattle.ring_table.proofs.StagedPlaces.{capacity_aligned, start_aligned, lies_in, LiesIn, end_aligned, places_aligned, word_of_claim}
-use Rattle.ring_table.proofs.StagedWords.{staged_word-in_words}
-use Rattle.ring_table.proofs.HistoryLemmas.{owned_at}
-use Rattle.ring_table.proofs.OwnerLemmas.{rising_owned_by}
-use Rattle.ring_table.proofs.ReachLemmas.{not_passed}
-use Rattle.ring_layout.proofs.Sums.{total-least}
-use Rattle.std.proofs.lemmas.List.{set-get_or}
-use Rattle.ring_table.proofs.KnowLemmas.{knows_seeing}
+use Rattle.ring_table.proofs.{StagedWords.staged_word-in_words, OwnerLemmas.rising_owned_by, MemoryLemmas.head_bounds}
+use Rattle.ring_table.proofs.{HistoryLemmas.owned_at, ReachLemmas.not_passed, KnowLemmas.knows_seeing}
 use Rattle.ring_table.proofs.StepLemmas.{sole_sees_top, sees_top_after, becomes}
-use Rattle.ring_table.proofs.MemoryLemmas.{head_bounds}
 
 module _ (B : Bodies) (C start : ℕ) where
   abbrev pub Ok : State ℕ View → Type 0

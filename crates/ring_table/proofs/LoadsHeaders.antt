@@ -1,13 +1,10 @@
 -- What a header shows the read that loads it.
-use Rattle.std.proofs.Common.{◌≡◌, ℕ, ◌+◌, ◌%◌, ◌^◌, ◌<◌, ℤ, pos, ◌≤ℤ◌, FitsSigned, List, [], ◌∷◌, ◌++◌, sym, refl, ap, ◌∙◌, subst, length, arith}
-use Rattle.std.specs.Int.{cast_unsigned, w32}
-use Rattle.ring_layout.specs.History.{IsMessage}
-use Rattle.ring_layout.specs.Places.{index, rounded}
+use Rattle.std.proofs.Common.{◌≡◌, ℕ, ◌+◌, ◌%◌, ◌^◌, ◌<◌, ℤ, pos, ◌≤ℤ◌, FitsSigned, List, [], ◌∷◌, ◌++◌, sym, refl, ap, ◌∙◌, subst, length, arith, w32}
+use Rattle.std.specs.Int.{cast_unsigned}
+use Rattle.ring_layout.specs.{History.IsMessage, Places.index, Places.rounded}
 use Rattle.ring_layout.specs.Headers.{header, padding_header, padding_type, committed_header}
-use Rattle.ring_table.specs.Staged.{PlacedMessage}
-use Rattle.ring_table.specs.Views.{View}
-use Rattle.ring_table.specs.ConsumerSteps.{with_scan, IsInside, LoadsHeader}
-use Rattle.ring_table.proofs.HeaderReads.{halves, low_half}
+use Rattle.ring_table.{specs.Staged.PlacedMessage, proofs.HeaderReads.halves, proofs.HeaderReads.low_half}
+use Rattle.ring_table.specs.{Views.View, ConsumerSteps.with_scan, ConsumerSteps.IsInside, ConsumerSteps.LoadsHeader}
 use Rattle.ring_table.proofs.ConsumeLemmas.{not_positive, one_type_id, padding_bits}
 
 module _ (C q : ℕ) (got : List PlacedMessage) (v : View) (cap : v.capacity ≡ C) where

@@ -1,33 +1,18 @@
 -- A step of the rule with headers is one of the rule with marks.
 use Rattle.std.proofs.Common.{◌≡◌, ◌≢◌, ℕ, ◌+◌, ◌-◌, ◌*◌, ◌/◌, ◌%◌, ◌≤◌, ◌<◌, List, [], cond, true, set, slice_index, sym, ap, ◌∙◌, subst, ⊎_elim, lt-ltb, le-ltb, arith}
-use mathlib.Core.Option.{Option, some}
-use mathlib.Core.Logic.{dite}
-use native.Mathlib.Decide.{ℕ_discrete}
-use lib.ListN.{get_elem?}
-use Rattle.std.proofs.lemmas.Bool.{cases_lt}
-use Rattle.std.proofs.lemmas.List.{set-get_or}
-use Rattle.std.proofs.lemmas.Nat.{mod_below}
+use Rattle.std.proofs.Math.{Option.Option, Option.some, Logic.dite, Decide.ℕ_discrete, ListN.get_elem?}
+use Rattle.std.proofs.lemmas.{Bool.cases_lt, List.set-get_or, Nat.mod_below}
 use Rattle.atomic_table.specs.Table.{State, Allows, carried_after, homes_after}
 use Rattle.atomic_table.proofs.Lists.{set_here, set_else}
-use Rattle.ring_layout.specs.Places.{index}
-use Rattle.ring_layout.specs.Layout.{ring_words}
-use Rattle.ring_layout.proofs.Laps.{mod_step, mod_room, mod_aligned}
-use Rattle.ring_layout.proofs.ListLemmas.{at_below}
-use Rattle.ring_table.specs.Staged.{Bodies, in_words, elsewhere, staged_word_at}
-use Rattle.ring_table.specs.Owners.{all_of}
-use Rattle.ring_table.specs.Views.{ConsumerView, Run, View}
-use Rattle.ring_table.specs.Rule.{Kept}
-use Rattle.ring_table.specs.Shelf.{IsShelf}
-use Rattle.ring_table.specs.ProducerSteps.{Mine}
+use Rattle.ring_layout.specs.{Places.index, Layout.ring_words}
+use Rattle.ring_layout.proofs.{Laps.mod_step, Laps.mod_room, Laps.mod_aligned, ListLemmas.at_below}
+use Rattle.ring_table.specs.{Staged.Bodies, Staged.in_words, Staged.elsewhere, Staged.staged_word_at, Owners.all_of}
+use Rattle.ring_table.specs.{Views.ConsumerView, Views.Run, Views.View, Rule.Kept, Shelf.IsShelf, ProducerSteps.Mine}
 use Rattle.std.specs.Prelude.{⊤}
 use Rattle.ring_table.specs.Marks.{at_position, bytes_of, mark_of, Encodes, IsCommitted, KeepsIn, KeepsMarks, ReadsRun}
-use Rattle.ring_table.proofs.StagedPlaces.{capacity_aligned}
-use Rattle.ring_table.proofs.StepLemmas.{one_view}
-use Rattle.ring_table.proofs.MemoryLemmas.{index_inside, head_bounds}
-use Rattle.ring_table.proofs.LoadLemmas.{Ok}
-use Rattle.ring_table.proofs.ShelfLemmas.{CarriesIn}
-use Rattle.ring_table.proofs.CarryLemmas.{Holds, lift}
-use Rattle.ring_table.proofs.MarkWords.{IsNear, near_all}
+use Rattle.ring_table.proofs.{StagedPlaces.capacity_aligned, ShelfLemmas.CarriesIn, CarryLemmas.Holds, CarryLemmas.lift}
+use Rattle.ring_table.proofs.{StepLemmas.one_view, LoadLemmas.Ok}
+use Rattle.ring_table.proofs.{MemoryLemmas.index_inside, MemoryLemmas.head_bounds, MarkWords.IsNear, MarkWords.near_all}
 use Rattle.ring_table.proofs.EncodeLemmas.{encodes_trailer, reads_trailer, encodes_mark, mark_end, rewrites_mark, reads_beside}
 
 -- each index of the buffer is that of a position in the lap from the head on

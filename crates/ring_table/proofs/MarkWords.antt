@@ -1,19 +1,13 @@
 -- Marks beside the headers that they stand for.
-use Rattle.std.proofs.Common.{◌≡◌, ◌≢◌, ℕ, zero, suc, ◌+◌, ◌-◌, ◌/◌, ◌%◌, ◌^◌, ◌≤◌, ◌<◌, pos, neg_ℤ, List, [], ◌∷◌, cond, sym, refl, ap, ◌∙◌, subst, ◌⊎◌, inl, inr, ⊎_elim, length, lt-ltb, le-ltb, eq-eqb, ne_eqb, arith}
-use Rattle.std.specs.Int.{cast_unsigned, w32}
-use mathlib.Core.Logic.{dite}
-use native.Mathlib.Decide.{ℕ_discrete}
-use Rattle.std.proofs.lemmas.Bool.{cases_lt, cond-true, cond-false}
-use Rattle.std.proofs.lemmas.Nat.{mod_below}
+use Rattle.std.proofs.Common.{◌≡◌, ◌≢◌, ℕ, zero, suc, ◌+◌, ◌-◌, ◌/◌, ◌%◌, ◌^◌, ◌≤◌, ◌<◌, pos, neg_ℤ, List, [], ◌∷◌, cond, sym, refl, ap, ◌∙◌, subst, ◌⊎◌, inl, inr, ⊎_elim, length, lt-ltb, le-ltb, eq-eqb, ne_eqb, arith, w32}
+use Rattle.std.{specs.Int.cast_unsigned, proofs.Math.Logic.dite, proofs.Math.Decide.ℕ_discrete}
+use Rattle.std.proofs.lemmas.{Bool.cases_lt, Bool.cond-true, Bool.cond-false, Nat.mod_below}
 use Rattle.ring_layout.specs.Marks.{committed_kind, padding_kind, open_kind, aborted_kind}
-use Rattle.ring_layout.specs.declared.message.Message.{Message}
-use Rattle.ring_layout.specs.declared.message.ClaimState.{ClaimState}
+use Rattle.ring_layout.specs.declared.message.{Message.Message, ClaimState.ClaimState}
 use Rattle.ring_layout.specs.declared.message.ClaimState.TheVariants.{Open, Committed, Aborted}
-use Rattle.ring_layout.specs.History.{IsMessage, span}
+use Rattle.ring_layout.specs.{History.IsMessage, History.span, Places.next_place, Places.rounded}
 use Rattle.ring_layout.specs.Headers.{header_of, open_header, committed_header, aborted_header, padding_type}
-use Rattle.ring_layout.specs.Places.{next_place, rounded}
-use Rattle.ring_layout.proofs.HeaderLemmas.{fits_neg}
-use Rattle.ring_layout.proofs.PlaceLemmas.{next_cases}
+use Rattle.ring_layout.proofs.{HeaderLemmas.fits_neg, PlaceLemmas.next_cases}
 use Rattle.ring_table.specs.Staged.{elsewhere, padding_mark, padding_word, StagedClaim, Stage, Moved, Padded, Stored, ArePlaced, claim_of, claim_end, staged_span, masked_padding, masked_record, staged_word, staged_word_at}
 use Rattle.ring_table.specs.Marks.{kind_of, bytes_of, mark_of}
 use Rattle.ring_table.proofs.StagedWords.{staged_word-header, staged_word-padding, staged_word-padding_behind, staged_word-record}

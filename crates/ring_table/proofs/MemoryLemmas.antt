@@ -1,16 +1,10 @@
 -- The words as one of them changes.
-use Rattle.ring_table.specs.Staged.{Bodies}
+use Rattle.ring_table.specs.Staged.{Bodies, StagedClaim, claim_end, staged_word, staged_word_at, LiesAfter, staged_end}
 use Rattle.std.proofs.Common.{◌≡◌, ◌≢◌, ℕ, ◌+◌, ◌/◌, ◌%◌, ◌≤◌, ◌<◌, List, [], ◌∷◌, ◌++◌, cond, ltb, set, get_or, sym, ap, ◌∙◌, subst, length, le-ltb, length-set, get_or-set_other, get_or-set_same, arith}
-use mathlib.Core.Option.{some}
-use mathlib.Core.Logic.{dite}
-use native.Mathlib.Decide.{ℕ_discrete}
-use lib.ListN.{get_elem?}
-use Rattle.ring_layout.specs.Places.{index, max_position}
+use Rattle.std.proofs.Math.{Option.some, Logic.dite, Decide.ℕ_discrete, ListN.get_elem?}
+use Rattle.ring_layout.{specs.Places.index, specs.Places.max_position, proofs.Laps.IsInLap, proofs.Laps.apart}
 use Rattle.ring_layout.specs.Layout.{tail_index, head_cache_index, head_index, correlation_index, heartbeat_index, IsUnnamed}
-use Rattle.ring_layout.proofs.Laps.{IsInLap, apart}
-use Rattle.ring_table.specs.Staged.{StagedClaim, claim_end, staged_word, staged_word_at, LiesAfter, staged_end}
-use Rattle.ring_table.specs.Owners.{OwnedHistory, all_of, edited}
-use Rattle.ring_table.specs.Views.{ConsumerView}
+use Rattle.ring_table.specs.{Owners.OwnedHistory, Owners.all_of, Owners.edited, Views.ConsumerView}
 use Rattle.ring_table.specs.Rule.{IsLawful, IsMemory, IsService}
 use Rattle.ring_table.proofs.StagedPlaces.{capacity_aligned, inside_buffer, start_aligned}
 use Rattle.ring_table.proofs.HistoryLemmas.{staged_end-append, placed_append, staged_word_at-append, MayReplaceAt, staged_end-edited, placed_edited, staged_word_at-edited}

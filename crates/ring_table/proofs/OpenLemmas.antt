@@ -1,20 +1,13 @@
 -- A fresh ring meets the rule.
-use Rattle.ring_table.specs.Staged.{Bodies}
+use Rattle.ring_table.specs.{Staged.Bodies, Staged.StagedClaim, ProducerSteps.HasClaim, Shelf.IsOneOut, Shelf.IsShelf}
 use Rattle.std.proofs.Common.{◌≡◌, ℕ, zero, suc, ◌/◌, ◌≤◌, ◌<◌, List, [], ◌∷◌, Bool, true, false, cond, ltb, sym, refl, ap, ◌∙◌, subst, inl, length, map, replicate, le-ltb, arith}
-use mathlib.Core.Option.{some, some-injective, some-ne-none}
-use lib.ListN.{get_elem?}
+use Rattle.std.proofs.Math.{Option.some, Option.some-injective, Option.some-ne-none, ListN.get_elem?}
 use Rattle.ring_layout.specs.Places.{index, max_position}
 use Rattle.std.proofs.lemmas.List.{length-map, length-replicate}
 use Rattle.atomic_table.proofs.Lists.{at_map}
-use Rattle.ring_table.specs.Staged.{StagedClaim}
-use Rattle.ring_table.specs.ProducerSteps.{HasClaim}
-use Rattle.ring_table.specs.Shelf.{IsOneOut, IsShelf}
-use Rattle.ring_table.specs.Services.{once_below}
-use Rattle.ring_table.specs.Views.{View, first_view, consumer_from}
-use Rattle.ring_table.specs.Rule.{IsLawful, Knows, Kept}
-use Rattle.ring_table.specs.Closed.{IsFresh}
-use Rattle.ring_table.proofs.StagedPlaces.{start_aligned}
-use Rattle.ring_table.proofs.MemoryLemmas.{index_inside}
+use Rattle.ring_table.specs.{Services.once_below, Closed.IsFresh}
+use Rattle.ring_table.specs.{Views.View, Views.first_view, Views.consumer_from, Rule.IsLawful, Rule.Knows, Rule.Kept}
+use Rattle.ring_table.proofs.{StagedPlaces.start_aligned, MemoryLemmas.index_inside}
 
 pub fresh_keeps : (B : Bodies) (C start : ℕ) (words : List ℕ) → IsLawful C start → start ≤ max_position → IsFresh C start words
     → Kept B C start words (first_view (record { capacity = C; start = start }) ∷ [])

@@ -1,38 +1,21 @@
 -- The steps that take a body's slots keep the rule.
-use Rattle.std.proofs.Common.{◌≡◌, ℕ, zero, suc, ◌+◌, ◌*◌, ◌≤◌, ◌<◌, List, [], ◌∷◌, ◌++◌, true, cond, set, slice_index, sym, refl, ap, ◌∙◌, subst, inl, inr, ⊎_elim, length, length-append, append-nil, eq-eqb, ne_eqb, arith}
-use Rattle.std.specs.Prelude.{All}
-use mathlib.Core.Option.{Option, some, some-injective, some-ne-none}
-use mathlib.Core.Logic.{dite}
-use native.Mathlib.Decide.{ℕ_discrete}
-use lib.ListN.{get_elem?}
-use Rattle.std.proofs.lemmas.List.{set-get_or}
-use Rattle.atomic_table.specs.Table.{State, Allows, carried_after}
-use Rattle.atomic_table.proofs.Lists.{at_last}
-use Rattle.ring_layout.specs.declared.message.ClaimState.TheVariants.{Open}
-use Rattle.ring_layout.specs.Places.{index}
+use Rattle.std.proofs.Common.{◌≡◌, ℕ, zero, suc, ◌+◌, ◌*◌, ◌≤◌, ◌<◌, List, [], ◌∷◌, ◌++◌, true, cond, set, slice_index, sym, refl, ap, ◌∙◌, subst, inl, inr, ⊎_elim, length, length-append, append-nil, eq-eqb, ne_eqb, arith, All}
+use Rattle.std.proofs.Math.{Option.Option, Option.some, Option.some-injective, Option.some-ne-none, Decide.ℕ_discrete}
+use Rattle.std.proofs.{Math.Logic.dite, Math.ListN.get_elem?, lemmas.List.set-get_or}
+use Rattle.atomic_table.{specs.Table.State, specs.Table.Allows, specs.Table.carried_after, proofs.Lists.at_last}
+use Rattle.ring_layout.specs.{declared.message.ClaimState.TheVariants.Open, Places.index}
 use Rattle.ring_layout.proofs.ListLemmas.{at_below}
 use Rattle.ring_table.specs.Staged.{Bodies, elsewhere, StagedClaim, PlacedMessage, Padded, Stored, IsStored, AreRising, staged_end, body_word, slot_bytes}
-use Rattle.ring_table.specs.Owners.{OwnedHistory, all_of, owned_by}
-use Rattle.ring_table.specs.Passing.{IsSettled, placed_message}
-use Rattle.ring_table.specs.Views.{View}
-use Rattle.ring_table.specs.ProducerSteps.{Mine, HasClaim}
-use Rattle.ring_table.specs.Rule.{Kept}
-use Rattle.ring_table.specs.Ranges.{numbered, takes_from}
-use Rattle.ring_table.specs.Shelf.{IsClaimOf}
+use Rattle.ring_table.specs.{Owners.OwnedHistory, Owners.all_of, Owners.owned_by, Ranges.numbered, Ranges.takes_from}
+use Rattle.ring_table.specs.{Passing.IsSettled, Passing.placed_message, ProducerSteps.Mine, ProducerSteps.HasClaim}
+use Rattle.ring_table.{specs.Views.View, specs.Rule.Kept, specs.Shelf.IsClaimOf, proofs.KnowLemmas.knows_on}
 use Rattle.ring_table.specs.SlotSteps.{words_of, HasBody, HasSlots, with_out, ReservesAt, ReservesBody, TakesBody, LendsBody}
-use Rattle.ring_table.proofs.RangeLemmas.{carried_takes, valid_takes}
-use Rattle.ring_table.proofs.ListLemmas.{there_or_past}
-use Rattle.ring_table.proofs.ReachLemmas.{stored_of}
-use Rattle.ring_table.proofs.KnowLemmas.{knows_on}
-use Rattle.ring_table.proofs.StepLemmas.{sees_top_after, becomes}
-use Rattle.ring_table.proofs.LoadLemmas.{Ok, HasUnsettled, stands}
-use Rattle.ring_table.proofs.StoreLemmas.{rising, same_place, header_lies}
-use Rattle.ring_table.proofs.ClearLemmas.{one_end}
-use Rattle.ring_table.proofs.CarryLemmas.{Holds, one_claim}
-use Rattle.ring_table.proofs.BodyPlaces.{body_index, gathered}
+use Rattle.ring_table.proofs.{RangeLemmas.carried_takes, RangeLemmas.valid_takes, SlotLemmas.takes_shelf}
+use Rattle.ring_table.proofs.{ListLemmas.there_or_past, LoadLemmas.Ok, LoadLemmas.HasUnsettled, LoadLemmas.stands}
+use Rattle.ring_table.proofs.{ReachLemmas.stored_of, CarryLemmas.Holds, CarryLemmas.one_claim, SlotBytes.length_slot}
+use Rattle.ring_table.proofs.{StepLemmas.sees_top_after, StepLemmas.becomes, BodyPlaces.body_index, BodyPlaces.gathered}
+use Rattle.ring_table.proofs.{StoreLemmas.rising, StoreLemmas.same_place, StoreLemmas.header_lies, ClearLemmas.one_end}
 use Rattle.ring_table.proofs.OutPlaces.{own_lies, got_lies, none_at_own, none_at_got, all_home, reads_from}
-use Rattle.ring_table.proofs.SlotBytes.{length_slot}
-use Rattle.ring_table.proofs.SlotLemmas.{takes_shelf}
 
 -- ---- views and lists
 

@@ -1,20 +1,12 @@
 -- Whose body a seat has out, and where it lies.
 use Rattle.std.proofs.Common.{◌≡◌, ◌≢◌, ℕ, ◌+◌, ◌*◌, ◌≤◌, ◌<◌, ◌⊎◌, List, [], ◌∷◌, ◌++◌, true, sym, refl, ap, ◌∙◌, subst, inl, inr, ⊎_elim, length, arith}
-use mathlib.Core.Option.{Option, some, some-injective, some-ne-none}
-use lib.ListN.{get_elem?}
+use Rattle.std.proofs.Math.{Option.Option, Option.some, Option.some-injective, Option.some-ne-none, ListN.get_elem?}
 use Rattle.atomic_table.proofs.Lists.{at_last}
 use Rattle.ring_layout.specs.Places.{index}
-use Rattle.ring_table.specs.Staged.{elsewhere, StagedClaim, PlacedMessage}
-use Rattle.ring_table.specs.Passing.{IsSettled}
-use Rattle.ring_table.specs.Views.{ConsumerView, View}
-use Rattle.ring_table.specs.ProducerSteps.{HasClaim}
-use Rattle.ring_table.specs.Rule.{Kept}
-use Rattle.ring_table.specs.Shelf.{IsOwnOut, IsGotOut, ReadsFrom, IsShelf}
-use Rattle.ring_table.specs.SlotSteps.{words_of}
-use Rattle.ring_table.proofs.HistoryLemmas.{owned_at}
-use Rattle.ring_table.proofs.StagedPlaces.{one_at_place}
-use Rattle.ring_table.proofs.StepLemmas.{one_view}
-use Rattle.ring_table.proofs.LoadLemmas.{stands}
+use Rattle.ring_table.specs.{Staged.elsewhere, Staged.StagedClaim, Staged.PlacedMessage, Views.ConsumerView, Views.View}
+use Rattle.ring_table.specs.{Passing.IsSettled, Rule.Kept, SlotSteps.words_of}
+use Rattle.ring_table.specs.{ProducerSteps.HasClaim, Shelf.IsOwnOut, Shelf.IsGotOut, Shelf.ReadsFrom, Shelf.IsShelf}
+use Rattle.ring_table.proofs.{HistoryLemmas.owned_at, StagedPlaces.one_at_place, StepLemmas.one_view, LoadLemmas.stands}
 use Rattle.ring_table.proofs.BodyPlaces.{Lies, WasPassed, body_index, body_below, one_slot, passed_claim, claim_lies}
 
 -- ---- lists

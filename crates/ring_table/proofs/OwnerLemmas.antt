@@ -1,7 +1,6 @@
 -- The claims of several producers make one history.
 use Rattle.std.proofs.Common.{◌≡◌, ◌≢◌, ℕ, ◌<◌, List, [], ◌∷◌, Bool, true, false, cond, eqb, ltb, true≢false, sym, refl, ap, ◌∙◌, lt-ltb, le-ltb, eq-eqb, ne_eqb, arith}
-use mathlib.Core.Logic.{dite}
-use native.Mathlib.Decide.{ℕ_discrete}
+use Rattle.std.proofs.Math.{Logic.dite, Decide.ℕ_discrete}
 use Rattle.ring_layout.proofs.PlaceLemmas.{next_le}
 use Rattle.ring_table.specs.Staged.{StagedClaim, staged_span, claim_end, ArePlaced, AreAbove, AreRising}
 use Rattle.ring_table.specs.Owners.{OwnedHistory, all_of, owned_by, insert_claim, interleaved, handed_over}

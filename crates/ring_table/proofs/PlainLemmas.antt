@@ -1,22 +1,16 @@
 -- Claims at any stage as plain ones: each at its own place, and a stretch without headers as claims without bytes.
 use Rattle.std.proofs.Common.{◌≡◌, ℕ, zero, suc, ◌+◌, ◌-◌, ◌*◌, ◌/◌, ◌%◌, ◌≤◌, ◌<◌, pos, List, [], ◌∷◌, ◌++◌, cond, sym, refl, ap, ◌∙◌, subst, inl, inr, Bool, true, false, eqb, ⊎_elim, length, replicate, lt-ltb, le-ltb, arith}
-use Rattle.std.proofs.lemmas.List.{length-replicate}
+use Rattle.std.proofs.lemmas.{List.length-replicate, List.Elements.All-nil, List.Elements.All-replicate, Nat.mod_below}
 use Rattle.std.proofs.lemmas.Bool.{cases_lt, cond-true, cond-false}
-use Rattle.std.proofs.lemmas.List.Elements.{All-nil, All-replicate}
-use Rattle.std.proofs.lemmas.Nat.{mod_below}
-use Rattle.ring_layout.specs.declared.message.Message.{Message}
-use Rattle.ring_layout.specs.declared.message.ClaimState.TheVariants.{Aborted}
+use Rattle.ring_layout.specs.declared.message.{Message.Message, ClaimState.TheVariants.Aborted}
 use Rattle.ring_layout.specs.History.{IsMessage}
-use Rattle.ring_layout.specs.Headers.{padding_header}
-use Rattle.ring_layout.specs.Places.{IsCapacity, next_place, room}
-use Rattle.ring_layout.proofs.Laps.{mod_aligned}
-use Rattle.ring_layout.proofs.PlaceLemmas.{next_cases, next_le, next_within}
+use Rattle.ring_layout.specs.{Headers.padding_header, Places.IsCapacity, Places.next_place, Places.room}
+use Rattle.ring_layout.proofs.{Laps.mod_aligned, PlaceLemmas.next_cases, PlaceLemmas.next_le, PlaceLemmas.next_within}
 use Rattle.ring_table.specs.Staged.{in_words, StagedClaim, PlacedMessage, Stage, Moved, Padded, Stored, claim_of, claim_end, staged_span, masked_padding, masked_record, padding_word, record_word, staged_word, staged_word_at, ArePlaced, staged_end}
 use Rattle.ring_table.specs.Passing.{placed_message, shown_at, placed_committed_of}
 use Rattle.ring_table.specs.Rescued.{one_if_unsettled, silent_of, silent_bytes, unsettled_count}
 use Rattle.ring_table.specs.Settling.{ArePlain, IsPlainStage}
-use Rattle.ring_table.proofs.BodyWords.{body_word-zeros}
-use Rattle.ring_table.proofs.StagedPlaces.{capacity_aligned, claim_aligned}
+use Rattle.ring_table.proofs.{BodyWords.body_word-zeros, StagedPlaces.capacity_aligned, StagedPlaces.claim_aligned}
 use Rattle.ring_table.proofs.StagedWords.{staged_word-header, staged_word-in_words, staged_word-padding, staged_word-padding_behind, staged_word-record}
 
 -- plain claims from e on that show the words W, and end, have and count as others

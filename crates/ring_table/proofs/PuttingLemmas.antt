@@ -1,20 +1,13 @@
 -- The loops that put bytes into the slots of a body.
-use Rattle.std.proofs.Common.{◌≡◌, ℕ, suc, ◌+◌, ◌-◌, ◌*◌, ◌<◌, ◌≤◌, ◌⊎◌, inl, inr, List, [], ◌∷◌, ◌++◌, All, drop, slice_index, length, length-append, sym, refl, ap, ◌∙◌, append-nil, arith}
-use mathlib.Core.Option.{some-ne-none}
-use lib.ListN.{get_elem?}
-use Rattle.std.specs.List.{slice_range}
-use Rattle.std.specs.Int.{from_le_bytes, to_le_bytes, w64}
-use Rattle.std.proofs.lemmas.Bool.{cases_lt}
-use Rattle.std.proofs.lemmas.List.Elements.{All-from_get_or}
-use Rattle.std.proofs.lemmas.List.{get_or-drop, get_or-take, length-drop, length-take-le}
+use Rattle.std.proofs.Common.{◌≡◌, ℕ, suc, ◌+◌, ◌-◌, ◌*◌, ◌<◌, ◌≤◌, ◌⊎◌, inl, inr, List, [], ◌∷◌, ◌++◌, All, drop, slice_index, length, length-append, sym, refl, ap, ◌∙◌, append-nil, arith, slice_range, w64, get_or-drop, get_or-take, length-drop, length-take-le}
+use Rattle.std.proofs.Math.{Option.some-ne-none, ListN.get_elem?}
+use Rattle.std.specs.Int.{from_le_bytes, to_le_bytes}
+use Rattle.std.proofs.lemmas.{Bool.cases_lt, List.Elements.All-from_get_or}
 use Rattle.ring_layout.specs.History.{overwritten}
 use Rattle.ring_layout.proofs.WordBytes.{from_le_bytes-same, overwritten_before, overwritten_behind, overwritten_inside, overwritten_word, overwritten_word_apart}
-use Rattle.ring_table.specs.Filling.{Putting, Takes}
-use Rattle.ring_table.specs.Ranges.{numbered}
-use Rattle.ring_table.specs.SlotSteps.{HasBody, words_of}
-use Rattle.ring_table.specs.Staged.{body_word}
+use Rattle.ring_table.specs.{Filling.Putting, Filling.Takes, SlotSteps.HasBody, SlotSteps.words_of, Staged.body_word}
+use Rattle.ring_table.{specs.Ranges.numbered, proofs.RangeLemmas.first_of_some, proofs.RangeLemmas.turned_on}
 use Rattle.ring_table.proofs.FillLemmas.{all_small, none_of, words_more}
-use Rattle.ring_table.proofs.RangeLemmas.{first_of_some, turned_on}
 
 module _ (first n : ℕ) (old new : List ℕ) where
   pub put_start : (held : List (ℕ × ℕ)) → Takes first n old held → Putting first 0 (words_of n) old new held

@@ -1,7 +1,6 @@
 -- What the acts on a range of slots do to the homes and to what a seat has.
 use Rattle.std.proofs.Common.{◌≡◌, ℕ, zero, suc, ◌+◌, ◌<◌, ◌≤◌, ◌≢◌, ◌⊎◌, List, [], ◌∷◌, ◌++◌, map, length, set, sym, refl, ap, ◌∙◌, inl, inr, length-set, append_assoc, arith}
-use mathlib.Core.Option.{Option, none, some, some-ne-none}
-use lib.ListN.{get_elem?}
+use Rattle.std.proofs.Math.{Option.Option, Option.none, Option.some, Option.some-ne-none, ListN.get_elem?}
 use Rattle.atomic_table.specs.Table.{Act, keeps, takes, gives, chain, carried_after, homes_after, Valid}
 use Rattle.atomic_table.proofs.Lists.{set_here, set_else}
 use Rattle.ring_table.specs.Ranges.{numbered, values_of, laid, takes_from, gives_first}

@@ -1,13 +1,10 @@
 -- What a read has passed stays passed.
-use Rattle.ring_table.specs.Staged.{in_words}
+use Rattle.ring_table.specs.{Staged.in_words, Owners.OwnedHistory, Owners.all_of, Owners.edited_one, Owners.edited}
 use Rattle.std.proofs.Common.{◌≡◌, ◌≢◌, ℕ, zero, suc, ◌+◌, ◌%◌, ◌≤◌, ◌<◌, ◌⊎◌, List, [], ◌∷◌, ◌++◌, cond, sym, refl, ap, ◌∙◌, subst, inl, inr, ⊎_elim, length, lt-ltb, le-ltb, arith}
-use mathlib.Core.Option.{some, some-injective, some-ne-none}
-use lib.ListN.{get_elem?}
+use Rattle.std.proofs.Math.{Option.some, Option.some-injective, Option.some-ne-none, ListN.get_elem?}
 use Rattle.ring_layout.specs.declared.message.ClaimState.TheVariants.{Open, Committed, Aborted}
-use Rattle.ring_layout.proofs.PlaceLemmas.{next_le}
-use Rattle.ring_layout.proofs.Laps.{IsLap}
+use Rattle.ring_layout.proofs.{PlaceLemmas.next_le, Laps.IsLap}
 use Rattle.ring_table.specs.Staged.{StagedClaim, PlacedMessage, Stage, Moved, Padded, Stored, staged_span, claim_end, staged_word, staged_word_at, body_word, ArePlaced, staged_end, IsStored}
-use Rattle.ring_table.specs.Owners.{OwnedHistory, all_of, edited_one, edited}
 use Rattle.ring_table.specs.Passing.{IsSettled, placed_message, shown_at, Reaches}
 use Rattle.ring_table.proofs.StagedPlaces.{StandFrom, end_le, lies_in, claim_aligned}
 use Rattle.ring_table.proofs.StagedWords.{staged_word-in_words}

@@ -1,39 +1,22 @@
 -- The consumer's loads of marks keep the rule.
-use Rattle.std.proofs.Common.{◌≡◌, ◌≢◌, ◌⊎◌, ℕ, suc, ◌+◌, ◌-◌, ◌/◌, ◌%◌, ◌^◌, ◌≤◌, ◌<◌, List, [], ◌∷◌, ◌++◌, true, set, slice_index, sym, refl, ap, ◌∙◌, subst, inl, inr, ⊎_elim, length, eq-eqb, arith}
-use Rattle.std.specs.Int.{cast_unsigned, w32}
-use mathlib.Core.Option.{Option, some}
-use mathlib.Core.Logic.{dite}
-use native.Mathlib.Decide.{ℕ_discrete}
-use lib.ListN.{get_elem?}
-use Rattle.std.proofs.lemmas.Bool.{cond-true}
-use Rattle.std.proofs.lemmas.List.{set-get_or}
+use Rattle.std.proofs.Common.{◌≡◌, ◌≢◌, ◌⊎◌, ℕ, suc, ◌+◌, ◌-◌, ◌/◌, ◌%◌, ◌^◌, ◌≤◌, ◌<◌, List, [], ◌∷◌, ◌++◌, true, set, slice_index, sym, refl, ap, ◌∙◌, subst, inl, inr, ⊎_elim, length, eq-eqb, arith, w32}
+use Rattle.std.{specs.Int.cast_unsigned, proofs.lemmas.Bool.cond-true, proofs.lemmas.List.set-get_or}
+use Rattle.std.proofs.Math.{Option.Option, Option.some, Logic.dite, Decide.ℕ_discrete, ListN.get_elem?}
 use Rattle.atomic_table.specs.Table.{State, Act, Allows, Valid, keeps, carried_after, homes_after}
 use Rattle.atomic_table.proofs.Lists.{set_here}
 use Rattle.ring_layout.specs.Marks.{committed_kind, open_kind, padding_kind, aborted_kind}
-use Rattle.ring_layout.specs.History.{IsMessage}
-use Rattle.ring_layout.specs.Places.{index, rounded}
-use Rattle.ring_layout.specs.Headers.{padding_header, committed_header}
-use Rattle.ring_layout.proofs.ListLemmas.{at_below}
+use Rattle.ring_layout.{specs.History.IsMessage, proofs.ListLemmas.at_below}
+use Rattle.ring_layout.specs.{Places.index, Places.rounded, Headers.padding_header, Headers.committed_header}
 use Rattle.ring_table.specs.Staged.{elsewhere, slot_bytes, PlacedMessage, shown_header, staged_word_at}
-use Rattle.ring_table.specs.Owners.{all_of}
-use Rattle.ring_table.specs.Passing.{Reaches}
+use Rattle.ring_table.specs.{Owners.all_of, ConsumerSteps.with_scan, ConsumerSteps.IsInside, ConsumerSteps.LoadsHeader}
+use Rattle.ring_table.specs.{Passing.Reaches, Rule.Kept, Ranges.numbered}
 use Rattle.ring_table.specs.Views.{ConsumerView, Logs, Run, View, no_run, with_run}
-use Rattle.ring_table.specs.Rule.{Kept}
-use Rattle.ring_table.specs.Shelf.{IsShelf}
-use Rattle.ring_table.specs.ProducerSteps.{Mine}
-use Rattle.ring_table.specs.ConsumerSteps.{with_scan, IsInside, LoadsHeader}
-use Rattle.ring_table.specs.Ranges.{numbered}
-use Rattle.ring_table.proofs.RangeLemmas.{first_of_some}
-use Rattle.ring_table.proofs.SlotBytes.{first_word_of, length_slot}
-use Rattle.ring_table.specs.SlotSteps.{with_out, HasBody, IsLent}
+use Rattle.ring_table.specs.{Shelf.IsShelf, ProducerSteps.Mine, SlotSteps.with_out, SlotSteps.HasBody, SlotSteps.IsLent}
+use Rattle.ring_table.proofs.{RangeLemmas.first_of_some, StagedPlaces.start_aligned, ShelfLemmas.stepped_shelf}
+use Rattle.ring_table.proofs.{SlotBytes.first_word_of, SlotBytes.length_slot, OutLemmas.lends_body, OutLemmas.set_twice}
 use Rattle.ring_table.specs.Marks.{bytes_of, kind_of, IsCommitted, KeepsMarks, LoadsInRun, LoadsMark, ReadsRun, TakesRecord}
-use Rattle.ring_table.proofs.StagedPlaces.{start_aligned}
-use Rattle.ring_table.proofs.ReachLemmas.{reach_bounds}
+use Rattle.ring_table.proofs.{ReachLemmas.reach_bounds, ConsumeLemmas.scans, CarryLemmas.carries_same}
 use Rattle.ring_table.proofs.HeaderReads.{shown_low, shown_other, Leads, leads}
-use Rattle.ring_table.proofs.ConsumeLemmas.{scans}
-use Rattle.ring_table.proofs.ShelfLemmas.{stepped_shelf}
-use Rattle.ring_table.proofs.CarryLemmas.{carries_same}
-use Rattle.ring_table.proofs.OutLemmas.{lends_body, set_twice}
 use Rattle.ring_table.proofs.MarkWords.{bytes_plain, whole_bytes, kind_aborted, kind_committed, kind_open, kind_padding}
 use Rattle.ring_table.proofs.MarkSteps.{Marked, header_near, remarked_by, with_headers}
 use Rattle.ring_table.proofs.RunLemmas.{above_at, begins_at, begins_head, full_at, head_now, header_at, mark_at, reads_nothing, reads_on, reads_past, shown_at, whole_at}

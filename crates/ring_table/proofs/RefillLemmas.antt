@@ -1,7 +1,6 @@
 -- The walk that puts bodies beside their headers.
 use Rattle.std.proofs.Common.{◌≡◌, ℕ, ◌+◌, ◌-◌, ◌*◌, ◌/◌, ◌%◌, ◌^◌, ◌≤◌, ◌<◌, ◌⊎◌, pos, List, [], ◌∷◌, ◌++◌, slice_index, sym, refl, ap, ◌∙◌, subst, inl, inr, ⊎_elim, length, lt-ltb, le-ltb, append_assoc, append-nil, arith}
-use Rattle.std.proofs.lemmas.Bool.{cases_lt, cond-true, cond-false}
-use Rattle.std.proofs.lemmas.Nat.{mod_below}
+use Rattle.std.proofs.lemmas.{Bool.cases_lt, Bool.cond-true, Bool.cond-false, Nat.mod_below}
 use Rattle.ring_layout.specs.declared.message.ClaimState.TheVariants.{Open, Committed, Aborted}
 use Rattle.ring_layout.specs.Headers.{header, header_of, padding_type}
 use Rattle.ring_layout.specs.Places.{IsCapacity, index, next_place, rounded}
@@ -11,8 +10,7 @@ use Rattle.ring_table.specs.Staged.{in_words, StagedClaim, Stage, Moved, Padded,
 use Rattle.ring_table.specs.Passing.{IsSettled, placed_message, shown_at, placed_committed_of}
 use Rattle.ring_table.specs.Refilling.{FillsOver, FillsTo, Filled, FitAll, FitsBody, all_filled, filled, filled_message}
 use Rattle.ring_table.specs.Walk.{IsCopied}
-use Rattle.ring_table.proofs.BodyPlaces.{BodyIn, behind_header}
-use Rattle.ring_table.proofs.HeaderReads.{halves, type_below}
+use Rattle.ring_table.proofs.{BodyPlaces.BodyIn, BodyPlaces.behind_header, HeaderReads.halves, HeaderReads.type_below}
 use Rattle.ring_table.proofs.SettleLemmas.{snoc_before, snoc_end, snoc_placed, snoc_there}
 use Rattle.ring_table.proofs.StagedPlaces.{capacity_aligned, end_le, nothing_behind}
 use Rattle.ring_table.proofs.StagedWords.{staged_word-header, staged_word-in_words}

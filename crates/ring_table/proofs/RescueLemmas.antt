@@ -1,19 +1,13 @@
 -- What the consumer's seat alone knows of a table's last state.
 use Rattle.std.proofs.Common.{◌≡◌, ℕ, ◌/◌, ◌%◌, ◌≤◌, List, ◌++◌, cond, true, length, slice_index, refl, sym, ap, ◌∙◌, subst, le-ltb, arith}
-use mathlib.Core.Option.{some}
-use Rattle.std.specs.declared.alloc.Global.{Global}
+use Rattle.std.{proofs.Math.Option.some, specs.declared.alloc.Global.Global, proofs.Math.ListN.get_elem?}
 use Rattle.atomic_table.specs.declared.owned.Closed.{Closed}
-use lib.ListN.{get_elem?}
 use Rattle.ring_layout.specs.Layout.{correlation_index, head_cache_index, head_index, heartbeat_index, tail_index}
-use Rattle.ring_table.specs.Closed.{restarted}
-use Rattle.ring_table.specs.Owners.{OwnedHistory, all_of}
+use Rattle.ring_table.specs.{Closed.restarted, Views.ConsumerView, Views.View, declared.view.Key.Key}
+use Rattle.ring_table.specs.{Owners.OwnedHistory, Owners.all_of, Rule.IsMemory, Rule.IsService, Rule.Kept}
 use Rattle.ring_table.specs.Rescued.{HadHistory, IsSaved, Rescues, Settles, ShowsClaims}
-use Rattle.ring_table.specs.Rule.{IsMemory, IsService, Kept}
 use Rattle.ring_table.specs.Staged.{Bodies, in_words, elsewhere, StagedClaim, ArePlaced, staged_end, staged_word_at}
-use Rattle.ring_table.specs.Views.{ConsumerView, View}
-use Rattle.ring_table.specs.declared.view.Key.{Key}
-use Rattle.ring_table.proofs.MemoryLemmas.{head_bounds}
-use Rattle.ring_table.proofs.RestLemmas.{Splits, splits}
+use Rattle.ring_table.proofs.{MemoryLemmas.head_bounds, RestLemmas.Splits, RestLemmas.splits}
 
 -- a table had the history of its last state
 pub had_history : (B : Bodies) (k : Key) (v : View) (closed : Closed ℕ Global) → IsSaved B k v closed

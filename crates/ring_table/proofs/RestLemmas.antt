@@ -1,17 +1,12 @@
 -- What a read leaves is a history of its own, from the place of the read.
-use Rattle.ring_table.specs.Staged.{Bodies, in_words}
+use Rattle.ring_table.specs.{Staged.Bodies, Staged.in_words, Closed.restarted}
 use Rattle.std.proofs.Common.{◌≡◌, ℕ, ◌+◌, ◌-◌, ◌≤◌, ◌<◌, List, [], ◌∷◌, ◌++◌, cond, ltb, sym, refl, ap, ◌∙◌, inl, inr, ⊎_elim, length, lt-ltb, le-ltb, arith}
-use mathlib.Core.Logic.{dite}
-use native.Mathlib.Decide.{ℕ_discrete}
-use Rattle.std.proofs.lemmas.Bool.{cases_lt}
-use Rattle.ring_layout.specs.Places.{next_place, end_of}
-use Rattle.ring_layout.specs.Headers.{padding_header}
-use Rattle.ring_layout.specs.Picture.{claim_word, word_at}
-use Rattle.ring_layout.proofs.PlaceLemmas.{next_fixed, next_le}
+use Rattle.std.proofs.{Math.Logic.dite, Math.Decide.ℕ_discrete, lemmas.Bool.cases_lt}
+use Rattle.ring_layout.specs.{Places.next_place, Places.end_of, Picture.claim_word, Picture.word_at}
+use Rattle.ring_layout.{specs.Headers.padding_header, proofs.PlaceLemmas.next_fixed, proofs.PlaceLemmas.next_le}
 use Rattle.ring_layout.proofs.PictureLemmas.{word_at_padding, word_at_padding_header, word_at_record, word_at_rest}
 use Rattle.ring_table.specs.Staged.{StagedClaim, PlacedMessage, Stage, Moved, Padded, Stored, IsStored, AreStored, claim_of, unplaced, claim_end, staged_span, masked_padding, masked_record, staged_word, staged_word_at, ArePlaced, staged_end}
 use Rattle.ring_table.specs.Passing.{AreSettled, placed_message, shown_at, placed_committed_of, Reaches}
-use Rattle.ring_table.specs.Closed.{restarted}
 use Rattle.ring_table.proofs.StagedWords.{staged_word-padding, staged_word-padding_behind, staged_word-record}
 use Rattle.ring_table.proofs.ReachLemmas.{reach_bounds}
 

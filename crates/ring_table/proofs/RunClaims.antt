@@ -1,25 +1,15 @@
 -- The claims of a run in the place of one claim.
 use Rattle.std.proofs.Common.{◌≡◌, ◌≢◌, ◌⊎◌, ℕ, ◌+◌, ◌-◌, ◌%◌, ◌^◌, ◌≤◌, ◌<◌, List, [], ◌∷◌, ◌++◌, cond, eqb, true, false, sym, refl, ap, ◌∙◌, subst, inl, inr, ⊎_elim, length, eq-eqb, ne_eqb, le-leb, lt-ltb, le-ltb, arith}
-use mathlib.Core.Option.{some-injective, some-ne-none}
-use mathlib.Core.Logic.{dite}
-use native.Mathlib.Decide.{ℕ_discrete}
-use lib.ListN.{get_elem?}
+use Rattle.std.proofs.Math.{Option.some-injective, Option.some-ne-none, Logic.dite, Decide.ℕ_discrete, ListN.get_elem?}
 use Rattle.std.proofs.lemmas.Bool.{cases_lt, cond-true, cond-false}
-use Rattle.ring_layout.specs.declared.message.Message.{Message}
-use Rattle.ring_layout.specs.declared.message.ClaimState.TheVariants.{Committed}
-use Rattle.ring_layout.specs.Headers.{committed_header}
-use Rattle.ring_layout.specs.History.{IsMessage, span}
-use Rattle.ring_layout.specs.Places.{next_place, room}
+use Rattle.ring_layout.specs.declared.message.{Message.Message, ClaimState.TheVariants.Committed}
+use Rattle.ring_layout.specs.{Headers.committed_header, History.IsMessage, History.span, Places.next_place, Places.room}
 use Rattle.ring_layout.proofs.Laps.{mod_step}
 use Rattle.ring_table.specs.Staged.{Bodies, elsewhere, StagedClaim, PlacedMessage, Moved, Stored, ArePlaced, claim_end, staged_end, staged_word_at}
-use Rattle.ring_table.specs.Owners.{OwnedHistory, all_of, owned_by}
-use Rattle.ring_table.specs.Passing.{IsSettled, Reaches}
+use Rattle.ring_table.specs.{Owners.OwnedHistory, Owners.all_of, Owners.owned_by, Passing.IsSettled, Passing.Reaches}
 use Rattle.ring_table.specs.Marks.{bytes_of, kind_of, IsCommitted}
-use Rattle.ring_table.specs.Runs.{run_bytes, run_claims, AreMessages}
-use Rattle.ring_table.proofs.DecodeLemmas.{inner_word}
-use Rattle.ring_table.proofs.MarkWords.{shows_claim}
-use Rattle.ring_table.proofs.StagedPlaces.{end_le}
-use Rattle.ring_table.proofs.StagedWords.{staged_word-header}
+use Rattle.ring_table.{specs.Runs.run_bytes, specs.Runs.run_claims, specs.Runs.AreMessages, proofs.StagedPlaces.end_le}
+use Rattle.ring_table.proofs.{DecodeLemmas.inner_word, MarkWords.shows_claim, StagedWords.staged_word-header}
 
 -- ---- two lists of claims, one after the other
 

@@ -1,9 +1,7 @@
 -- The records of messages in the slots of a run.
-use Rattle.std.proofs.Common.{◌≡◌, ℕ, zero, suc, ◌+◌, ◌-◌, ◌*◌, ◌/◌, ◌%◌, ◌^◌, ◌≤◌, ◌<◌, pos, List, [], ◌∷◌, ◌++◌, All, take, drop, get_or, sym, refl, ap, ◌∙◌, length, arith}
-use Rattle.std.proofs.Math.Seq.{take-add}
+use Rattle.std.proofs.Common.{◌≡◌, ℕ, zero, suc, ◌+◌, ◌-◌, ◌*◌, ◌/◌, ◌%◌, ◌^◌, ◌≤◌, ◌<◌, pos, List, [], ◌∷◌, ◌++◌, All, take, drop, get_or, sym, refl, ap, ◌∙◌, length, arith, take-add}
 use Rattle.std.proofs.lemmas.List.{take_more}
-use Rattle.ring_layout.specs.declared.message.Message.{Message}
-use Rattle.ring_layout.specs.History.{IsMessage, span}
+use Rattle.ring_layout.specs.{declared.message.Message.Message, History.IsMessage, History.span}
 use Rattle.ring_table.specs.RunBodies.{message_of, messages_of, LiesAt, Outgoing}
 use Rattle.ring_table.specs.Runs.{run_bytes, run_slots, AreMessages}
 use Rattle.ring_table.specs.Staged.{body_word, headed, slot_bytes}

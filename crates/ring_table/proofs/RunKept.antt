@@ -1,26 +1,18 @@
 -- The claims of a run take the place of the one claim that was made for them: the rule with headers.
 use Rattle.std.proofs.Common.{◌≡◌, ◌≢◌, ◌⊎◌, ℕ, ◌+◌, ◌-◌, ◌/◌, ◌%◌, ◌≤◌, ◌<◌, List, [], ◌∷◌, ◌++◌, cond, set, slice_index, sym, refl, ap, ◌∙◌, subst, inl, inr, ⊎_elim, length, append-nil, le-ltb, arith}
-use mathlib.Core.Option.{some, some-ne-none}
-use lib.ListN.{get_elem?}
+use Rattle.std.proofs.Math.{Option.some, Option.some-ne-none, ListN.get_elem?}
 use Rattle.std.proofs.lemmas.Bool.{cases_lt, cond-false}
 use Rattle.std.proofs.Common.{ne_eqb}
 use Rattle.atomic_table.proofs.Lists.{at_last}
-use Rattle.ring_layout.specs.declared.message.Message.{Message}
-use Rattle.ring_layout.specs.Places.{index, next_place}
+use Rattle.ring_layout.specs.{declared.message.Message.Message, Places.index, Places.next_place}
 use Rattle.ring_layout.specs.Layout.{tail_index, head_cache_index, head_index, correlation_index, heartbeat_index}
 use Rattle.ring_layout.proofs.PlaceLemmas.{next_within}
 use Rattle.ring_table.specs.Staged.{elsewhere, StagedClaim, Padded, ArePlaced, LiesAfter, claim_end, staged_end, staged_span, staged_word, staged_word_at, masked_record, record_word, claim_of}
-use Rattle.ring_table.specs.Owners.{OwnedHistory, all_of, owned_by}
-use Rattle.ring_table.specs.Passing.{IsSettled, Reaches}
-use Rattle.ring_table.specs.Views.{View, with_claims}
-use Rattle.ring_table.specs.Rule.{IsMemory, IsService, Kept}
-use Rattle.ring_table.specs.Marks.{at_position}
-use Rattle.ring_table.specs.Runs.{run_bytes, run_claims, AreMessages}
-use Rattle.ring_table.proofs.LoadLemmas.{HasUnsettled, stands}
-use Rattle.ring_table.proofs.KnowLemmas.{knows_after}
-use Rattle.ring_table.proofs.MemoryLemmas.{head_bounds}
-use Rattle.ring_table.proofs.StepLemmas.{becomes, sees_top_after}
-use Rattle.ring_table.proofs.StagedWords.{staged_word-record}
+use Rattle.ring_table.specs.{Owners.OwnedHistory, Owners.all_of, Owners.owned_by, Passing.IsSettled, Passing.Reaches}
+use Rattle.ring_table.specs.{Views.View, Views.with_claims, Runs.run_bytes, Runs.run_claims, Runs.AreMessages}
+use Rattle.ring_table.specs.{Rule.IsMemory, Rule.IsService, Rule.Kept, Marks.at_position}
+use Rattle.ring_table.proofs.{LoadLemmas.HasUnsettled, LoadLemmas.stands, StepLemmas.becomes, StepLemmas.sees_top_after}
+use Rattle.ring_table.proofs.{KnowLemmas.knows_after, MemoryLemmas.head_bounds, StagedWords.staged_word-record}
 use Rattle.ring_table.proofs.RunClaims.{Parted, parted, all_of-both, all_of-tagged, ends_both, owned_by-both, owned_by-tagged, owned_by-tagged_other, placed_back, placed_both, placed_front, reach_replaced, run_ends, run_placed, run_word, tagged, word_after, word_before}
 
 not_none : (others : List StagedClaim) (c : StagedClaim) → others ++ c ∷ [] ≡ [] → ⊥

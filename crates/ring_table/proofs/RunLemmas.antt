@@ -1,20 +1,13 @@
 -- Where a read stands in the runs of the rule with marks.
 use Rattle.std.proofs.Common.{◌≡◌, ◌≢◌, ℕ, ◌+◌, ◌%◌, ◌≤◌, ◌<◌, List, cond, sym, ap, ◌∙◌, subst, ⊎_elim, le-ltb, arith}
-use mathlib.Core.Logic.{dite}
-use native.Mathlib.Decide.{ℕ_discrete}
-use Rattle.std.proofs.lemmas.Bool.{cases_lt}
+use Rattle.std.proofs.{Math.Logic.dite, Math.Decide.ℕ_discrete, lemmas.Bool.cases_lt}
 use Rattle.atomic_table.specs.Table.{State}
-use Rattle.ring_table.specs.Staged.{PlacedMessage, elsewhere, staged_word_at}
-use Rattle.ring_table.specs.Owners.{all_of}
-use Rattle.ring_table.specs.Passing.{Reaches}
-use Rattle.ring_table.specs.Views.{View, no_run}
+use Rattle.ring_table.specs.{Staged.PlacedMessage, Staged.elsewhere, Staged.staged_word_at, Views.View, Views.no_run}
+use Rattle.ring_table.specs.{Owners.all_of, Passing.Reaches}
 use Rattle.ring_table.specs.Marks.{at_position, bytes_of, Begins, IsCommitted, IsOfRun, KeepsMarks, Precedes, ReadsRun}
-use Rattle.ring_table.proofs.StagedPlaces.{capacity_aligned, start_aligned}
-use Rattle.ring_table.proofs.MemoryLemmas.{head_bounds}
-use Rattle.ring_table.proofs.MarkWords.{long_bytes, whole_bytes}
-use Rattle.ring_table.proofs.MarkSteps.{header_near}
-use Rattle.ring_table.proofs.ReachLemmas.{reach_aligned, reach_bounds}
-use Rattle.ring_table.proofs.RunPlaces.{ends_before, none_inside}
+use Rattle.ring_table.proofs.{StagedPlaces.capacity_aligned, StagedPlaces.start_aligned, MemoryLemmas.head_bounds}
+use Rattle.ring_table.proofs.{MarkWords.long_bytes, MarkWords.whole_bytes, RunPlaces.ends_before, RunPlaces.none_inside}
+use Rattle.ring_table.proofs.{MarkSteps.header_near, ReachLemmas.reach_aligned, ReachLemmas.reach_bounds}
 
 module _ (C start : ℕ) (s : State ℕ View) (m : KeepsMarks C start s.words s.homes s.views) where
   abbrev pub header_at : ℕ → ℕ

@@ -1,15 +1,10 @@
 -- Headers and the positions between them: what has a header is passed as a whole, and nothing begins inside it.
 use Rattle.std.proofs.Common.{◌≡◌, ◌≢◌, ◌⊎◌, ℕ, zero, suc, ◌++◌, ◌+◌, ◌-◌, ◌%◌, ◌^◌, ◌≤◌, ◌<◌, List, [], ◌∷◌, length, sym, refl, ap, ◌∙◌, subst, inl, inr, ⊎_elim, lt-ltb, le-ltb, arith}
-use mathlib.Core.Logic.{dite}
-use mathlib.Core.Option.{some, some-injective}
-use lib.ListN.{get_elem?}
+use Rattle.std.proofs.Math.{Logic.dite, Option.some, Option.some-injective, ListN.get_elem?, Decide.ℕ_discrete}
 use Rattle.ring_layout.specs.declared.message.ClaimState.TheVariants.{Open, Committed, Aborted}
-use native.Mathlib.Decide.{ℕ_discrete}
 use Rattle.std.proofs.lemmas.Bool.{cases_lt, cond-true, cond-false}
-use Rattle.ring_layout.specs.Places.{IsCapacity}
-use Rattle.ring_layout.specs.Headers.{committed_header, header_of}
-use Rattle.ring_layout.specs.History.{IsMessage}
-use Rattle.ring_layout.specs.declared.message.Message.{Message}
+use Rattle.ring_layout.specs.{Places.IsCapacity, History.IsMessage}
+use Rattle.ring_layout.specs.{Headers.committed_header, Headers.header_of, declared.message.Message.Message}
 use Rattle.ring_layout.proofs.PlaceLemmas.{next_cases, next_le}
 use Rattle.ring_table.specs.Staged.{elsewhere, StagedClaim, PlacedMessage, Stage, Moved, Padded, Stored, ArePlaced, LiesAfter, claim_end, staged_span, stage_state, masked_padding, masked_record, padding_word, staged_word, staged_word_at}
 use Rattle.ring_table.specs.Passing.{IsSettled, Reaches, placed_message, shown_at}

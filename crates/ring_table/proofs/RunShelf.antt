@@ -1,32 +1,20 @@
 -- The shelf as the slots of a run go home.
 use Rattle.std.proofs.Common.{◌≡◌, ◌≢◌, ◌⊎◌, ℕ, zero, suc, ◌+◌, ◌-◌, ◌*◌, ◌/◌, ◌%◌, ◌≤◌, ◌<◌, List, [], ◌∷◌, ◌++◌, map, set, sym, refl, ap, ◌∙◌, subst, inl, inr, ⊎_elim, length, append-nil, arith}
-use mathlib.Core.Option.{Option, some}
-use mathlib.Core.Logic.{dite}
-use native.Mathlib.Decide.{ℕ_discrete}
-use lib.ListN.{get_elem?}
+use Rattle.std.proofs.Math.{Option.Option, Option.some, Logic.dite, Decide.ℕ_discrete, ListN.get_elem?}
 use Rattle.std.proofs.lemmas.List.{length-map}
 use Rattle.atomic_table.specs.Table.{homes_after}
 use Rattle.atomic_table.proofs.Lists.{at_set, at_map, at_longer, set_else}
-use Rattle.ring_layout.specs.declared.message.Message.{Message}
-use Rattle.ring_layout.specs.Places.{index}
+use Rattle.ring_layout.specs.{declared.message.Message.Message, Places.index}
 use Rattle.ring_table.specs.Staged.{elsewhere, StagedClaim, PlacedMessage, IsStored, body_word, slot_bytes}
-use Rattle.ring_table.specs.Passing.{IsSettled, placed_message}
-use Rattle.ring_table.specs.Views.{View, with_claims}
-use Rattle.ring_table.specs.ProducerSteps.{HasClaim}
-use Rattle.ring_table.specs.Rule.{Kept}
-use Rattle.ring_table.specs.Ranges.{numbered, laid, gives_first}
-use Rattle.ring_table.specs.Shelf.{IsOneOut, IsClaimOf, IsShelf}
-use Rattle.ring_table.specs.SlotSteps.{words_of, with_out, HasBody}
-use Rattle.ring_table.specs.Runs.{run_claims, run_slots}
+use Rattle.ring_table.specs.{Passing.IsSettled, Passing.placed_message, Shelf.IsOneOut, Shelf.IsClaimOf, Shelf.IsShelf}
+use Rattle.ring_table.specs.{Views.View, Views.with_claims, Rule.Kept, Ranges.numbered, Ranges.laid, Ranges.gives_first}
+use Rattle.ring_table.{specs.ProducerSteps.HasClaim, proofs.StepLemmas.one_view}
+use Rattle.ring_table.specs.{SlotSteps.words_of, SlotSteps.with_out, SlotSteps.HasBody, Runs.run_claims, Runs.run_slots}
 use Rattle.ring_table.proofs.BodyPlaces.{Lies, body_below, body_index, claim_lies, in_or_out, not_outside, one_slot}
-use Rattle.ring_table.proofs.FillLemmas.{word_there}
+use Rattle.ring_table.proofs.{FillLemmas.word_there, StagedPlaces.one_at_place, RunKept.FillsRun, RunKept.its}
 use Rattle.ring_table.proofs.OutPlaces.{in_history, one_out, own_lies, reads_above, same_value}
 use Rattle.ring_table.proofs.RangeLemmas.{Outside, homes_gives, laid_else, laid_here, length_laid}
-use Rattle.ring_table.proofs.SlotLemmas.{reader_now, reads_before}
-use Rattle.ring_table.proofs.StagedPlaces.{one_at_place}
-use Rattle.ring_table.proofs.StepLemmas.{one_view}
-use Rattle.ring_table.proofs.RunKept.{FillsRun, its}
-use Rattle.ring_table.proofs.RunSlots.{length_run, record_at}
+use Rattle.ring_table.proofs.{SlotLemmas.reader_now, SlotLemmas.reads_before, RunSlots.length_run, RunSlots.record_at}
 
 -- the record of a claim is one of those in the slots ws, which begin at the position p
 pub record InRun (p : ℕ) (ws : List ℕ) (c : StagedClaim) : Type 0 where

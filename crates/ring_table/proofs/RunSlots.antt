@@ -1,24 +1,16 @@
 -- The words that the slots of a run have.
-use Rattle.std.proofs.Common.{◌≡◌, ℕ, zero, suc, ◌+◌, ◌-◌, ◌%◌, ◌^◌, ◌≤◌, ◌<◌, List, [], ◌∷◌, ◌++◌, All, drop, replicate, get_or, sym, refl, ap, ◌∙◌, subst, ⊎_elim, length, length-append, arith}
-use mathlib.Core.Option.{some, some-injective, some-ne-none}
-use lib.ListN.{get_elem?}
-use Rattle.std.proofs.lemmas.Bool.{cases_lt}
-use Rattle.std.proofs.lemmas.List.{get_or-append-add, get_or-append_right, get_or-drop, get_or-replicate, get_or_append_left, get_or_past, length-replicate}
-use Rattle.std.proofs.lemmas.List.Elements.{All-append, All-replicate}
-use Rattle.ring_layout.specs.declared.message.Message.{Message}
-use Rattle.ring_layout.specs.Headers.{committed_header}
-use Rattle.ring_layout.specs.History.{span}
+use Rattle.std.proofs.Common.{◌≡◌, ℕ, zero, suc, ◌+◌, ◌-◌, ◌%◌, ◌^◌, ◌≤◌, ◌<◌, List, [], ◌∷◌, ◌++◌, All, drop, replicate, get_or, sym, refl, ap, ◌∙◌, subst, ⊎_elim, length, length-append, arith, get_or-append-add, get_or-drop}
+use Rattle.std.proofs.Math.{Option.some, Option.some-injective, Option.some-ne-none, ListN.get_elem?}
+use Rattle.std.proofs.lemmas.{Bool.cases_lt, List.Elements.All-append, List.Elements.All-replicate}
+use Rattle.std.proofs.lemmas.List.{get_or-append_right, get_or-replicate, get_or_append_left, get_or_past, length-replicate}
+use Rattle.ring_layout.specs.{declared.message.Message.Message, Headers.committed_header, History.span}
 use Rattle.ring_layout.proofs.WordBytes.{from_le_bytes-same}
-use Rattle.ring_table.specs.Staged.{StagedClaim, body_word, slot_bytes}
-use Rattle.ring_table.specs.Ranges.{values_of}
+use Rattle.ring_table.specs.{Staged.StagedClaim, Staged.body_word, Staged.slot_bytes, Ranges.values_of}
 use Rattle.ring_table.specs.SlotSteps.{HasBody, AreWordsOf}
 use Rattle.ring_table.specs.Runs.{padded_bytes, run_bytes, run_claims, run_slots, AreMessages}
-use Rattle.ring_table.proofs.FillLemmas.{same_body}
-use Rattle.ring_table.proofs.HeaderWords.{one_committed}
-use Rattle.ring_table.proofs.MarkWords.{committed_small}
-use Rattle.ring_table.proofs.RangeLemmas.{values_numbered}
+use Rattle.ring_table.proofs.{FillLemmas.same_body, HeaderWords.one_committed, MarkWords.committed_small}
+use Rattle.ring_table.proofs.{RangeLemmas.values_numbered, RunClaims.run_whole, RunClaims.some_span}
 use Rattle.ring_table.proofs.SlotBytes.{first_word_of, length_slot, small_slot, slot_one}
-use Rattle.ring_table.proofs.RunClaims.{run_whole, some_span}
 
 pub length_padded : (m : Message) → length (padded_bytes m) ≡ span (length m.body)
 length_padded m =

@@ -1,21 +1,13 @@
 -- Seats that are cut in two or put together leave the marks, and a fresh ring has none.
 use Rattle.std.proofs.Common.{◌≡◌, ◌≢◌, ℕ, ◌≤◌, List, [], ◌∷◌, ◌++◌, true, false, ◌⊎◌, set, sym, refl, ap, ◌∙◌, inl, inr, ⊎_elim, length, arith}
-use mathlib.Core.Option.{Option, some}
-use lib.ListN.{get_elem?}
-use Rattle.std.proofs.lemmas.Bool.{false≢true}
-use Rattle.atomic_table.specs.Table.{State, Splits, Joins}
-use Rattle.atomic_table.proofs.Lists.{at_set}
+use Rattle.std.proofs.{Math.Option.Option, Math.Option.some, Math.ListN.get_elem?, lemmas.Bool.false≢true}
+use Rattle.atomic_table.{specs.Table.State, specs.Table.Splits, specs.Table.Joins, proofs.Lists.at_set}
 use Rattle.ring_layout.specs.Places.{index, max_position}
-use Rattle.ring_table.specs.Staged.{Bodies, in_words, elsewhere}
+use Rattle.ring_table.specs.{Staged.Bodies, Staged.in_words, Staged.elsewhere, Rule.IsLawful, Rule.Kept, Shelf.IsShelf}
 use Rattle.ring_table.specs.Views.{View, first_view, no_run, spent, without_consumer, consumer_alone, with_consumer_of, without_share, producer_alone, with_producer_of}
-use Rattle.ring_table.specs.Rule.{IsLawful, Kept}
-use Rattle.ring_table.specs.Shelf.{IsShelf}
-use Rattle.ring_table.specs.Closed.{IsFresh}
-use Rattle.ring_table.specs.Marks.{at_position, Encodes, KeepsMarks, ReadsRun}
-use Rattle.ring_table.proofs.StagedPlaces.{start_aligned}
+use Rattle.ring_table.specs.{Closed.IsFresh, Marks.at_position, Marks.Encodes, Marks.KeepsMarks, Marks.ReadsRun}
+use Rattle.ring_table.proofs.{StagedPlaces.start_aligned, MemoryLemmas.index_inside, OpenLemmas.fresh_keeps}
 use Rattle.ring_table.proofs.ListLemmas.{at_more}
-use Rattle.ring_table.proofs.MemoryLemmas.{index_inside}
-use Rattle.ring_table.proofs.OpenLemmas.{fresh_keeps}
 use Rattle.ring_table.proofs.CarryLemmas.{Holds, lift_consumer_split, lift_producer_split, lift_consumer_join, lift_producer_join}
 use Rattle.ring_table.proofs.MarkSteps.{Marked, Obeys, remarked, same_reader, with_headers}
 

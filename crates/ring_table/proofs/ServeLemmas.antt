@@ -1,16 +1,11 @@
 -- The steps on the head cache, the correlation counter and the heartbeat keep the rule.
-use Rattle.ring_table.specs.Staged.{Bodies}
+use Rattle.ring_table.specs.{Staged.Bodies, Staged.staged_end, Rule.Kept, ProducerSteps.Mine}
 use Rattle.std.proofs.Common.{◌≡◌, ℕ, ◌+◌, ◌%◌, ◌^◌, ◌≤◌, ◌<◌, List, [], ◌∷◌, ◌++◌, true, set, get_or, slice_index, sym, refl, ap, ◌∙◌, subst, length, length-append, get_or-set_other, get_or-set_same, max, arith}
 use mathlib.Core.Option.{some}
-use Rattle.atomic_table.specs.Table.{keeps, Allows}
-use Rattle.atomic_table.proofs.Lists.{set_again, at_last}
+use Rattle.atomic_table.{specs.Table.keeps, specs.Table.Allows, proofs.Lists.set_again, proofs.Lists.at_last}
 use Rattle.ring_layout.specs.Layout.{head_cache_index, correlation_index, heartbeat_index}
-use Rattle.ring_table.specs.Staged.{staged_end}
-use Rattle.ring_table.specs.Owners.{all_of}
+use Rattle.ring_table.specs.{Owners.all_of, ServiceSteps.LoadsCache, ServiceSteps.DrawsId, ServiceSteps.LoadsHeartbeat}
 use Rattle.ring_table.specs.Views.{Logs, ConsumerView, View, logged, with_producer, with_consumer, with_head, with_draw, with_heartbeat, beaten}
-use Rattle.ring_table.specs.Rule.{Kept}
-use Rattle.ring_table.specs.ProducerSteps.{Mine}
-use Rattle.ring_table.specs.ServiceSteps.{LoadsCache, DrawsId, LoadsHeartbeat}
 use Rattle.ring_table.proofs.KnowLemmas.{knows_on, knows_served}
 use Rattle.ring_table.proofs.StepLemmas.{sole_sees_top, sees_top_after, becomes}
 use Rattle.ring_table.proofs.MemoryLemmas.{head_bounds, memory_elsewhere}

@@ -1,15 +1,11 @@
 -- Draws and heartbeats.
 use Rattle.std.proofs.Common.{◌≡◌, ℕ, ◌+◌, ◌≤◌, List, [], ◌∷◌, ◌++◌, Bool, cond, eqb, inl, inr, ap, length, length-append, eq-eqb, ne_eqb, lt-ltb, le-ltb, arith}
-use mathlib.Core.Option.{some}
-use mathlib.Core.Logic.{dite}
-use native.Mathlib.Decide.{ℕ_discrete}
-use lib.ListN.{get_elem?}
+use Rattle.std.proofs.Math.{Option.some, Logic.dite, Decide.ℕ_discrete, ListN.get_elem?}
 use Rattle.std.proofs.lemmas.Bool.{cases_lt}
 use Rattle.atomic_table.proofs.Lists.{at_longer}
-use Rattle.ring_layout.specs.Lists.{total}
+use Rattle.ring_layout.{specs.Lists.total, proofs.Sums.total-append}
 use Rattle.ring_table.specs.Services.{Service, times, times_drawn, once_below, AreRisingBelow, NeverGoBack, AreServed}
 use Rattle.ring_table.specs.Views.{ProducerView, with_draw}
-use Rattle.ring_layout.proofs.Sums.{total-append}
 
 -- ---- draws
 

@@ -1,27 +1,20 @@
 -- The walk that settles what lost seats left.
-use Rattle.std.proofs.Common.{◌≡◌, ◌≢◌, ℕ, zero, suc, ◌+◌, ◌-◌, ◌/◌, ◌%◌, ◌^◌, ◌≤◌, ◌<◌, pos, neg_ℤ, List, [], ◌∷◌, ◌++◌, set, slice_index, get_or, sym, refl, ap, ◌∙◌, subst, inl, inr, ⊎_elim, length, lt-ltb, le-ltb, ne_eqb, append_assoc, append-nil, get_or-set_other, get_or-set_same, arith}
-use Rattle.std.specs.Int.{cast_unsigned, w32}
-use Rattle.std.proofs.lemmas.Bool.{cases_lt, cond-true, cond-false}
-use Rattle.std.proofs.lemmas.Nat.{mod_below}
-use Rattle.ring_layout.specs.declared.message.Message.{Message}
+use Rattle.std.proofs.Common.{◌≡◌, ◌≢◌, ℕ, zero, suc, ◌+◌, ◌-◌, ◌/◌, ◌%◌, ◌^◌, ◌≤◌, ◌<◌, pos, neg_ℤ, List, [], ◌∷◌, ◌++◌, set, slice_index, get_or, sym, refl, ap, ◌∙◌, subst, inl, inr, ⊎_elim, length, lt-ltb, le-ltb, ne_eqb, append_assoc, append-nil, get_or-set_other, get_or-set_same, arith, w32}
+use Rattle.std.specs.Int.{cast_unsigned}
+use Rattle.std.proofs.lemmas.{Bool.cases_lt, Bool.cond-true, Bool.cond-false, Nat.mod_below}
+use Rattle.ring_layout.specs.{declared.message.Message.Message, Layout.head_index, Layout.ring_words}
 use Rattle.ring_layout.specs.declared.message.ClaimState.TheVariants.{Open, Committed, Aborted}
-use Rattle.ring_layout.specs.History.{IsMessage}
+use Rattle.ring_layout.specs.{History.IsMessage, Places.IsCapacity, Places.index, Places.next_place, Places.rounded}
 use Rattle.ring_layout.specs.Headers.{header_of, padding_header, padding_type}
-use Rattle.ring_layout.specs.Layout.{head_index, ring_words}
-use Rattle.ring_layout.specs.Places.{IsCapacity, index, next_place, rounded}
-use Rattle.ring_layout.proofs.HeaderLemmas.{fits_neg}
-use Rattle.ring_layout.proofs.Laps.{apart, mod_aligned}
-use Rattle.ring_layout.proofs.PlaceLemmas.{next_le}
+use Rattle.ring_layout.proofs.{HeaderLemmas.fits_neg, Laps.apart, Laps.mod_aligned, PlaceLemmas.next_le}
 use Rattle.ring_table.specs.Staged.{in_words, StagedClaim, PlacedMessage, Stage, Moved, Padded, Stored, IsStored, AreStored, LiesAfter, claim_of, claim_end, stage_state, staged_span, masked_record, part_word, staged_word, staged_word_at, ArePlaced, staged_end}
 use Rattle.ring_table.specs.Passing.{IsSettled, AreSettled, placed_message, shown_at, placed_committed_of}
 use Rattle.ring_table.specs.Rescued.{AreTight, one_if_unsettled, settled_word, silent_of, Settles, ShowsClaims}
 use Rattle.ring_table.specs.Settling.{IsPlainStage, Walks, WalksOver}
 use Rattle.ring_table.proofs.HeaderReads.{halves, low_half}
-use Rattle.ring_table.proofs.PlainLemmas.{plainly}
-use Rattle.ring_table.proofs.ReachLemmas.{stored_of}
-use Rattle.ring_table.proofs.RestLemmas.{staged_word_at-claims_of, stored_record}
+use Rattle.ring_table.proofs.{PlainLemmas.plainly, StagedWords.staged_word-header, StagedWords.staged_word-body}
+use Rattle.ring_table.proofs.{ReachLemmas.stored_of, RestLemmas.staged_word_at-claims_of, RestLemmas.stored_record}
 use Rattle.ring_table.proofs.StagedPlaces.{capacity_aligned, end_le, nothing_behind}
-use Rattle.ring_table.proofs.StagedWords.{staged_word-header, staged_word-body}
 
 -- a claim settled for good
 abbrev pub settled_stage : Stage → Stage

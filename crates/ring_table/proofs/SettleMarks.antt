@@ -1,23 +1,15 @@
 -- The marks of claims are stored that have no slots out.
 use Rattle.std.proofs.Common.{◌≡◌, ℕ, ◌+◌, ◌-◌, ◌%◌, ◌^◌, ◌≤◌, ◌<◌, [], sym, refl, ap, subst, length, arith}
 use Rattle.atomic_table.specs.Table.{Allows}
-use Rattle.ring_layout.specs.declared.message.ClaimState.{ClaimState}
-use Rattle.ring_layout.specs.declared.message.ClaimState.TheVariants.{Open}
-use Rattle.ring_layout.specs.Headers.{header_of}
-use Rattle.ring_layout.specs.History.{span}
-use Rattle.ring_layout.specs.Places.{index}
+use Rattle.ring_layout.specs.declared.message.ClaimState.{ClaimState, TheVariants.Open}
+use Rattle.ring_layout.specs.{Headers.header_of, History.span, Places.index}
 use Rattle.ring_table.specs.Staged.{elsewhere, StagedClaim, Moved, Padded, Stored, IsStored, AreRising, padding_word}
-use Rattle.ring_table.specs.Changes.{staged}
-use Rattle.ring_table.specs.Passing.{IsSettled}
-use Rattle.ring_table.specs.Views.{View}
+use Rattle.ring_table.specs.{Changes.staged, Passing.IsSettled, Views.View}
 use Rattle.ring_table.specs.ProducerSteps.{Mine, HasClaim, StoresPadding, StoresSettled}
-use Rattle.ring_table.proofs.LoadLemmas.{stands}
-use Rattle.ring_table.proofs.StoreLemmas.{pads, settles}
-use Rattle.ring_table.proofs.ShelfLemmas.{CarriesOn}
-use Rattle.ring_table.proofs.CarryLemmas.{lift, carries_changed, one_claim}
+use Rattle.ring_table.proofs.{LoadLemmas.stands, CarryLemmas.lift, CarryLemmas.carries_changed, CarryLemmas.one_claim}
+use Rattle.ring_table.proofs.{StoreLemmas.pads, StoreLemmas.settles, SlotCalls.lies_ahead, SlotCalls.padding_ahead}
+use Rattle.ring_table.proofs.{ShelfLemmas.CarriesOn, MarkSteps.Marked, MarkSteps.lift_mark, MarkSteps.rests_as}
 use Rattle.ring_table.proofs.MarkWords.{Shows, shows_claim, state_kind, few_kinds}
-use Rattle.ring_table.proofs.MarkSteps.{Marked, lift_mark, rests_as}
-use Rattle.ring_table.proofs.SlotCalls.{lies_ahead, padding_ahead}
 
 module _ (C start : ℕ) where
   -- an open claim gets the state u

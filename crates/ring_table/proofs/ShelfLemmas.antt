@@ -1,18 +1,13 @@
 -- The slots as views change and homes stay.
 use Rattle.std.specs.Prelude.{⊤}
 use Rattle.std.proofs.Common.{◌≡◌, ◌≢◌, ℕ, ◌≤◌, ◌⊎◌, List, [], ◌∷◌, ◌++◌, true, set, sym, refl, ap, ◌∙◌, subst, inl, ⊎_elim, length, arith}
-use mathlib.Core.Option.{Option, some, some-injective, some-ne-none}
-use mathlib.Core.Logic.{dite}
-use native.Mathlib.Decide.{ℕ_discrete}
-use lib.ListN.{get_elem?}
+use Rattle.std.proofs.Math.{Option.Option, Option.some, Option.some-injective, Option.some-ne-none, Decide.ℕ_discrete}
+use Rattle.std.proofs.Math.{Logic.dite, ListN.get_elem?}
 use Rattle.atomic_table.proofs.Lists.{at_set, set_here, set_else, at_longer, at_last}
 use Rattle.ring_table.specs.Staged.{Bodies, in_words, elsewhere, StagedClaim, PlacedMessage, IsStored}
-use Rattle.ring_layout.specs.declared.message.Message.{Message}
-use Rattle.ring_table.specs.Views.{View}
-use Rattle.ring_table.specs.ProducerSteps.{HasClaim}
+use Rattle.ring_layout.{specs.declared.message.Message.Message, proofs.ListLemmas.at_below}
+use Rattle.ring_table.{specs.Views.View, specs.ProducerSteps.HasClaim, proofs.ListLemmas.at_more}
 use Rattle.ring_table.specs.Shelf.{IsOut, IsOneOut, IsClaimOf, ReadsFrom, HasReader, HasRight, IsShelf}
-use Rattle.ring_layout.proofs.ListLemmas.{at_below}
-use Rattle.ring_table.proofs.ListLemmas.{at_more}
 
 -- the claim d is c, as it was before
 pub record IsAsWas (d c : StagedClaim) : Type 0 where

@@ -1,9 +1,7 @@
 -- What whole bodies in slots leave of a view.
 use Rattle.std.proofs.Common.{◌≡◌, ℕ, [], ◌∷◌, sym, ◌∙◌}
-use Rattle.ring_table.specs.Staged.{StagedClaim, PlacedMessage}
+use Rattle.ring_table.specs.{Staged.StagedClaim, Staged.PlacedMessage, ProducerSteps.with_changed, SlotSteps.with_out}
 use Rattle.ring_table.specs.Views.{View}
-use Rattle.ring_table.specs.ProducerSteps.{with_changed}
-use Rattle.ring_table.specs.SlotSteps.{with_out}
 
 -- a body was out, and the claim is changed as it goes home
 pub body_given : (v w : View) (m : PlacedMessage) (place : ℕ) (f : StagedClaim → StagedClaim) → v.out ≡ []

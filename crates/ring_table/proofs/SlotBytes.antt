@@ -1,12 +1,8 @@
 -- The bytes that the slots of a record have.
-use Rattle.std.proofs.Common.{◌≡◌, ℕ, suc, ◌+◌, ◌^◌, ◌<◌, List, [], ◌∷◌, ◌++◌, All, take, drop, append_assoc, length, length-append, sym, refl, ap, ◌∙◌, arith}
-use Rattle.std.specs.Int.{from_le_bytes, to_le_bytes, w64}
-use Rattle.std.proofs.lemmas.Nat.{from_le_bytes-to_le_bytes_8}
-use Rattle.std.proofs.lemmas.List.{get_or_append_left}
-use Rattle.std.proofs.lemmas.List.Elements.{All-append, All-from_get_or}
-use Rattle.ring_layout.specs.declared.message.Message.{Message}
-use Rattle.ring_layout.specs.Headers.{committed_header}
-use Rattle.ring_layout.specs.History.{overwritten}
+use Rattle.std.proofs.Common.{◌≡◌, ℕ, suc, ◌+◌, ◌^◌, ◌<◌, List, [], ◌∷◌, ◌++◌, All, take, drop, append_assoc, length, length-append, sym, refl, ap, ◌∙◌, arith, w64}
+use Rattle.std.{specs.Int.from_le_bytes, specs.Int.to_le_bytes, proofs.lemmas.Nat.from_le_bytes-to_le_bytes_8}
+use Rattle.std.proofs.lemmas.List.{get_or_append_left, Elements.All-append, Elements.All-from_get_or}
+use Rattle.ring_layout.specs.{declared.message.Message.Message, Headers.committed_header, History.overwritten}
 use Rattle.ring_layout.proofs.WordBytes.{from_le_bytes-same, byte_of_bytes}
 use Rattle.ring_table.specs.Staged.{body_word, headed, slot_bytes}
 

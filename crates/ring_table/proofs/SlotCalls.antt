@@ -1,33 +1,19 @@
 -- The steps on slots as the functions call them.
 use Rattle.std.proofs.Common.{◌≡◌, ℕ, ◌+◌, ◌-◌, ◌/◌, ◌%◌, ◌^◌, ◌≤◌, ◌<◌, cond, refl, sym, ap, ◌∙◌, subst, ⊎_elim, le-ltb, arith}
-use mathlib.Core.Option.{some}
-use lib.ListN.{get_elem?}
-use Rattle.atomic_table.specs.Seated.{TableId}
-use Rattle.atomic_table.specs.Table.{State, Allows}
-use Rattle.atomic_table.specs.declared.shared.Seat.{Seat}
-use Rattle.ring_layout.specs.Marks.{padding_kind}
-use Rattle.ring_layout.specs.Places.{IsCapacity, index}
-use Rattle.ring_layout.specs.Layout.{head_index, ring_words}
+use Rattle.std.proofs.{Math.Option.some, Math.ListN.get_elem?, lemmas.Nat.mod_below}
+use Rattle.atomic_table.specs.{Seated.TableId, Table.State, Table.Allows, declared.shared.Seat.Seat}
+use Rattle.ring_layout.specs.{Marks.padding_kind, Places.IsCapacity, Places.index, History.IsMessage}
+use Rattle.ring_layout.specs.{Layout.head_index, Layout.ring_words, declared.message.Message.Message, Headers.header_of}
 use Rattle.ring_layout.proofs.PlaceLemmas.{next_cases}
 use Rattle.ring_layout.specs.declared.message.ClaimState.TheVariants.{Open, Committed, Aborted}
-use Rattle.ring_layout.specs.declared.message.Message.{Message}
-use Rattle.ring_layout.specs.History.{IsMessage}
-use Rattle.ring_layout.specs.Headers.{header_of}
 use Rattle.ring_table.specs.Staged.{elsewhere, padding_word, StagedClaim, Stage, Moved, Padded, Stored, claim_end, stage_state, staged_span, masked_padding, masked_record, staged_word, staged_word_at}
-use Rattle.ring_table.specs.Owners.{all_of}
-use Rattle.ring_table.specs.Passing.{IsSettled}
-use Rattle.ring_table.specs.Rule.{Kept}
-use Rattle.ring_table.specs.Marks.{at_position, IsCommitted}
-use Rattle.ring_table.specs.Views.{Key, View}
-use Rattle.ring_table.specs.ProducerSteps.{Mine, HasClaim}
-use Rattle.ring_table.specs.SlotSteps.{IsSameHolder}
+use Rattle.ring_table.specs.{Owners.all_of, Passing.IsSettled, Rule.Kept, Views.Key, Views.View, SlotSteps.IsSameHolder}
+use Rattle.ring_table.specs.{Marks.at_position, Marks.IsCommitted, ProducerSteps.Mine, ProducerSteps.HasClaim}
 use Rattle.ring_table.proofs.StagedPlaces.{capacity_aligned, word_of_claim}
-use Rattle.ring_table.proofs.StagedWords.{staged_word-header, staged_word-padding}
+use Rattle.ring_table.proofs.{StagedWords.staged_word-header, StagedWords.staged_word-padding, CarryLemmas.Holds}
 use Rattle.ring_table.proofs.LoadLemmas.{HasUnsettled, stands}
-use Rattle.ring_table.proofs.CarryLemmas.{Holds}
 use Rattle.ring_table.proofs.MarkWords.{Shows, shows_claim, shows_mark, shows_padding}
 use Rattle.ring_table.proofs.MarkSteps.{LiesAhead, Marked, Rests, lift_load}
-use Rattle.std.proofs.lemmas.Nat.{mod_below}
 
 pub holder : {old new : Seat ℕ View} → new.table_id ≡ old.table_id → new.id ≡ old.id
     → new.me.0.capacity ≡ old.me.0.capacity → IsSameHolder old new

@@ -1,21 +1,14 @@
 -- The shelf as a body's slots are taken, or given back.
 use Rattle.std.proofs.Common.{◌≡◌, ◌≢◌, ℕ, zero, suc, ◌+◌, ◌-◌, ◌*◌, ◌/◌, ◌≤◌, ◌<◌, ◌⊎◌, List, [], ◌∷◌, set, map, sym, refl, ap, ◌∙◌, subst, inl, inr, ⊎_elim, length, arith}
-use mathlib.Core.Option.{Option, none, some, some-ne-none}
-use mathlib.Core.Logic.{dite}
-use native.Mathlib.Decide.{ℕ_discrete}
-use lib.ListN.{get_elem?}
-use Rattle.std.proofs.lemmas.List.{length-map}
+use Rattle.std.proofs.Math.{Option.Option, Option.none, Option.some, Option.some-ne-none, Logic.dite, Decide.ℕ_discrete}
+use Rattle.std.proofs.{Math.ListN.get_elem?, lemmas.List.length-map}
 use Rattle.atomic_table.specs.Table.{homes_after}
 use Rattle.atomic_table.proofs.Lists.{at_set, at_map, set_here, set_else}
-use Rattle.ring_layout.proofs.ListLemmas.{at_below}
-use Rattle.ring_layout.specs.Places.{index}
+use Rattle.ring_layout.{proofs.ListLemmas.at_below, specs.Places.index}
 use Rattle.ring_table.specs.Staged.{elsewhere, StagedClaim, PlacedMessage, IsStored, body_word, slot_bytes}
-use Rattle.ring_table.specs.Views.{ConsumerView, View}
-use Rattle.ring_table.specs.ProducerSteps.{HasClaim}
-use Rattle.ring_table.specs.Rule.{Kept}
-use Rattle.ring_table.specs.Ranges.{laid, takes_from}
+use Rattle.ring_table.specs.{Views.ConsumerView, Views.View, ProducerSteps.HasClaim}
+use Rattle.ring_table.specs.{Rule.Kept, Ranges.laid, Ranges.takes_from, SlotSteps.words_of, SlotSteps.AreWordsOf}
 use Rattle.ring_table.specs.Shelf.{IsOut, IsOwnOut, IsGotOut, IsOneOut, IsClaimOf, ReadsFrom, HasReader, IsShelf}
-use Rattle.ring_table.specs.SlotSteps.{words_of, AreWordsOf}
 use Rattle.ring_table.proofs.RangeLemmas.{Outside, takes_else, length_homes, laid_here, laid_else, length_laid}
 use Rattle.ring_table.proofs.StepLemmas.{one_view}
 use Rattle.ring_table.proofs.BodyPlaces.{BodyIn, Lies, body_index, body_below, in_or_out, not_outside, one_slot, claim_lies}

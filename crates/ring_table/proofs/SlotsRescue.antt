@@ -1,41 +1,26 @@
 -- What the consumer's seat alone knows of a table with slots: which bodies are at home, and what the words become.
 use Rattle.std.proofs.Common.{◌≡◌, ℕ, zero, suc, ◌+◌, ◌*◌, ◌/◌, ◌%◌, ◌≤◌, ◌<◌, List, [], ◌∷◌, ◌++◌, cond, true, length, slice_index, sym, refl, ap, ◌∙◌, subst, ⊎_elim, eq-eqb, ne_eqb, eqb, arith, All}
 use Rattle.std.specs.Prelude.{⊤}
-use Rattle.std.proofs.lemmas.Bool.{cond-true, cond-false}
-use mathlib.Core.Option.{Option, some, some-injective, some-ne-none}
-use mathlib.Core.Logic.{dite}
-use native.Mathlib.Decide.{ℕ_discrete}
-use lib.ListN.{get_elem?}
-use Rattle.ring_layout.specs.declared.message.Message.{Message}
+use Rattle.std.proofs.{lemmas.Bool.cond-true, lemmas.Bool.cond-false, Math.Logic.dite, Math.ListN.get_elem?}
+use Rattle.std.proofs.Math.{Option.Option, Option.some, Option.some-injective, Option.some-ne-none, Decide.ℕ_discrete}
+use Rattle.ring_layout.specs.{declared.message.Message.Message, Headers.committed_header}
 use Rattle.ring_layout.specs.declared.message.ClaimState.TheVariants.{Open, Committed, Aborted}
-use Rattle.ring_layout.specs.Layout.{head_index, tail_index}
-use Rattle.ring_layout.specs.Places.{index, max_position}
+use Rattle.ring_layout.specs.{Layout.head_index, Layout.tail_index, Places.index, Places.max_position}
 use Rattle.ring_layout.proofs.PlaceLemmas.{next_le}
-use Rattle.ring_table.specs.Closed.{restarted}
-use Rattle.ring_table.specs.Owners.{OwnedHistory, all_of, owned_by}
+use Rattle.ring_table.specs.{Closed.restarted, Shelf.IsClaimOf, Shelf.IsShelf, SlotSteps.words_of, Views.View}
+use Rattle.ring_table.specs.{Owners.OwnedHistory, Owners.all_of, Owners.owned_by, Rescued.AreTight, Rescued.Settles}
 use Rattle.ring_table.specs.Passing.{IsSettled, AreSettled, placed_message, shown_at, placed_committed_of}
 use Rattle.ring_table.specs.Refilling.{FillsTo, Filled, FitAll, FitsBody, MayFill, all_filled, filled_message}
-use Rattle.ring_table.specs.Rescued.{AreTight, Settles}
-use Rattle.ring_table.specs.Rule.{Kept}
-use Rattle.ring_table.specs.Shelf.{IsClaimOf, IsShelf}
-use Rattle.ring_table.specs.SlotSteps.{words_of}
+use Rattle.ring_table.{specs.Rule.Kept, proofs.StagedPlaces.lies_in}
 use Rattle.ring_table.specs.Staged.{elsewhere, StagedClaim, PlacedMessage, Stage, Moved, Padded, Stored, ArePlaced, body_word, claim_end, staged_end, staged_span}
-use Rattle.ring_table.specs.Views.{View}
 use Rattle.ring_table.proofs.BlankLemmas.{all_blanked, as_long, blank_count, blank_end, blank_silent, blanked}
-use Rattle.ring_table.proofs.BodyPlaces.{body_index, claim_lies}
-use Rattle.ring_table.proofs.ListLemmas.{there_or_past}
-use Rattle.ring_table.proofs.OutPlaces.{all_home, none_at_got, reads_from}
-use Rattle.ring_table.proofs.PictureWords.{read_at}
-use Rattle.ring_table.proofs.ReachLemmas.{stored_of}
+use Rattle.ring_table.proofs.{BodyPlaces.body_index, BodyPlaces.claim_lies, MarkWords.committed_small}
+use Rattle.ring_table.proofs.{ListLemmas.there_or_past, OutPlaces.all_home, OutPlaces.none_at_got, OutPlaces.reads_from}
+use Rattle.ring_table.proofs.{PictureWords.read_at, ReachLemmas.stored_of, SettleLemmas.are_stored}
 use Rattle.ring_table.proofs.RescueLemmas.{head_there, left, left_parts, same_head, shows_left}
-use Rattle.ring_table.proofs.RestLemmas.{staged_word_at-claims_of}
-use Rattle.ring_table.proofs.SettleLemmas.{are_stored}
-use Rattle.ring_table.proofs.SlotBytes.{first_word_of, slot_later}
-use Rattle.ring_table.proofs.StagedPlaces.{lies_in}
-use Rattle.ring_table.proofs.MarkWords.{committed_small}
+use Rattle.ring_table.proofs.{RestLemmas.staged_word_at-claims_of, SlotBytes.first_word_of, SlotBytes.slot_later}
 use Rattle.ring_table.proofs.DecodeLemmas.{HeadAt, all_filled_out, filled_ends, filled_placed, filled_settled_one, settles_as}
 use Rattle.ring_table.proofs.LastMarks.{heads_all, heads_rest, heads_restarted}
-use Rattle.ring_layout.specs.Headers.{committed_header}
 
 -- ---- which bodies are at home
 

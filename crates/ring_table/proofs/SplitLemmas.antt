@@ -1,27 +1,19 @@
 -- Seats that are cut in two, or put together.
-use Rattle.ring_table.specs.Staged.{Bodies}
+use Rattle.ring_table.specs.{Staged.Bodies, Staged.staged_end, Services.Service, Services.times, Services.times_drawn}
 use Rattle.std.proofs.Common.{◌≡◌, ◌≢◌, ℕ, ◌+◌, ◌-◌, ◌≤◌, ◌<◌, List, [], ◌∷◌, ◌++◌, true, false, set, sym, refl, ap, ◌∙◌, subst, ⊎_elim, length, length-set, length-append, max, arith}
-use mathlib.Core.Option.{some}
-use mathlib.Core.Logic.{dite}
-use native.Mathlib.Decide.{ℕ_discrete}
-use lib.ListN.{get_elem?}
+use Rattle.std.proofs.Math.{Option.some, Logic.dite, Decide.ℕ_discrete, ListN.get_elem?}
 use Rattle.std.proofs.lemmas.Bool.{false≢true}
 use Rattle.atomic_table.specs.Table.{State, Splits, Joins}
 use Rattle.atomic_table.proofs.Lists.{at_set, at_longer, set_here, set_else}
-use Rattle.ring_table.specs.Staged.{staged_end}
 use Rattle.ring_table.specs.Owners.{OwnedHistory, all_of, owned_by, interleaved, handed_over}
 use Rattle.ring_layout.specs.Lists.{total}
-use Rattle.ring_table.specs.Services.{Service, times, times_drawn}
 use Rattle.ring_table.specs.Views.{ConsumerView, View, without_consumer, consumer_alone, with_consumer_of, without_share, producer_alone, with_producer_of, spent}
 use Rattle.ring_table.specs.Rule.{IsMemory, Knows, IsSeated, Kept, shares_of}
 use Rattle.ring_table.proofs.OwnerLemmas.{all_of-handed_over, owned_by-handed_over, owned_by-handed_away, owned_by-handed_over_other}
-use Rattle.ring_table.proofs.ServiceLemmas.{served_append}
-use Rattle.ring_layout.proofs.Sums.{total-append}
-use Rattle.ring_layout.proofs.ListLemmas.{at_below, each_set}
-use Rattle.ring_table.proofs.ListLemmas.{at_more}
+use Rattle.ring_table.proofs.{ServiceLemmas.served_append, StepLemmas.one_view, StepLemmas.sees_top_after}
+use Rattle.ring_layout.proofs.{Sums.total-append, ListLemmas.at_below, ListLemmas.each_set}
+use Rattle.ring_table.proofs.{ListLemmas.at_more, SplitSums.total-parted, SplitSums.total-met}
 use Rattle.ring_table.proofs.KnowLemmas.{knows_after, knows_new, knows_on, knows_served}
-use Rattle.ring_table.proofs.StepLemmas.{one_view, sees_top_after}
-use Rattle.ring_table.proofs.SplitSums.{total-parted, total-met}
 
 -- the left one has what v had but for shares of the right one, which has drawn nothing
 record CutsIn (v left right : View) : Type 0 where

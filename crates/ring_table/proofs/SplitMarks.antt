@@ -1,28 +1,17 @@
 -- A read that stops inside a run stores a mark for the rest of it.
 use Rattle.std.proofs.Common.{◌≡◌, ◌≢◌, ◌⊎◌, ℕ, ◌+◌, ◌%◌, ◌≤◌, ◌<◌, List, [], ◌∷◌, ◌++◌, true, set, sym, refl, ap, ◌∙◌, subst, inl, length, length-set, get_or-set_other, get_or-set_same, arith}
-use mathlib.Core.Option.{some}
-use mathlib.Core.Logic.{dite}
-use native.Mathlib.Decide.{ℕ_discrete}
-use lib.ListN.{get_elem?}
+use Rattle.std.proofs.Math.{Option.some, Logic.dite, Decide.ℕ_discrete, ListN.get_elem?}
 use Rattle.atomic_table.specs.Table.{State, Allows, keeps}
 use Rattle.atomic_table.proofs.Lists.{at_last, set_here}
-use Rattle.ring_layout.specs.Places.{index}
-use Rattle.ring_layout.proofs.ListLemmas.{at_below}
-use Rattle.ring_table.specs.Staged.{PlacedMessage, elsewhere}
-use Rattle.ring_table.specs.Owners.{all_of}
-use Rattle.ring_table.specs.Passing.{Reaches}
-use Rattle.ring_table.specs.Views.{ConsumerView, Run, View, with_run}
-use Rattle.ring_table.specs.ProducerSteps.{Mine}
+use Rattle.ring_layout.{specs.Places.index, proofs.ListLemmas.at_below}
+use Rattle.ring_table.specs.{Staged.PlacedMessage, Staged.elsewhere, Owners.all_of, Passing.Reaches}
+use Rattle.ring_table.specs.{Views.ConsumerView, Views.Run, Views.View, Views.with_run, ProducerSteps.Mine}
 use Rattle.ring_table.specs.Marks.{at_position, Begins, Encodes, IsCommitted, KeepsMarks, Precedes, ReadsRun, SplitsAtLast, SplitsAtScan}
-use Rattle.ring_table.proofs.StagedPlaces.{start_aligned}
+use Rattle.ring_table.proofs.{StagedPlaces.start_aligned, ShelfLemmas.stepped_shelf, RunPlaces.got_committed}
 use Rattle.ring_table.proofs.MemoryLemmas.{index_inside, not_inside, one_position}
-use Rattle.ring_table.proofs.ShelfLemmas.{stepped_shelf}
-use Rattle.ring_table.proofs.CarryLemmas.{carries_same}
-use Rattle.ring_table.proofs.ClearLemmas.{one_end}
-use Rattle.ring_table.proofs.ConsumeLemmas.{reruns}
-use Rattle.ring_table.proofs.MarkSteps.{Marked, remarked_by, with_headers}
+use Rattle.ring_table.proofs.{CarryLemmas.carries_same, MarkSteps.Marked, MarkSteps.remarked_by, MarkSteps.with_headers}
+use Rattle.ring_table.proofs.{ClearLemmas.one_end, ConsumeLemmas.reruns}
 use Rattle.ring_table.proofs.RunLemmas.{begins_at, head_now, header_at, mark_at, shown_at}
-use Rattle.ring_table.proofs.RunPlaces.{got_committed}
 
 module _ (C start : ℕ) (s : State ℕ View) (m : KeepsMarks C start s.words s.homes s.views) (p : ℕ) (p8 : p % 8 ≡ 0)
     (p0 : m.kept.consumer.head ≤ p) (p1 : p < m.kept.consumer.head + C) (is : IsCommitted (header_at C start s m p)) where

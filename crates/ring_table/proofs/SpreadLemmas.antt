@@ -1,10 +1,7 @@
 -- Each record of a run gets a mark of its own.
 use Rattle.std.proofs.Common.{◌≡◌, ◌≢◌, ◌⊎◌, ℕ, ◌+◌, ◌%◌, ◌^◌, ◌≤◌, ◌<◌, List, set, sym, ap, ◌∙◌, subst, ⊎_elim, length, get_or-set_other, get_or-set_same, arith}
-use mathlib.Core.Logic.{dite}
-use native.Mathlib.Decide.{ℕ_discrete}
-use Rattle.std.proofs.lemmas.Bool.{cases_lt}
-use Rattle.ring_layout.specs.Marks.{committed_kind}
-use Rattle.ring_layout.specs.Places.{IsCapacity, index, rounded}
+use Rattle.std.proofs.{Math.Logic.dite, Math.Decide.ℕ_discrete, lemmas.Bool.cases_lt}
+use Rattle.ring_layout.specs.{Marks.committed_kind, Places.IsCapacity, Places.index, Places.rounded}
 use Rattle.ring_layout.proofs.Laps.{apart}
 use Rattle.ring_table.specs.Marks.{at_position, bytes_of, kind_of, AreMarked, IsCommitted, IsMarkOf, Precedes, ShowsRuns, Spreads}
 use Rattle.ring_table.proofs.MarkWords.{bytes_plain, few_of, kind_open, whole_bytes}

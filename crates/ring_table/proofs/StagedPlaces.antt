@@ -1,18 +1,11 @@
 -- The places of claims.
-use Rattle.ring_table.specs.Staged.{Bodies}
+use Rattle.ring_table.specs.{Staged.Bodies, Owners.OwnedHistory, Owners.all_of, Rule.IsLawful}
 use Rattle.std.proofs.Common.{◌≡◌, ℕ, zero, suc, ◌/◌, ◌%◌, ◌≤◌, ◌<◌, List, [], ◌∷◌, cond, sym, refl, ap, ◌∙◌, subst, arith, lt-ltb, le-ltb}
-use mathlib.Core.Option.{some, some-injective, some-ne-none}
-use lib.ListN.{get_elem?}
-use Rattle.ring_layout.specs.History.{IsMessage}
-use Rattle.ring_layout.specs.Places.{IsCapacity, index, next_place}
-use Rattle.std.proofs.lemmas.Nat.{mod_below}
-use Rattle.ring_layout.proofs.PlaceLemmas.{next_le, next_aligned}
-use Rattle.ring_layout.proofs.CapacityLemmas.{capacity_blocks}
+use Rattle.std.proofs.Math.{Option.some, Option.some-injective, Option.some-ne-none, Nat.mod-mod_of_dvd}
+use Rattle.std.proofs.{Math.ListN.get_elem?, lemmas.Nat.mod_below, lemmas.Nat.Gcd.dvd_of_mod-eq-zero}
+use Rattle.ring_layout.specs.{History.IsMessage, Places.IsCapacity, Places.index, Places.next_place}
+use Rattle.ring_layout.proofs.{PlaceLemmas.next_le, PlaceLemmas.next_aligned, CapacityLemmas.capacity_blocks}
 use Rattle.ring_table.specs.Staged.{StagedClaim, staged_span, claim_end, staged_word, staged_word_at, ArePlaced, staged_end}
-use Rattle.ring_table.specs.Owners.{OwnedHistory, all_of}
-use Rattle.ring_table.specs.Rule.{IsLawful}
-use Rattle.std.proofs.Math.Nat.{mod-mod_of_dvd}
-use Rattle.std.proofs.lemmas.Nat.Gcd.{dvd_of_mod-eq-zero}
 
 pub capacity_aligned : (C : ℕ) → IsCapacity C → C % 8 ≡ 0
 capacity_aligned C cap = let b = capacity_blocks C cap in omega arith

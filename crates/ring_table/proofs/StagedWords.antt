@@ -1,15 +1,12 @@
 -- The words of one claim, and what a change of it leaves.
 use Rattle.ring_table.specs.Staged.{Bodies}
 use Rattle.std.proofs.Common.{◌≡◌, ◌≢◌, ℕ, ◌+◌, ◌-◌, ◌%◌, ◌≤◌, ◌<◌, ℤ, eqb, true, false, Bool, length, sym, refl, ap, ◌∙◌, inl, inr, arith, lt-ltb, le-ltb, eq-eqb, ne_eqb}
-use mathlib.Core.Logic.{dite}
-use native.Mathlib.Decide.{ℕ_discrete}
+use Rattle.std.proofs.Math.{Logic.dite, Decide.ℕ_discrete}
 use Rattle.std.proofs.lemmas.Bool.{cases_lt, cond-true, cond-false}
 use Rattle.std.proofs.Common.{replicate, List, pos, neg_ℤ}
 use Rattle.ring_layout.specs.declared.message.ClaimState.{ClaimState}
 use Rattle.ring_layout.specs.declared.message.ClaimState.TheVariants.{Open, Committed, Aborted}
-use Rattle.ring_layout.specs.History.{span}
-use Rattle.ring_layout.specs.Places.{next_place}
-use Rattle.ring_layout.specs.Headers.{header, header_of, padding_type}
+use Rattle.ring_layout.specs.{History.span, Places.next_place, Headers.header, Headers.header_of, Headers.padding_type}
 use Rattle.ring_table.specs.Staged.{StagedClaim, Stage, Moved, Padded, Stored, claim_of, stage_state, masked_padding, masked_record, padding_word, part_word, record_word, staged_word, body_word, in_words, elsewhere, IsStored}
 use Rattle.ring_table.specs.Changes.{moved_claim, fresh_stage, stored_as, staged, with_header, with_body, with_body_word, with_word}
 use Rattle.ring_table.proofs.BodyWords.{length-with_word, body_word-with_word_other, body_word-zeros}

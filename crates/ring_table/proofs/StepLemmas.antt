@@ -1,20 +1,12 @@
 -- The views of all seats as one of them steps.
-use Rattle.ring_table.specs.Staged.{Bodies}
+use Rattle.ring_table.specs.{Staged.Bodies, Staged.staged_end, Owners.OwnedHistory, Owners.all_of, Owners.owned_by}
 use Rattle.std.proofs.Common.{◌≡◌, ◌≢◌, ℕ, ◌+◌, ◌≤◌, ◌<◌, List, set, sym, ap, ◌∙◌, subst, length, length-set, arith}
-use mathlib.Core.Option.{some, some-injective}
-use mathlib.Core.Logic.{dite}
-use native.Mathlib.Decide.{ℕ_discrete}
-use lib.ListN.{get_elem?}
+use Rattle.std.proofs.Math.{Option.some, Option.some-injective, Logic.dite, Decide.ℕ_discrete, ListN.get_elem?}
 use Rattle.atomic_table.proofs.Lists.{set_here, set_else}
-use Rattle.ring_table.specs.Staged.{staged_end}
-use Rattle.ring_table.specs.Owners.{OwnedHistory, all_of, owned_by}
-use Rattle.ring_layout.specs.Lists.{total}
-use Rattle.ring_table.specs.Services.{times_drawn, once_below}
-use Rattle.ring_table.specs.Views.{ConsumerView, View, spent}
+use Rattle.ring_layout.specs.{Lists.total, Refusals.all_shares}
+use Rattle.ring_table.specs.{Services.times_drawn, Services.once_below, Views.ConsumerView, Views.View, Views.spent}
 use Rattle.ring_table.specs.Rule.{IsMemory, IsService, Knows, SeesTop, IsSeated, Kept, shares_of}
-use Rattle.ring_layout.proofs.Sums.{total-set, total-zero}
-use Rattle.ring_layout.proofs.ListLemmas.{at_below, each_set}
-use Rattle.ring_layout.specs.Refusals.{all_shares}
+use Rattle.ring_layout.proofs.{Sums.total-set, Sums.total-zero, ListLemmas.at_below, ListLemmas.each_set}
 
 -- what an entry that is known is, by two reports of it
 pub one_view : (views : List View) (i j : ℕ) (u v : View) → get_elem? views i ≡ some u → get_elem? views j ≡ some v

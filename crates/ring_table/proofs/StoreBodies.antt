@@ -1,22 +1,15 @@
 -- The steps that change the body of an own open claim keep the rule: a word of it is stored, or it lies in slots.
-use Rattle.ring_table.specs.Staged.{in_words, elsewhere}
-use Rattle.std.proofs.Common.{◌≡◌, ℕ, ◌+◌, ◌^◌, ◌<◌, List, cond, slice_index, sym, refl, ap, ◌∙◌, subst, inl, length, le-ltb, arith}
-use Rattle.std.specs.Prelude.{All}
+use Rattle.ring_table.specs.{Staged.in_words, Staged.elsewhere, Owners.all_of, Passing.IsSettled}
+use Rattle.std.proofs.Common.{◌≡◌, ℕ, ◌+◌, ◌^◌, ◌<◌, List, cond, slice_index, sym, refl, ap, ◌∙◌, subst, inl, length, le-ltb, arith, All}
 use Rattle.atomic_table.specs.Table.{keeps, stepped, Allows}
-use Rattle.ring_layout.specs.declared.message.ClaimState.TheVariants.{Open}
-use Rattle.ring_layout.specs.History.{span}
+use Rattle.ring_layout.specs.{declared.message.ClaimState.TheVariants.Open, History.span, Headers.header_of}
 use Rattle.ring_layout.specs.Places.{index}
-use Rattle.ring_layout.specs.Headers.{header_of}
 use Rattle.ring_table.specs.Staged.{StagedClaim, Stored, claim_of, masked_record, staged_word_at, AreRising, IsStored}
-use Rattle.ring_table.specs.Changes.{with_body, with_body_word, changed}
-use Rattle.ring_table.specs.Owners.{all_of}
-use Rattle.ring_table.specs.Passing.{IsSettled}
-use Rattle.ring_table.specs.Views.{View, with_claims}
+use Rattle.ring_table.specs.{Changes.with_body, Changes.with_body_word, Changes.changed, Views.View, Views.with_claims}
 use Rattle.ring_table.specs.ProducerSteps.{Mine, HasClaim, Changes, StoresBody, IsWordOfBody}
-use Rattle.ring_table.proofs.StagedPlaces.{word_of_claim}
+use Rattle.ring_table.proofs.{StagedPlaces.word_of_claim, LoadLemmas.HasUnsettled, LoadLemmas.Ok, LoadLemmas.stands}
 use Rattle.ring_table.proofs.BodyWords.{length-with_word, body_word-with_word, bytes_of-with_word}
 use Rattle.ring_table.proofs.StagedWords.{header_of-with_body, staged_word-header, staged_word-with_body, staged_word-in_words, staged_word-written}
-use Rattle.ring_table.proofs.LoadLemmas.{HasUnsettled, Ok, stands}
 use Rattle.ring_table.proofs.StoreLemmas.{IsWordOf, edits, header_step, rising, same_place}
 
 -- where bodies lie elsewhere, an own open claim may have another body of the same length, since no word shows it. The

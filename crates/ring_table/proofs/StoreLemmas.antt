@@ -1,34 +1,22 @@
 -- A producer's stores into its claims keep the rule.
-use Rattle.ring_table.specs.Staged.{Bodies}
+use Rattle.ring_table.specs.{Staged.Bodies, Changes.blank, Changes.staged, Changes.with_header, Changes.changed}
 use Rattle.std.proofs.Common.{◌≡◌, ◌≢◌, ℕ, ◌-◌, ◌/◌, ◌%◌, ◌^◌, ◌≤◌, ◌<◌, ◌⊎◌, ℤ, List, set, sym, refl, ap, ◌∙◌, subst, inl, inr, ⊎_elim, length, arith}
-use mathlib.Core.Option.{some}
-use mathlib.Core.Logic.{dite}
-use native.Mathlib.Decide.{ℕ_discrete}
-use lib.ListN.{get_elem?}
+use Rattle.std.proofs.Math.{Option.some, Logic.dite, Decide.ℕ_discrete, ListN.get_elem?}
 use Rattle.std.proofs.lemmas.List.{length-replicate}
 use Rattle.atomic_table.specs.Table.{keeps, Allows}
-use Rattle.ring_layout.specs.declared.message.ClaimState.{ClaimState}
-use Rattle.ring_layout.specs.declared.message.ClaimState.TheVariants.{Open}
-use Rattle.ring_layout.specs.History.{IsMessage, span}
-use Rattle.ring_layout.specs.Places.{index}
-use Rattle.ring_layout.specs.Headers.{header_of, open_header}
+use Rattle.ring_layout.specs.declared.message.ClaimState.{ClaimState, TheVariants.Open}
+use Rattle.ring_layout.specs.{History.IsMessage, History.span, Places.index, Headers.header_of, Headers.open_header}
 use Rattle.ring_table.specs.Staged.{StagedClaim, Stage, Moved, Padded, Stored, claim_of, claim_end, staged_span, masked_padding, masked_record, padding_word, staged_word, staged_word_at, staged_end, AreRising}
-use Rattle.ring_table.specs.Changes.{blank, staged, with_header, changed}
-use Rattle.ring_table.specs.Owners.{OwnedHistory, all_of, edited_one, edited}
-use Rattle.ring_table.specs.Passing.{IsSettled}
-use Rattle.ring_table.specs.Views.{View, with_claims}
-use Rattle.ring_table.specs.Rule.{Kept}
+use Rattle.ring_table.specs.{Owners.OwnedHistory, Owners.all_of, Owners.edited_one, Owners.edited, Passing.IsSettled}
+use Rattle.ring_table.specs.{Views.View, Views.with_claims, Rule.Kept}
 use Rattle.ring_table.specs.ProducerSteps.{Mine, HasClaim, Changes, StoresPadding, StoresClaimed, StoresSettled}
 use Rattle.ring_table.proofs.StagedPlaces.{word_of_claim, one_at_place, one_at_position}
 use Rattle.ring_table.proofs.StagedWords.{staged_word-header, staged_word-padding, staged_word-staged, staged_word-opened}
 use Rattle.ring_table.proofs.HistoryLemmas.{MayReplace, MayReplaceAt, owned_by-edited, owned_by-edited_other, edited_one_here, get-edited, staged_end-edited, placed_edited}
-use Rattle.ring_table.proofs.OwnerLemmas.{rising_owned_by}
-use Rattle.ring_table.proofs.ReachLemmas.{Unsettled}
-use Rattle.ring_table.proofs.KnowLemmas.{knows_after}
-use Rattle.ring_table.proofs.StepLemmas.{sees_top_after, becomes}
+use Rattle.ring_table.proofs.{OwnerLemmas.rising_owned_by, LoadLemmas.HasUnsettled, LoadLemmas.Ok, LoadLemmas.stands}
+use Rattle.ring_table.proofs.{ReachLemmas.Unsettled, HeaderWords.one_type, HeaderWords.one_length}
+use Rattle.ring_table.proofs.{KnowLemmas.knows_after, StepLemmas.sees_top_after, StepLemmas.becomes}
 use Rattle.ring_table.proofs.MemoryLemmas.{memory_edited, service_elsewhere, one_position, index_inside}
-use Rattle.ring_table.proofs.LoadLemmas.{HasUnsettled, Ok, stands}
-use Rattle.ring_table.proofs.HeaderWords.{one_type, one_length}
 
 -- a word of a claim's record is at q, or one of the padding before it while only the tail was moved
 pub record IsWordOf (c : StagedClaim) (q : ℕ) : Type 0 where

@@ -1,26 +1,19 @@
 -- A walk over the headers of a closed ring.
 use Rattle.std.proofs.Common.{◌≡◌, ◌≢◌, ℕ, suc, ◌+◌, ◌-◌, ◌*◌, ◌/◌, ◌%◌, ◌^◌, ◌≤◌, ◌<◌, ◌⊎◌, pos, List, [], ◌∷◌, cond, set, get_or, slice_index, sym, refl, ap, ◌∙◌, subst, inl, inr, ⊎_elim, length, le-ltb, length-set, get_or-set_other, get_or-set_same, arith}
-use mathlib.Core.Option.{some}
-use lib.ListN.{get_elem?}
-use Rattle.std.proofs.lemmas.Bool.{cases_lt}
-use Rattle.std.proofs.lemmas.Nat.{mod_below}
+use Rattle.std.proofs.{Math.Option.some, Math.ListN.get_elem?, lemmas.Bool.cases_lt, lemmas.Nat.mod_below}
 use Rattle.ring_layout.specs.declared.message.ClaimState.TheVariants.{Open, Committed, Aborted}
 use Rattle.ring_layout.specs.Headers.{header, header_of, padding_header, padding_type}
 use Rattle.ring_layout.specs.History.{IsMessage}
 use Rattle.ring_layout.specs.Places.{index, max_position, next_place, room, rounded}
-use Rattle.ring_layout.proofs.HeaderLemmas.{fits_pos}
-use Rattle.ring_layout.proofs.Laps.{LieInLap, mod_aligned, index_outside}
+use Rattle.ring_layout.proofs.{HeaderLemmas.fits_pos, Laps.LieInLap, Laps.mod_aligned, Laps.index_outside}
 use Rattle.ring_layout.proofs.PlaceLemmas.{next_cases, next_le, next_within}
 use Rattle.ring_table.specs.Staged.{in_words, elsewhere, padding_mark, padding_word, shown_header, PlacedMessage, StagedClaim, Stage, Moved, Padded, Stored, IsStored, claim_of, stage_state, staged_span, claim_end, staged_word_at, ArePlaced, staged_end}
-use Rattle.ring_table.specs.Owners.{OwnedHistory, all_of}
-use Rattle.ring_table.specs.Passing.{IsSettled, AreSettled, Reaches}
+use Rattle.ring_table.specs.{Owners.OwnedHistory, Owners.all_of, Passing.IsSettled, Passing.AreSettled, Passing.Reaches}
 use Rattle.ring_table.specs.Walk.{IsCopied, Parts, Stands, Walked}
-use Rattle.ring_table.proofs.BodyPlaces.{BodyIn, behind_header}
+use Rattle.ring_table.proofs.{BodyPlaces.BodyIn, BodyPlaces.behind_header, RangeLemmas.Outside}
 use Rattle.ring_table.proofs.HeaderReads.{high_half, halves, type_below, shown_other, shown_padding}
 use Rattle.ring_table.proofs.MemoryLemmas.{head_bounds, index_inside, one_position}
-use Rattle.ring_table.proofs.RangeLemmas.{Outside}
-use Rattle.ring_table.proofs.ReachLemmas.{stored_of}
-use Rattle.ring_table.proofs.RestLemmas.{stored_padding, stored_record}
+use Rattle.ring_table.proofs.{ReachLemmas.stored_of, RestLemmas.stored_padding, RestLemmas.stored_record}
 use Rattle.ring_table.proofs.StagedPlaces.{capacity_aligned, start_aligned, end_le, lies_in, places_aligned, word_of_claim}
 use Rattle.ring_table.proofs.StagedWords.{staged_word-header, staged_word-padding, staged_word-padding_behind, staged_word-in_words}
 

@@ -1,11 +1,8 @@
 -- A claim as it is made, and how the steps of its producer change it.
 use Rattle.std.specs.Prelude.{ℕ, ◌-◌, ℤ, List, [], ◌∷◌, Bool, true, false, length, take, replicate, if◌then◌else◌, ◌==◌}
 use Rattle.std.specs.Int.{to_le_bytes, w64}
-use Rattle.ring_layout.specs.declared.message.Message.{Message}
-use Rattle.ring_layout.specs.declared.message.ClaimState.{ClaimState}
-use Rattle.ring_layout.specs.declared.message.ClaimState.TheVariants.{Committed, Open}
-use Rattle.ring_layout.specs.History.{span, overwritten}
-use Rattle.ring_layout.specs.Places.{next_place}
+use Rattle.ring_layout.specs.{declared.message.Message.Message, History.span, History.overwritten, Places.next_place}
+use Rattle.ring_layout.specs.declared.message.ClaimState.{ClaimState, TheVariants.Committed, TheVariants.Open}
 use Rattle.ring_table.specs.Staged.{StagedClaim, Stage, Moved, Padded, Stored}
 
 -- a message of n zero bytes

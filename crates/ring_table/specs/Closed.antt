@@ -1,21 +1,13 @@
 -- The words of a fresh ring, and those of a closed one.
 use Rattle.std.specs.Prelude.{◌≡◌, ℕ, ◌/◌, ◌<◌, List, [], ◌∷◌, ◌++◌, length, slice_index, true}
-use Rattle.std.specs.Slots.{slots_items, IsFull}
-use Rattle.std.specs.declared.alloc.Global.{Global}
-use Rattle.atomic_table.specs.Table.{Final, Seen}
-use Rattle.atomic_table.specs.declared.owned.Closed.{Closed}
-use Rattle.ring_layout.specs.Places.{end_of}
+use Rattle.std.specs.{Slots.slots_items, Slots.IsFull, declared.alloc.Global.Global}
+use Rattle.atomic_table.specs.{Table.Final, Table.Seen, declared.owned.Closed.Closed}
+use Rattle.ring_layout.specs.{Places.end_of, Picture.IsPicture, Refusals.all_shares}
 use Rattle.ring_layout.specs.Layout.{ring_words, tail_index, head_cache_index, head_index, correlation_index, heartbeat_index, IsUnnamed}
-use Rattle.ring_layout.specs.Picture.{IsPicture}
-use Rattle.ring_layout.specs.Refusals.{all_shares}
-use Rattle.ring_table.specs.OpenClaims.{open_count}
+use Rattle.ring_table.specs.{OpenClaims.open_count, Services.times_drawn, Services.once_below, Services.AreServed}
 use Rattle.ring_table.specs.Staged.{Bodies, in_words, StagedClaim, unplaced, ArePlaced, staged_end}
-use Rattle.ring_table.specs.Passing.{AreSettled, placed_committed_of}
-use Rattle.ring_table.specs.Services.{times_drawn, once_below, AreServed}
-use Rattle.ring_table.specs.Views.{View}
-use Rattle.ring_table.specs.Rule.{IsLawful, IsMemory, IsService}
-use Rattle.ring_table.specs.Marks.{Keeps}
-use Rattle.ring_table.specs.declared.view.Key.{Key}
+use Rattle.ring_table.specs.{Passing.AreSettled, Passing.placed_committed_of, Marks.Keeps, declared.view.Key.Key}
+use Rattle.ring_table.specs.{Views.View, Rule.IsLawful, Rule.IsMemory, Rule.IsService}
 
 pub record IsFresh (C start : ℕ) (words : List ℕ) : Type 0 where
   pub wide : length words ≡ ring_words C

@@ -4,8 +4,7 @@ use Rattle.std.specs.Int.{w32}
 use mathlib.Core.Option.{some}
 use lib.ListN.{get_elem?}
 use Rattle.ring_layout.specs.History.{IsMessage}
-use Rattle.ring_layout.specs.Places.{index, max_position, rounded}
-use Rattle.ring_layout.specs.Headers.{header, padding_type}
+use Rattle.ring_layout.specs.{Places.index, Places.max_position, Places.rounded, Headers.header, Headers.padding_type}
 use Rattle.ring_table.specs.Staged.{PlacedMessage, body_word}
 use Rattle.ring_table.specs.Views.{View, logged, with_consumer, scanned, cleared_to, stands_at}
 

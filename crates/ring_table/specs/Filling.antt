@@ -2,9 +2,7 @@
 use Rattle.std.specs.Prelude.{◌≡◌, ℕ, ◌+◌, ◌*◌, ◌<◌, List, ◌++◌, All, length, slice_index}
 use Rattle.atomic_table.specs.declared.shared.Seat.{Seat}
 use Rattle.ring_table.specs.Views.{View}
-use Rattle.ring_table.specs.Ranges.{numbered}
-use Rattle.ring_table.specs.SlotSteps.{AreWordsOf, HasBody}
-use Rattle.ring_table.specs.Staged.{body_word, headed}
+use Rattle.ring_table.specs.{Ranges.numbered, SlotSteps.AreWordsOf, SlotSteps.HasBody, Staged.body_word, Staged.headed}
 use mathlib.Core.Option.{some}
 use lib.ListN.{get_elem?}
 

@@ -5,16 +5,11 @@ use Rattle.std.specs.Prelude.{◌≡◌, ◌≢◌, ◌⊎◌, ℕ, pos, ◌+◌
 use mathlib.Core.Option.{Option}
 use Rattle.ring_layout.specs.Marks.{committed_kind, padding_kind, open_kind, aborted_kind}
 use Rattle.ring_layout.specs.Places.{index, rounded}
-use Rattle.ring_table.specs.Staged.{Bodies, in_words, elsewhere, padding_word}
-use Rattle.ring_table.specs.Views.{Key, Run, View, with_run}
-use Rattle.ring_table.specs.Shelf.{HasShelf, IsShelf}
+use Rattle.ring_table.specs.Staged.{Bodies, in_words, elsewhere, padding_word, PlacedMessage}
+use Rattle.ring_table.specs.{Views.Key, Views.Run, Views.View, Views.with_run, Views.Logs, ConsumerSteps.LoadsHeader}
+use Rattle.ring_table.specs.{Shelf.HasShelf, Shelf.IsShelf, ProducerSteps.Mine, SlotSteps.with_out, SlotSteps.IsLent}
 use Rattle.ring_table.specs.Rule.{Kept}
 use Rattle.ring_layout.specs.Headers.{committed_header, open_header, padding_header}
-use Rattle.ring_table.specs.Staged.{PlacedMessage}
-use Rattle.ring_table.specs.Views.{Logs}
-use Rattle.ring_table.specs.ProducerSteps.{Mine}
-use Rattle.ring_table.specs.SlotSteps.{with_out, IsLent}
-use Rattle.ring_table.specs.ConsumerSteps.{LoadsHeader}
 
 -- the kind of what has this header
 unfoldable pub kind_of : ℕ → ℕ

@@ -1,9 +1,8 @@
 -- The number of open claims, and what follows from it.
 use Rattle.std.specs.Prelude.{ℕ, ◌<◌, List, [], ◌∷◌, ⊤}
-use Rattle.ring_layout.specs.declared.message.ClaimState.{ClaimState}
+use Rattle.ring_layout.specs.{declared.message.ClaimState.ClaimState, Lists.total}
 use Rattle.ring_layout.specs.declared.message.ClaimState.TheVariants.{Open, Committed, Aborted}
 use Rattle.ring_table.specs.Staged.{StagedClaim, stage_state}
-use Rattle.ring_layout.specs.Lists.{total}
 
 -- 1 for an open claim
 abbrev pub one_if_open : ClaimState → ℕ

@@ -1,7 +1,6 @@
 -- The claims of several producers as one history.
 use Rattle.std.specs.Prelude.{ℕ, List, [], ◌∷◌, if◌then◌else◌, nat_lt, ◌==◌}
-use Rattle.ring_table.specs.Staged.{StagedClaim}
-use Rattle.ring_table.specs.Changes.{changed_at}
+use Rattle.ring_table.specs.{Staged.StagedClaim, Changes.changed_at}
 
 -- claims, the oldest first, each with the seat of its producer
 abbrev pub OwnedHistory : Type 0

@@ -4,13 +4,9 @@ use Rattle.std.specs.Int.{w32, w64, to_le_bytes}
 use mathlib.Core.Option.{some}
 use lib.ListN.{get_elem?}
 use Rattle.atomic_table.specs.Table.{Me}
-use Rattle.ring_layout.specs.declared.message.ClaimState.{ClaimState}
-use Rattle.ring_layout.specs.declared.message.ClaimState.TheVariants.{Open}
-use Rattle.ring_layout.specs.History.{IsMessage, span}
-use Rattle.ring_layout.specs.Places.{index, end_after, max_position}
-use Rattle.ring_layout.specs.Headers.{open_header}
-use Rattle.ring_layout.specs.Layout.{tail_index, head_index}
-use Rattle.ring_layout.specs.Refusals.{all_shares}
+use Rattle.ring_layout.specs.declared.message.ClaimState.{ClaimState, TheVariants.Open}
+use Rattle.ring_layout.specs.{History.IsMessage, History.span, Headers.open_header, Refusals.all_shares}
+use Rattle.ring_layout.specs.{Places.index, Places.end_after, Places.max_position, Layout.tail_index, Layout.head_index}
 use Rattle.ring_table.specs.Staged.{StagedClaim, Stage, Moved, Padded, Stored, claim_end, staged_span, body_word, AreRising}
 use Rattle.ring_table.specs.Changes.{blank, moved_claim, staged, with_header, with_body_word, changed}
 use Rattle.ring_table.specs.Views.{View, Wanted, logged, with_producer, with_tail, with_head, with_claims, with_claim}

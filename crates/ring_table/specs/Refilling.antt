@@ -2,11 +2,9 @@
 use Rattle.std.specs.Prelude.{◌≡◌, ℕ, ◌+◌, ◌%◌, ◌≤◌, ◌<◌, List, [], ◌∷◌, ◌++◌, length, slice_index, All, ⊤}
 use Rattle.ring_layout.specs.declared.message.Message.{Message}
 use Rattle.ring_layout.specs.declared.message.ClaimState.TheVariants.{Open, Committed, Aborted}
-use Rattle.ring_layout.specs.Layout.{head_index, tail_index}
-use Rattle.ring_layout.specs.Places.{index, max_position}
+use Rattle.ring_layout.specs.{Layout.head_index, Layout.tail_index, Places.index, Places.max_position}
 use Rattle.ring_table.specs.Staged.{in_words, StagedClaim, PlacedMessage, Stage, Moved, Padded, Stored, ArePlaced, body_word, staged_end, staged_word_at}
-use Rattle.ring_table.specs.Passing.{AreSettled, placed_committed_of}
-use Rattle.ring_table.specs.Rescued.{AreTight}
+use Rattle.ring_table.specs.{Passing.AreSettled, Passing.placed_committed_of, Rescued.AreTight}
 
 -- a committed message with this body
 abbrev pub filled_message : Stage → List ℕ → Message → Message

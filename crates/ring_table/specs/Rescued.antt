@@ -1,24 +1,15 @@
 -- What is left of a ring whose seats may be lost: its claims, each settled for good.
 use Rattle.std.specs.Prelude.{◌≡◌, ℕ, ◌+◌, ◌-◌, ◌%◌, ◌^◌, ◌≤◌, ◌<◌, List, [], ◌∷◌, ◌++◌, length, slice_index, if◌then◌else◌, nat_lt, ◌==◌, ⊤, true}
 use Rattle.ring_layout.specs.declared.message.ClaimState.TheVariants.{Open, Committed, Aborted}
-use Rattle.ring_layout.specs.Headers.{padding_header}
-use Rattle.ring_layout.specs.Layout.{tail_index, head_index, ring_words}
-use Rattle.ring_layout.specs.Lists.{total}
-use Rattle.ring_layout.specs.Picture.{IsPicture}
-use Rattle.ring_layout.specs.Places.{index, max_position}
+use Rattle.ring_layout.specs.{Headers.padding_header, Layout.tail_index, Layout.head_index, Layout.ring_words}
+use Rattle.ring_layout.specs.{Lists.total, Picture.IsPicture, Places.index, Places.max_position}
 use Rattle.ring_table.specs.Staged.{Bodies, in_words, elsewhere, StagedClaim, Stage, Moved, Padded, Stored, ArePlaced, claim_end, staged_end, staged_span, staged_word_at, unplaced}
-use Rattle.ring_table.specs.Passing.{AreSettled, placed_committed_of}
-use Rattle.ring_table.specs.Owners.{OwnedHistory, all_of, owned_by}
-use Rattle.ring_table.specs.Closed.{restarted}
-use Rattle.ring_table.specs.Rule.{IsLawful, IsService, Kept}
-use Rattle.ring_table.specs.Marks.{Keeps, KeepsMarks}
-use Rattle.ring_table.specs.declared.view.Key.{Key}
+use Rattle.ring_table.specs.{Passing.AreSettled, Passing.placed_committed_of, Rule.IsLawful, Rule.IsService, Rule.Kept}
+use Rattle.ring_table.specs.{Owners.OwnedHistory, Owners.all_of, Owners.owned_by, Marks.Keeps, Marks.KeepsMarks}
+use Rattle.ring_table.specs.{Closed.restarted, declared.view.Key.Key, Views.View}
 use mathlib.Core.Option.{Option}
-use Rattle.std.specs.Slots.{slots_items, IsFull}
-use Rattle.std.specs.declared.alloc.Global.{Global}
-use Rattle.atomic_table.specs.Table.{Final, Seen}
-use Rattle.atomic_table.specs.declared.owned.Closed.{Closed}
-use Rattle.ring_table.specs.Views.{View}
+use Rattle.std.specs.{Slots.slots_items, Slots.IsFull, declared.alloc.Global.Global}
+use Rattle.atomic_table.specs.{Table.Final, Table.Seen, declared.owned.Closed.Closed}
 
 -- 1 for a claim whose header is stored, and that is not settled
 abbrev pub one_if_unsettled : Stage → ℕ

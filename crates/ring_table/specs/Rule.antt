@@ -2,14 +2,11 @@
 use Rattle.std.specs.Prelude.{◌≡◌, ℕ, ◌+◌, ◌%◌, ◌^◌, ◌≤◌, ◌<◌, List, [], ◌∷◌, true, length, slice_index, if◌then◌else◌, nat_lt}
 use mathlib.Core.Option.{some}
 use lib.ListN.{get_elem?}
-use Rattle.ring_layout.specs.Places.{IsCapacity, index, max_position}
+use Rattle.ring_layout.specs.{Places.IsCapacity, Places.index, Places.max_position, Lists.total, Refusals.all_shares}
 use Rattle.ring_layout.specs.Layout.{ring_words, tail_index, head_cache_index, head_index, correlation_index, heartbeat_index, IsUnnamed}
 use Rattle.ring_table.specs.Staged.{Bodies, StagedClaim, ArePlaced, staged_end, staged_word_at}
 use Rattle.ring_table.specs.Owners.{OwnedHistory, all_of, owned_by}
-use Rattle.ring_table.specs.Passing.{Reaches}
-use Rattle.ring_layout.specs.Lists.{total}
-use Rattle.ring_layout.specs.Refusals.{all_shares}
-use Rattle.ring_table.specs.Services.{times_drawn, once_below, AreServed}
+use Rattle.ring_table.specs.{Passing.Reaches, Services.times_drawn, Services.once_below, Services.AreServed}
 use Rattle.ring_table.specs.Views.{ProducerView, ConsumerView, View}
 
 -- a capacity and a start that a ring may have

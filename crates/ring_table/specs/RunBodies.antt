@@ -1,9 +1,7 @@
 -- Messages that are written together, and how their records are put into the slots of a run.
 use Rattle.std.specs.Prelude.{◌≡◌, ℕ, ◌+◌, ◌%◌, ◌<◌, List, [], ◌∷◌, length}
-use Rattle.ring_layout.specs.declared.message.Message.{Message}
-use Rattle.ring_layout.specs.History.{IsMessage}
-use Rattle.ring_table.specs.Changes.{blank}
-use Rattle.ring_table.specs.Staged.{StagedClaim, Padded, body_word, staged_span}
+use Rattle.ring_layout.specs.{declared.message.Message.Message, History.IsMessage}
+use Rattle.ring_table.specs.{Changes.blank, Staged.StagedClaim, Staged.Padded, Staged.body_word, Staged.staged_span}
 pub use Rattle.ring_table.specs.declared.runs.Outgoing.{Outgoing}
 
 -- the message that is to be written

@@ -1,13 +1,9 @@
 -- Records that are committed together, as one run.
 use Rattle.std.specs.Prelude.{◌≡◌, ℕ, ◌+◌, ◌-◌, List, [], ◌∷◌, ◌++◌, ⊤, length, replicate}
-use Rattle.ring_layout.specs.declared.message.Message.{Message}
-use Rattle.ring_layout.specs.declared.message.ClaimState.TheVariants.{Committed}
-use Rattle.ring_layout.specs.History.{IsMessage, span}
-use Rattle.ring_layout.specs.Places.{index}
+use Rattle.ring_layout.specs.declared.message.{Message.Message, ClaimState.TheVariants.Committed}
+use Rattle.ring_layout.specs.{History.IsMessage, History.span, Places.index}
 use Rattle.ring_table.specs.Staged.{StagedClaim, Padded, Stored, claim_end, slot_bytes, staged_span}
-use Rattle.ring_table.specs.Passing.{placed_message}
-use Rattle.ring_table.specs.ProducerSteps.{Mine}
-use Rattle.ring_table.specs.SlotSteps.{with_out, HasBody}
+use Rattle.ring_table.specs.{Passing.placed_message, ProducerSteps.Mine, SlotSteps.with_out, SlotSteps.HasBody}
 use Rattle.ring_table.specs.Views.{with_claims}
 
 -- the bytes that the slots of a message's record have, with zeros up to its end

@@ -1,9 +1,7 @@
 -- What a step asks of a seat, and leaves of it.
 use Rattle.std.specs.Prelude.{◌≡◌, ℕ, []}
-use Rattle.atomic_table.specs.Seated.{TableId}
-use Rattle.atomic_table.specs.declared.shared.Seat.{Seat}
-use Rattle.ring_layout.specs.Places.{IsCapacity}
-use Rattle.ring_layout.specs.Layout.{ring_words}
+use Rattle.atomic_table.specs.{Seated.TableId, declared.shared.Seat.Seat}
+use Rattle.ring_layout.specs.{Places.IsCapacity, Layout.ring_words}
 use Rattle.ring_table.specs.Views.{Key, View}
 
 -- the seat is one of this table, which is a ring of this capacity, and has no slots out

@@ -1,9 +1,7 @@
 -- What the steps on the head cache, the correlation counter and the heartbeat say: v is the view before, w after, n
 -- the number found.
 use Rattle.std.specs.Prelude.{◌≡◌, ℕ, ◌%◌, ◌^◌, ◌≤◌, max}
-use Rattle.ring_layout.specs.Places.{max_position}
-use Rattle.ring_layout.specs.Layout.{head_cache_index, heartbeat_index}
-use Rattle.ring_layout.specs.Refusals.{all_shares}
+use Rattle.ring_layout.specs.{Places.max_position, Layout.head_cache_index, Layout.heartbeat_index, Refusals.all_shares}
 use Rattle.ring_table.specs.Services.{AreRisingBelow}
 use Rattle.ring_table.specs.Views.{View, logged, with_producer, with_head, with_draw, with_heartbeat}
 

@@ -2,12 +2,9 @@
 use Rattle.std.specs.Prelude.{◌≡◌, ℕ, ◌+◌, ◌/◌, ◌%◌, ◌≤◌, ◌<◌, ◌⊎◌, List, [], ◌∷◌, ◌++◌, true, length, ⊤}
 use mathlib.Core.Option.{Option, some}
 use lib.ListN.{get_elem?}
-use Rattle.ring_layout.specs.Places.{index}
+use Rattle.ring_layout.specs.{Places.index, declared.message.Message.Message}
 use Rattle.ring_table.specs.Staged.{Bodies, in_words, elsewhere, StagedClaim, PlacedMessage, IsStored, body_word, slot_bytes}
-use Rattle.ring_layout.specs.declared.message.Message.{Message}
-use Rattle.ring_table.specs.Passing.{IsSettled}
-use Rattle.ring_table.specs.Views.{View}
-use Rattle.ring_table.specs.ProducerSteps.{HasClaim}
+use Rattle.ring_table.specs.{Passing.IsSettled, Views.View, ProducerSteps.HasClaim}
 
 -- the seat has the slot i out, which is one of this message's record
 pub record IsOut (C i : ℕ) (v : View) : Type 0 where

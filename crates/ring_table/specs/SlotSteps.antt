@@ -3,19 +3,12 @@ use Rattle.std.specs.Prelude.{◌≡◌, ℕ, zero, suc, ℤ, ◌+◌, ◌*◌, 
 use Rattle.std.specs.Int.{w32}
 use mathlib.Core.Option.{some}
 use lib.ListN.{get_elem?}
-use Rattle.atomic_table.specs.Seated.{TableId}
-use Rattle.atomic_table.specs.declared.shared.Seat.{Seat}
-use Rattle.ring_layout.specs.declared.message.ClaimState.TheVariants.{Open}
-use Rattle.ring_layout.specs.History.{span}
-use Rattle.ring_layout.specs.Places.{IsCapacity, index}
-use Rattle.ring_layout.specs.Layout.{ring_words}
+use Rattle.atomic_table.specs.{Seated.TableId, declared.shared.Seat.Seat}
+use Rattle.ring_layout.specs.declared.message.ClaimState.{TheVariants.Open, ClaimState}
+use Rattle.ring_layout.specs.{History.span, Places.IsCapacity, Places.index, Layout.ring_words}
 use Rattle.ring_table.specs.Staged.{StagedClaim, PlacedMessage, Padded, Stored, body_word, slot_bytes, staged_span}
-use Rattle.ring_layout.specs.declared.message.ClaimState.{ClaimState}
-use Rattle.ring_table.specs.Changes.{stored_as, with_body}
-use Rattle.ring_table.specs.Passing.{placed_message}
-use Rattle.ring_table.specs.Views.{Key, View}
-use Rattle.ring_table.specs.ProducerSteps.{Mine, HasClaim, with_changed}
-use Rattle.ring_table.specs.Ranges.{numbered}
+use Rattle.ring_table.specs.{Changes.stored_as, Changes.with_body, Passing.placed_message, Views.Key, Views.View}
+use Rattle.ring_table.specs.{ProducerSteps.Mine, ProducerSteps.HasClaim, ProducerSteps.with_changed, Ranges.numbered}
 
 -- the words of n bytes
 abbrev pub words_of : ℕ → ℕ

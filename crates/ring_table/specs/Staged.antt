@@ -1,12 +1,8 @@
 -- Claims whose headers may not be stored yet, and the words that they make.
 use Rattle.std.specs.Prelude.{◌≡◌, ℕ, ◌+◌, ◌-◌, ◌/◌, ◌^◌, ◌<◌, ℤ, pos, negsuc, List, [], ◌∷◌, ◌++◌, length, drop, if◌then◌else◌, nat_lt, ◌==◌, ⊤}
 use Rattle.std.specs.Int.{from_le_bytes, to_le_bytes, w64}
-use Rattle.ring_layout.specs.declared.message.Message.{Message}
-use Rattle.ring_layout.specs.declared.message.Claim.{Claim}
-use Rattle.ring_layout.specs.declared.message.ClaimState.{ClaimState}
-use Rattle.ring_layout.specs.declared.message.ClaimState.TheVariants.{Open}
-use Rattle.ring_layout.specs.History.{IsMessage, span}
-use Rattle.ring_layout.specs.Places.{next_place}
+use Rattle.ring_layout.specs.declared.message.{Message.Message, ClaimState.ClaimState, ClaimState.TheVariants.Open}
+use Rattle.ring_layout.specs.{declared.message.Claim.Claim, History.IsMessage, History.span, Places.next_place}
 use Rattle.ring_layout.specs.Headers.{header, header_of, committed_header, padding_header}
 pub use Rattle.ring_table.specs.declared.claim.StagedClaim.{StagedClaim}
 pub use Rattle.ring_table.specs.declared.claim.PlacedMessage.{PlacedMessage}

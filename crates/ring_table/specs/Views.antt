@@ -1,8 +1,7 @@
 -- What each seat knows at first, and how the steps change it.
 use Rattle.std.specs.Prelude.{◌≡◌, ℕ, ◌+◌, ◌-◌, List, [], ◌∷◌, ◌++◌, true, false, max}
 use Rattle.ring_layout.specs.Refusals.{all_shares}
-use Rattle.ring_table.specs.Staged.{StagedClaim, PlacedMessage}
-use Rattle.ring_table.specs.Owners.{interleaved}
+use Rattle.ring_table.specs.{Staged.StagedClaim, Staged.PlacedMessage, Owners.interleaved}
 pub use Rattle.ring_table.specs.declared.view.Key.{Key}
 pub use Rattle.ring_table.specs.declared.view.Wanted.{Wanted}
 pub use Rattle.ring_table.specs.declared.view.Service.{Service}

@@ -4,10 +4,8 @@ use lib.ListN.{get_elem?}
 use mathlib.Core.Option.{some}
 use Rattle.ring_layout.specs.Places.{index}
 use Rattle.ring_table.specs.Staged.{in_words, elsewhere, StagedClaim, body_word, claim_end, staged_word_at}
-use Rattle.ring_table.specs.Owners.{OwnedHistory, all_of}
-use Rattle.ring_table.specs.Passing.{AreSettled}
+use Rattle.ring_table.specs.{Owners.OwnedHistory, Owners.all_of, Passing.AreSettled, Rule.IsLawful, Rule.IsMemory}
 use Rattle.ring_table.specs.Views.{ConsumerView}
-use Rattle.ring_table.specs.Rule.{IsLawful, IsMemory}
 
 -- `new` has what `from` has in the n places from `first` on, and elsewhere what `old` has
 pub record IsCopied (first n : ℕ) (from old new : List ℕ) : Type 0 where

@@ -5,9 +5,8 @@ ghost use Rattle.ring_layout.specs.History.{IsMessage};
 ghost use Rattle.ring_table.specs.declared.claim.PlacedMessage.{PlacedMessage};
 ghost use Rattle.ring_table.specs.Changes.{blank, recorded, with_header};
 ghost use Rattle.ring_table.specs.ProducerSteps.{with_changed, HasClaimAt, HasNewestAt, NeedsHeader};
-ghost use Rattle.ring_table.specs.Seats.{IsSameSeat, IsSeatOf};
+ghost use Rattle.ring_table.specs.{Seats.IsSameSeat, Seats.IsSeatOf, Staged.body_word, Staged.headed, Staged.AreRising};
 ghost use Rattle.ring_table.specs.SlotSteps.{body_loads, words_of, HasBody, HasLast, HasSlots};
-ghost use Rattle.ring_table.specs.Staged.{body_word, headed, AreRising};
 
 use crate::mode::InSlots;
 use crate::steps::slots::{

@@ -2,8 +2,7 @@
 ghost use Rattle.std.specs.Prelude.{◌≡◌, ◌≢◌, ◌⊎◌, ℕ, ◌+◌, ◌/◌, ◌%◌, ◌^◌, ◌≤◌, ◌<◌, List, slice_index, vec_len};
 ghost use Rattle.std.specs.Slots.{slots_items, slots_len, IsFull};
 ghost use Rattle.ring_layout.specs.Layout.{head_index, ring_words};
-ghost use Rattle.ring_layout.specs.Marks.{committed_kind};
-ghost use Rattle.ring_layout.specs.Places.{index, max_position, IsCapacity};
+ghost use Rattle.ring_layout.specs.{Marks.committed_kind, Places.index, Places.max_position, Places.IsCapacity};
 ghost use Rattle.ring_table.specs.Marks.{decoded, AreMarked, IsDecoded, MayDecode, ShowsRuns, Spreads};
 
 use atomic_table::Closed;

@@ -2,12 +2,9 @@
 ghost use Rattle.std.specs.Prelude.{◌≡◌, ◌+◌, ◌≤◌, ◌<◌, true};
 ghost use Rattle.ring_layout.specs.declared.message.ClaimState.TheVariants.{Aborted, Committed};
 ghost use Rattle.ring_layout.specs.History.{IsMessage};
-ghost use Rattle.ring_table.specs.Changes.{blank, staged};
-ghost use Rattle.ring_table.specs.ConsumerSteps.{LoadsHeader};
+ghost use Rattle.ring_table.specs.{Changes.blank, Changes.staged, ConsumerSteps.LoadsHeader, Views.with_run};
 ghost use Rattle.ring_table.specs.ProducerSteps.{HasClaimAt, IsStagedOpen, NeedsPadding, with_changed};
-ghost use Rattle.ring_table.specs.Seats.{IsSameSeat, IsSeatOf};
-ghost use Rattle.ring_table.specs.Staged.{AreRising, Padded, Stored};
-ghost use Rattle.ring_table.specs.Views.{with_run};
+ghost use Rattle.ring_table.specs.{Seats.IsSameSeat, Seats.IsSeatOf, Staged.AreRising, Staged.Padded, Staged.Stored};
 
 use crate::mode::{InSlots, InWords, Mode};
 use crate::steps::{RingSeat, SharedRing, consumer, marks, producer};

@@ -2,15 +2,11 @@
 ghost use Rattle.std.specs.Prelude.{◌≡◌, ℕ, ◌+◌, ◌≤◌, List, [], ◌∷◌, ◌++◌};
 ghost use mathlib.Core.Option.{some};
 ghost use lib.ListN.{get_elem?};
-ghost use Rattle.ring_layout.specs.Places.{end_of};
-ghost use Rattle.ring_layout.specs.Picture.{word_at};
+ghost use Rattle.ring_layout.specs.{Places.end_of, Picture.word_at};
 ghost use Rattle.ring_table.specs.Staged.{ArePlaced, AreRising, AreStored, StagedClaim};
 ghost use Rattle.ring_table.specs.Staged.{in_words, unplaced, staged_end, staged_word_at, stage_state};
-ghost use Rattle.ring_table.specs.Changes.{changed};
-ghost use Rattle.ring_table.specs.Owners.{interleaved};
-ghost use Rattle.ring_table.specs.Passing.{AreSettled};
-ghost use Rattle.ring_table.specs.ProducerSteps.{EndBelow};
-ghost use Rattle.ring_table.specs.OpenClaims.{AreBelow, one_if_open, open_count};
+ghost use Rattle.ring_table.specs.{Changes.changed, OpenClaims.AreBelow, OpenClaims.one_if_open, OpenClaims.open_count};
+ghost use Rattle.ring_table.specs.{Owners.interleaved, Passing.AreSettled, ProducerSteps.EndBelow};
 
 /// If the header of each claim is stored, the words of the claims with their places are those of the claims alone, and
 /// both end at one position.

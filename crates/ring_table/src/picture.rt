@@ -2,11 +2,8 @@
 ghost use Rattle.std.specs.Prelude.{◌≡◌, ℕ, List, ◌+◌, ◌/◌, ◌%◌, ◌≤◌, ◌<◌, vec_len};
 ghost use Rattle.std.specs.Slots.{slots_items, slots_len, IsFull};
 ghost use Rattle.ring_layout.specs.Layout.{ring_words};
-ghost use Rattle.ring_table.specs.declared.view.Key.{Key as TheKey};
-ghost use Rattle.ring_table.specs.Closed.{IsClosed, IsLeft, LeavesRest};
-ghost use Rattle.ring_table.specs.Owners.{all_of};
-ghost use Rattle.ring_table.specs.Staged.{elsewhere, shown_header, staged_end};
-ghost use Rattle.ring_table.specs.Views.{View};
+ghost use Rattle.ring_table.specs.{declared.view.Key.Key as TheKey, Closed.IsClosed, Closed.IsLeft, Closed.LeavesRest};
+ghost use Rattle.ring_table.specs.{Owners.all_of, Staged.elsewhere, Staged.shown_header, Staged.staged_end, Views.View};
 ghost use Rattle.ring_table.specs.Walk.{IsCopied, Parts, Walked};
 
 use crate::decode::{decode_marks, spread_runs};

@@ -2,13 +2,10 @@
 ghost use Rattle.std.specs.Prelude.{◌≡◌, ◌+◌, ◌*◌, ◌/◌, ◌^◌, ◌≤◌, ◌<◌, [], ◌∷◌, ◌++◌, All, List, ℕ, length};
 ghost use Rattle.std.specs.Int.{from_le_bytes, to_le_bytes, w64};
 ghost use Rattle.ring_layout.specs.History.{overwritten};
-ghost use Rattle.ring_table.specs.declared.claim.StagedClaim.{StagedClaim};
-ghost use Rattle.ring_table.specs.Changes.{with_body};
-ghost use Rattle.ring_table.specs.Filling.{IsSameTable, Takes};
+ghost use Rattle.ring_table.specs.{declared.claim.StagedClaim.StagedClaim, Filling.IsSameTable, Filling.Takes};
+ghost use Rattle.ring_table.specs.{Changes.with_body, SlotSteps.words_of, SlotSteps.HasBody, SlotSteps.IsOpenOf};
 ghost use Rattle.ring_table.specs.ProducerSteps.{with_changed, HasClaim, HasClaimAt};
-ghost use Rattle.ring_table.specs.Seats.{IsSameSeat, IsSeatOf};
-ghost use Rattle.ring_table.specs.SlotSteps.{words_of, HasBody, IsOpenOf};
-ghost use Rattle.ring_table.specs.Staged.{AreRising};
+ghost use Rattle.ring_table.specs.{Seats.IsSameSeat, Seats.IsSeatOf, Staged.AreRising};
 
 use crate::bodies::look_slot;
 use crate::mode::InSlots;

@@ -1,14 +1,10 @@
 //! How the claims that lost seats left in the words of a table are settled.
 ghost use Rattle.std.specs.Prelude.{◌≡◌, ℕ, ◌+◌, ◌/◌, ◌%◌, ◌^◌, ◌≤◌, ◌<◌, List, slice_index, slice_set, vec_len, true, []};
-ghost use Rattle.ring_layout.specs.Layout.{head_index, ring_words};
-ghost use Rattle.ring_layout.specs.Places.{index, IsCapacity};
-ghost use Rattle.ring_table.specs.declared.claim.StagedClaim.{StagedClaim};
+ghost use Rattle.ring_layout.specs.{Layout.head_index, Layout.ring_words, Places.index, Places.IsCapacity};
+ghost use Rattle.ring_table.specs.{declared.claim.StagedClaim.StagedClaim, declared.view.Key.Key as TheKey, Views.View};
 ghost use Rattle.ring_table.specs.Staged.{elsewhere, in_words, shown_header, staged_end};
-ghost use Rattle.ring_table.specs.Refilling.{Filled, FillsTo, MayFill};
+ghost use Rattle.ring_table.specs.{Refilling.Filled, Refilling.FillsTo, Refilling.MayFill, Owners.OwnedHistory};
 ghost use Rattle.std.specs.Slots.{slots_items, slots_len, IsFull};
-ghost use Rattle.ring_table.specs.declared.view.Key.{Key as TheKey};
-ghost use Rattle.ring_table.specs.Views.{View};
-ghost use Rattle.ring_table.specs.Owners.{OwnedHistory};
 ghost use Rattle.ring_table.specs.Rescued.{settled_word, HadHistory, IsSaved, Rescues, Settles, ShowsClaims};
 
 use crate::decode::{decode_marks, spread_runs};

@@ -11,8 +11,7 @@ pub struct RingRule<M> {
 }
 
 impl<M: Mode> TableRule<u64, View, Key> for RingRule<M> {
-    ghost use Rattle.ring_table.specs.Marks.{Keeps};
-    ghost use Rattle.ring_table.specs.Views.{first_view};
+    ghost use Rattle.ring_table.specs.{Marks.Keeps, Views.first_view};
 
     ghost holds = { λ key s. Keeps M.bodies key s.words s.homes s.views };
 

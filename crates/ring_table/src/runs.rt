@@ -1,14 +1,11 @@
 //! Runs of records, which a producer writes into the slots of one claim and publishes by one store.
 ghost use Rattle.std.specs.Prelude.{◌≡◌, ◌+◌, ◌*◌, ◌^◌, ◌≤◌, ◌<◌, [], ◌∷◌, ◌++◌, All, List, ℕ, length};
 ghost use Rattle.ring_layout.specs.Headers.{committed_header};
-ghost use Rattle.ring_table.specs.Filling.{Filling, IsSameTable};
-ghost use Rattle.ring_table.specs.ProducerSteps.{HasNewestAt};
+ghost use Rattle.ring_table.specs.{Filling.Filling, Filling.IsSameTable, Seats.IsSameSeat, Seats.IsSeatOf};
+ghost use Rattle.ring_table.specs.{ProducerSteps.HasNewestAt, Staged.headed, Staged.AreRising, Staged.StagedClaim};
 ghost use Rattle.ring_table.specs.RunBodies.{messages_of, IsSendable, LiesAt, NeedsRun};
 ghost use Rattle.ring_table.specs.Runs.{run_bytes, run_claims, run_slots, AreMessages};
-ghost use Rattle.ring_table.specs.Seats.{IsSameSeat, IsSeatOf};
-ghost use Rattle.ring_table.specs.SlotSteps.{words_of, HasBody, HasSlots};
-ghost use Rattle.ring_table.specs.Staged.{headed, AreRising, StagedClaim};
-ghost use Rattle.ring_table.specs.Views.{with_claims};
+ghost use Rattle.ring_table.specs.{SlotSteps.words_of, SlotSteps.HasBody, SlotSteps.HasSlots, Views.with_claims};
 
 use crate::bodies::put_slot;
 use crate::mode::InSlots;

@@ -1,10 +1,7 @@
 //! A ring's table, as it is made.
 ghost use Rattle.std.specs.Prelude.{◌≡◌, ◌/◌, ◌≤◌, [], replicate, IfOk};
-ghost use Rattle.ring_layout.specs.Layout.{ring_words};
-ghost use Rattle.ring_layout.specs.Places.{max_position};
-ghost use Rattle.ring_table.specs.Rule.{IsLawful};
-ghost use Rattle.ring_table.specs.Views.{first_view};
-ghost use Rattle.ring_table.specs.Closed.{IsFresh};
+ghost use Rattle.ring_layout.specs.{Layout.ring_words, Places.max_position};
+ghost use Rattle.ring_table.specs.{Rule.IsLawful, Views.first_view, Closed.IsFresh};
 
 use crate::mode::{InSlots, InWords};
 use crate::rule::RingRule;

@@ -1,13 +1,10 @@
 -- The message of a claim.
-use Rattle.std.proofs.Common.{◌≡◌, ◌∙◌, ◌+◌, ◌<◌, ℕ, zero, suc, List, [], ◌∷◌, ◌++◌, length, replicate, sym, ap, subst, arith}
-use mathlib.Core.Option.{some, some-injective, some-ne-none}
-use lib.ListN.{get_elem?}
-use Rattle.std.proofs.lemmas.List.{append-nil, drop_all, length-replicate}
-use Rattle.ring_layout.specs.declared.message.Message.{Message}
-use Rattle.ring_layout.specs.History.{overwritten}
+use Rattle.std.proofs.Common.{◌≡◌, ◌∙◌, ◌+◌, ◌<◌, ℕ, zero, suc, List, [], ◌∷◌, ◌++◌, length, replicate, sym, ap, subst, arith, append-nil}
+use Rattle.std.proofs.Math.{Option.some, Option.some-injective, Option.some-ne-none, ListN.get_elem?}
+use Rattle.std.proofs.lemmas.List.{drop_all, length-replicate}
+use Rattle.ring_layout.specs.{declared.message.Message.Message, History.overwritten}
 use Rattle.ring_words.specs.Open.{ClaimAt}
-use Rattle.ring_table.specs.declared.claim.StagedClaim.{StagedClaim}
-use Rattle.ring_table.specs.Staged.{AreAbove, AreRising}
+use Rattle.ring_table.specs.{declared.claim.StagedClaim.StagedClaim, Staged.AreAbove, Staged.AreRising}
 use Rattle.ring_rings.specs.Ring.{SendsClaimedAt}
 use Rattle.ring_ends.specs.End.{sent, End, HasMessage}
 

@@ -1,10 +1,8 @@
 -- What a ring that was closed says of its ends.
 use Rattle.std.proofs.Common.{subst, sym}
 use Rattle.ring_rings.specs.Ring.{IsWhole}
-use Rattle.ring_ends.specs.End.{received, sent, End}
-use Rattle.ring_ends.specs.Ending.{Last}
-use Rattle.ring_uses.specs.declared.closing.Closed.{Closed}
-use Rattle.ring_uses.specs.Closing.{IsClosedWith, IsWholeIn}
+use Rattle.ring_ends.specs.{End.received, End.sent, End.End, Ending.Last}
+use Rattle.ring_uses.specs.{declared.closing.Closed.Closed, Closing.IsClosedWith, Closing.IsWholeIn}
 
 pub whole_in : (p q : End) (closed : Closed Last) → IsClosedWith p q closed → IsWholeIn closed
 whole_in p q closed it =

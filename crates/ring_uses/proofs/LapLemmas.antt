@@ -1,14 +1,10 @@
 -- What a receiver has after each call.
 use Rattle.std.proofs.Common.{◌≡◌, ◌∙◌, ◌+◌, ◌%◌, ◌^◌, ◌≤◌, ℕ, [], ◌∷◌, sym, ap, subst, arith, Ok, Err, Some, None, Option, Result}
-use Rattle.std.proofs.lemmas.List.{map-append}
-use Rattle.std.proofs.lemmas.List.Elements.{All-push}
-use Rattle.ring_board.specs.declared.board.Copied.{Copied}
-use Rattle.ring_board.specs.declared.board.CopyReceiver.{CopyReceiver}
+use Rattle.std.proofs.lemmas.List.{map-append, Elements.All-push}
+use Rattle.ring_board.specs.declared.{board.Copied.Copied, board.CopyReceiver.CopyReceiver, shared.view.Taken.Taken}
 use Rattle.ring_board.specs.declared.fault.Lapped.{Lapped}
-use Rattle.ring_board.specs.declared.shared.view.Taken.{Taken}
 use Rattle.ring_board.specs.Board.{copied, lapped_count_of, new_copy, CopiesNext}
-use Rattle.ring_uses.specs.Laps.{messages_of, AreWithin}
-use Rattle.ring_uses.specs.Numbers.{number_of, sum_of}
+use Rattle.ring_uses.specs.{Laps.messages_of, Laps.AreWithin, Numbers.number_of, Numbers.sum_of}
 use Rattle.ring_uses.proofs.SumLemmas.{sum_more}
 
 within_at : (old new : CopyReceiver) → copied new ≡ copied old → lapped_count_of old ≤ lapped_count_of new

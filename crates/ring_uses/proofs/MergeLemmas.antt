@@ -1,17 +1,13 @@
 -- Messages of several producers in one list.
-use Rattle.std.proofs.Common.{◌≡◌, ◌∙◌, ◌+◌, ◌*◌, ◌≤◌, ℕ, ℤ, zero, suc, pos, Bool, true, false, cond, List, [], ◌∷◌, ◌++◌, length, length-append, refl, sym, ap, arith, inl, inr, filter}
+use Rattle.std.proofs.Common.{◌≡◌, ◌∙◌, ◌+◌, ◌*◌, ◌≤◌, ℕ, ℤ, zero, suc, pos, Bool, true, false, cond, List, [], ◌∷◌, ◌++◌, length, length-append, refl, sym, ap, arith, inl, inr, filter, int_eq}
 use Rattle.std.proofs.lemmas.List.Elements.{filter-append}
-use Rattle.std.specs.Ordering.{int_eq}
 use Rattle.ring_layout.specs.declared.message.Message.{Message}
 use Rattle.ring_rings.specs.Ring.{AreMerged}
-use Rattle.ring_ends.specs.End.{received, sent, End}
-use Rattle.ring_ends.specs.Ending.{Last}
-use Rattle.ring_uses.specs.declared.numbers.Summed.{Summed}
+use Rattle.ring_ends.specs.{End.received, End.sent, End.End, Ending.Last}
+use Rattle.ring_uses.specs.{declared.numbers.Summed.Summed, Numbers.numbered, Numbers.numbers, Numbers.sum_of}
 use Rattle.ring_uses.specs.Closing.{IsClosedWith}
-use Rattle.ring_uses.specs.Numbers.{numbered, numbers, sum_of}
 use Rattle.ring_uses.specs.Producers.{of_type, AreInOrder, AreOfFour, AreOfTwo}
-use Rattle.ring_uses.proofs.ClosedLemmas.{whole_in}
-use Rattle.ring_uses.proofs.SumLemmas.{length-numbers, none_unread}
+use Rattle.ring_uses.proofs.{ClosedLemmas.whole_in, SumLemmas.length-numbers, SumLemmas.none_unread}
 
 length-merged : (xs ys zs : List Message) → AreMerged xs ys zs → length zs ≡ length xs + length ys
 length-merged xs ys [] h = let a = ap length h.0 in let b = ap length h.1 in omega (arith, a, b)

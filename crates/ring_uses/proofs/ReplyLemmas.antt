@@ -1,19 +1,13 @@
 -- One request, and its reply.
 use Rattle.std.proofs.Common.{◌≡◌, ◌∙◌, ℕ, zero, suc, List, [], ◌∷◌, ◌++◌, length, sym, ap, arith}
-use mathlib.Core.Option.{some, some-injective, some-ne-none}
-use lib.ListN.{get_elem?}
+use Rattle.std.proofs.Math.{Option.some, Option.some-injective, Option.some-ne-none, ListN.get_elem?}
 use Rattle.ring_layout.specs.declared.message.Message.{Message}
 use Rattle.ring_board.specs.declared.board.CopyReceiver.{CopyReceiver}
-use Rattle.ring_board.specs.declared.shared.view.Record.{Record}
-use Rattle.ring_board.specs.declared.shared.view.Taken.{Taken}
+use Rattle.ring_board.specs.{declared.shared.view.Record.Record, declared.shared.view.Taken.Taken, Runs.AreRuns}
 use Rattle.ring_board.specs.Board.{copied, lapped_count_of, new_copy}
-use Rattle.ring_board.specs.Runs.{AreRuns}
-use Rattle.ring_protocol.specs.declared.reply.Reply.{Reply}
-use Rattle.ring_protocol.specs.Reply.{spelling_of, type_id_of}
-use Rattle.ring_service.specs.Account.{messages_in, reply_message}
-use Rattle.ring_service.specs.Service.{CopiesMessage}
-use Rattle.ring_uses.specs.Laps.{messages_of}
-use Rattle.ring_uses.specs.Reply.{replies_to}
+use Rattle.ring_protocol.specs.{declared.reply.Reply.Reply, Reply.spelling_of, Reply.type_id_of}
+use Rattle.ring_service.specs.{Account.messages_in, Account.reply_message, Service.CopiesMessage}
+use Rattle.ring_uses.specs.{Laps.messages_of, Reply.replies_to}
 
 -- a reply that was received is the message of a transmitted record
 pub record IsTransmitted (records : List Record) (m : Message) : Type 0 where

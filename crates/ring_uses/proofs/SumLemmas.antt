@@ -1,18 +1,12 @@
 -- Sums of the numbers in messages.
-use Rattle.std.proofs.Common.{◌≡◌, ◌∙◌, ◌+◌, ◌%◌, ◌^◌, ◌≤◌, ℕ, ℤ, zero, suc, pos, List, [], ◌∷◌, ◌++◌, length, length-append, refl, sym, ap, append_assoc, arith}
-use Rattle.std.proofs.lemmas.List.{append-nil}
+use Rattle.std.proofs.Common.{◌≡◌, ◌∙◌, ◌+◌, ◌%◌, ◌^◌, ◌≤◌, ℕ, ℤ, zero, suc, pos, List, [], ◌∷◌, ◌++◌, length, length-append, refl, sym, ap, append_assoc, arith, append-nil}
 use Rattle.std.proofs.lemmas.List.Sums.{sum_by-append}
-use Rattle.ring_layout.specs.declared.message.Message.{Message}
-use Rattle.ring_layout.specs.Handles.{Handles}
+use Rattle.ring_layout.specs.{declared.message.Message.Message, Handles.Handles}
 use Rattle.ring_words.specs.declared.read.action.Action.{Action}
-use Rattle.ring_ends.specs.End.{received, sent, End}
-use Rattle.ring_ends.specs.Ending.{Last}
-use Rattle.ring_uses.specs.declared.numbers.Sum.{Sum}
-use Rattle.ring_uses.specs.declared.numbers.Summed.{Summed}
-use Rattle.ring_uses.specs.Closing.{IsClosedWith}
+use Rattle.ring_ends.specs.{End.received, End.sent, End.End, Ending.Last}
+use Rattle.ring_uses.specs.{declared.numbers.Sum.Sum, declared.numbers.Summed.Summed, Closing.IsClosedWith}
 use Rattle.ring_uses.specs.Numbers.{number_in, numbered, numbers, sum_of, Adds}
-use Rattle.ring_uses.specs.Sum.{IsSummed}
-use Rattle.ring_uses.proofs.ClosedLemmas.{whole_in}
+use Rattle.ring_uses.{specs.Sum.IsSummed, proofs.ClosedLemmas.whole_in}
 
 pub sum_more : (ms : List Message) (m : Message) → (sum_of ms + number_in m) % 2 ^ 64 ≡ sum_of (ms ++ m ∷ [])
 sum_more ms m = let all = sum_by-append number_in ms (m ∷ []) in omega (arith, all)

@@ -2,8 +2,7 @@
 use Rattle.std.specs.Prelude.{◌≡◌, ℕ, pos, [], ◌∷◌}
 use Rattle.ring_ends.specs.Ending.{Last}
 use Rattle.ring_uses.specs.declared.numbers.Summed.{Summed}
-use Rattle.ring_uses.specs.Closing.{IsWholeIn, received_in, sent_in}
-use Rattle.ring_uses.specs.Numbers.{numbered, sum_of}
+use Rattle.ring_uses.specs.{Closing.IsWholeIn, Closing.received_in, Closing.sent_in, Numbers.numbered, Numbers.sum_of}
 
 -- Exactly the message of this number was sent. The received messages, followed by the unread ones, are this message.
 -- The sum is that of the received messages.

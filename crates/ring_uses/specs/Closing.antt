@@ -2,8 +2,7 @@
 use Rattle.std.specs.Prelude.{◌≡◌, List}
 use Rattle.ring_layout.specs.declared.message.Message.{Message}
 use Rattle.ring_rings.specs.Ring.{IsWhole}
-use Rattle.ring_ends.specs.End.{received, sent, End}
-use Rattle.ring_ends.specs.Ending.{both, Last}
+use Rattle.ring_ends.specs.{End.received, End.sent, End.End, Ending.both, Ending.Last}
 use Rattle.ring_uses.specs.declared.closing.Closed.{Closed}
 
 -- the messages that the ring's producers sent

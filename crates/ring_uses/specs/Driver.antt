@@ -1,11 +1,9 @@
 -- The owners of the seats that the threads hold.
 use Rattle.ring_rings.specs.Seats.{IsConsumerOf, IsProducerOf}
 use Rattle.ring_board.specs.Seats.{IsReceiverOf}
-use Rattle.ring_service.specs.declared.conductor.Conductor.{Conductor}
-use Rattle.ring_service.specs.Asking.{producer_of, receiver_of}
+use Rattle.ring_service.specs.{declared.conductor.Conductor.Conductor, Asking.producer_of, Asking.receiver_of}
 use Rattle.ring_service.specs.Conducting.{IsConductorOf}
-use Rattle.ring_uses.specs.declared.driver.client.Caller.{Caller}
-use Rattle.ring_uses.specs.declared.driver.shared.Shared.{Shared}
+use Rattle.ring_uses.specs.declared.driver.{client.Caller.Caller, shared.Shared.Shared}
 
 -- the caller's producer is one of this ring, and its receiver is one of this broadcast buffer
 abbrev pub IsCallerOf : Shared → Caller → Type 0

@@ -1,12 +1,9 @@
 -- A receiver that is lapped.
 use Rattle.std.specs.Prelude.{◌≡◌, ℕ, ◌≤◌, pos, List, map, All}
 use Rattle.ring_layout.specs.declared.message.Message.{Message}
-use Rattle.ring_board.specs.declared.shared.view.Record.{Record}
-use Rattle.ring_board.specs.declared.shared.view.Taken.{Taken}
-use Rattle.ring_board.specs.Board.{copied, lapped_count_of, subscribed_at, transmitted}
-use Rattle.ring_board.specs.Runs.{AreRuns}
-use Rattle.ring_uses.specs.declared.laps.Overtaken.{Overtaken}
-use Rattle.ring_uses.specs.Numbers.{numbers, sum_of}
+use Rattle.ring_board.specs.declared.shared.view.{Record.Record, Taken.Taken}
+use Rattle.ring_board.specs.{Board.copied, Board.lapped_count_of, Board.subscribed_at, Board.transmitted, Runs.AreRuns}
+use Rattle.ring_uses.specs.{declared.laps.Overtaken.Overtaken, Numbers.numbers, Numbers.sum_of}
 
 -- the messages of transmitted records
 abbrev pub messages_in : List Record → List Message

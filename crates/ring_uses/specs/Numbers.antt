@@ -1,6 +1,5 @@
 -- Numbers as messages.
-use Rattle.std.specs.Prelude.{◌≡◌, ℕ, zero, suc, ◌+◌, ◌%◌, ◌^◌, ◌≤◌, ℤ, List, [], ◌∷◌, ◌++◌, length, take, if◌then◌else◌, nat_lt}
-use Rattle.std.specs.List.{sum_by}
+use Rattle.std.specs.Prelude.{◌≡◌, ℕ, zero, suc, ◌+◌, ◌%◌, ◌^◌, ◌≤◌, ℤ, List, [], ◌∷◌, ◌++◌, length, take, if◌then◌else◌, nat_lt, sum_by}
 use Rattle.std.specs.Int.{from_le_bytes, to_le_bytes, w64}
 use Rattle.ring_layout.specs.declared.message.Message.{Message}
 use Rattle.ring_words.specs.declared.read.action.Action.{Action}

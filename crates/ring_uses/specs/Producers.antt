@@ -5,8 +5,7 @@ use Rattle.ring_layout.specs.declared.message.Message.{Message}
 use Rattle.ring_rings.specs.Ring.{AreMerged}
 use Rattle.ring_ends.specs.Ending.{Last}
 use Rattle.ring_uses.specs.declared.numbers.Summed.{Summed}
-use Rattle.ring_uses.specs.Closing.{IsWholeIn, received_in, sent_in}
-use Rattle.ring_uses.specs.Numbers.{numbers, sum_of}
+use Rattle.ring_uses.specs.{Closing.IsWholeIn, Closing.received_in, Closing.sent_in, Numbers.numbers, Numbers.sum_of}
 
 -- the messages of this type id, in their order
 abbrev pub of_type : ℤ → List Message → List Message

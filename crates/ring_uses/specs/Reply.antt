@@ -2,18 +2,11 @@
 use Rattle.std.specs.Prelude.{◌≡◌, ℕ, pos, List, [], ◌∷◌, codes}
 use Rattle.ring_layout.specs.declared.message.Message.{Message}
 use Rattle.ring_board.specs.Board.{copied}
-use Rattle.ring_rings.specs.Reading.{messages_of}
-use Rattle.ring_rings.specs.Ring.{IsWhole, sent}
-use Rattle.ring_protocol.specs.declared.command.Request.TheVariants.{Allocate}
-use Rattle.ring_protocol.specs.Command.{with_id}
-use Rattle.ring_protocol.specs.Reply.{correlation_id_of}
+use Rattle.ring_rings.specs.{Reading.messages_of, Ring.IsWhole, Ring.sent}
+use Rattle.ring_protocol.specs.{declared.command.Request.TheVariants.Allocate, Command.with_id, Reply.correlation_id_of}
 use Rattle.ring_service.specs.Account.{account_of, fresh_account, messages_in, reply_message}
-use Rattle.ring_service.specs.Conducting.{received_of}
-use Rattle.ring_service.specs.Finishing.{replies_of}
-use Rattle.ring_service.specs.Fold.{at_moment}
-use Rattle.ring_service.specs.Service.{command_message}
-use Rattle.ring_uses.specs.declared.reply.Answer.{Answer}
-use Rattle.ring_uses.specs.Laps.{messages_of as copied_messages}
+use Rattle.ring_service.specs.{Conducting.received_of, Finishing.replies_of, Fold.at_moment, Service.command_message}
+use Rattle.ring_uses.specs.{declared.reply.Answer.Answer, Laps.messages_of as copied_messages}
 
 -- the command that asks for a counter of type 1, with an empty key and the label `requests`
 abbrev pub request_with : ℕ → Message

@@ -2,8 +2,7 @@
 use Rattle.std.specs.Prelude.{◌≡◌, ℕ, pos}
 use Rattle.ring_ends.specs.Ending.{Last}
 use Rattle.ring_uses.specs.declared.numbers.Summed.{Summed}
-use Rattle.ring_uses.specs.Closing.{IsWholeIn, received_in, sent_in}
-use Rattle.ring_uses.specs.Numbers.{numbers, sum_of}
+use Rattle.ring_uses.specs.{Closing.IsWholeIn, Closing.received_in, Closing.sent_in, Numbers.numbers, Numbers.sum_of}
 
 -- The numbers from 1 to `last` were sent, and all of them were received, in order. The sum is that of the received
 -- numbers.

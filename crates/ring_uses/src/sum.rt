@@ -1,8 +1,7 @@
 //! One thread writes the numbers from 1 on into a ring. Another thread reads them and adds them up.
 ghost use Rattle.std.specs.Prelude.{◌≡◌, ◌≤◌, pos, [], length, IfOk};
 ghost use Rattle.ring_ends.specs.End.{received, sent, AreOfOneRing};
-ghost use Rattle.ring_uses.specs.Numbers.{sum_of, AreUpTo};
-ghost use Rattle.ring_uses.specs.Sum.{IsSummed};
+ghost use Rattle.ring_uses.specs.{Numbers.sum_of, Numbers.AreUpTo, Sum.IsSummed};
 
 use crate::closing::close;
 use crate::numbers::{Sum, Summed, read_numbers};

@@ -1,25 +1,16 @@
 -- An admitted claim is stored after the tail: the headers, then the body, then the tail.
-use Rattle.std.proofs.Common.{◌≡◌, ◌≢◌, ℕ, ◌+◌, ◌-◌, ◌*◌, ◌/◌, ◌%◌, ◌<◌, ◌≤◌, List, [], length, drop, slice_index, slice_set, replicate, refl, ap, sym, ◌∙◌, arith, inl, inr, get_or-set_other, ℤ, pos, ◌≤ℤ◌, ◌^◌, FitsSigned, to_z, of_z}
-use Rattle.std.specs.Int.{from_le_bytes, w32, w64}
-use Rattle.std.proofs.lemmas.Int.{to_z-of_z}
-use Rattle.std.proofs.lemmas.List.Elements.{All-from_get_or}
-use Rattle.std.proofs.lemmas.Bool.{cases_lt, lt-ltb, le-ltb, cond-true, cond-false}
-use Rattle.std.proofs.lemmas.List.{get_or-drop, get_or-replicate, get_or_past, length-replicate}
-use Rattle.std.proofs.lemmas.Nat.{mod_below}
-use Rattle.ring_layout.specs.declared.message.Claim.{Claim}
-use Rattle.ring_layout.specs.History.{IsMessage, span, span_of}
-use Rattle.ring_layout.specs.Places.{index, next_place}
-use Rattle.ring_layout.specs.Headers.{header_of, open_header, padding_header}
-use Rattle.ring_layout.specs.Layout.{tail_index}
-use Rattle.ring_layout.proofs.CapacityLemmas.{capacity_blocks}
-use Rattle.ring_layout.proofs.Laps.{index_step, apart}
+use Rattle.std.proofs.Common.{◌≡◌, ◌≢◌, ℕ, ◌+◌, ◌-◌, ◌*◌, ◌/◌, ◌%◌, ◌<◌, ◌≤◌, List, [], length, drop, slice_index, slice_set, replicate, refl, ap, sym, ◌∙◌, arith, inl, inr, get_or-set_other, ℤ, pos, ◌≤ℤ◌, ◌^◌, FitsSigned, to_z, of_z, w32, w64, lt-ltb, le-ltb, get_or-drop}
+use Rattle.std.specs.Int.{from_le_bytes}
+use Rattle.std.proofs.lemmas.{Int.to_z-of_z, Bool.cases_lt, Bool.cond-true, Bool.cond-false, Nat.mod_below}
+use Rattle.std.proofs.lemmas.List.{Elements.All-from_get_or, get_or-replicate, get_or_past, length-replicate}
+use Rattle.ring_layout.{specs.declared.message.Claim.Claim, proofs.Laps.index_step, proofs.Laps.apart}
+use Rattle.ring_layout.specs.{History.IsMessage, History.span, History.span_of, Places.index, Places.next_place}
+use Rattle.ring_layout.specs.{Headers.header_of, Headers.open_header, Headers.padding_header, Layout.tail_index}
+use Rattle.ring_layout.proofs.{CapacityLemmas.capacity_blocks, WordBytes.from_le_bytes-same}
 use Rattle.ring_layout.proofs.PlaceLemmas.{next_le, next_within, next_aligned, span_bounds}
-use Rattle.ring_layout.proofs.WordBytes.{from_le_bytes-same}
 use Rattle.ring_words.specs.Ring.{Ring, ring, IsRing, tail_of}
-use Rattle.ring_words.specs.Change.{AppendsClaim, opened, written}
-use Rattle.ring_words.specs.Storing.{IsAdmitted, padded}
-use Rattle.ring_words.proofs.ClaimLemmas.{appended, tail_aligned, free_of}
-use Rattle.ring_words.proofs.StoreLemmas.{stores}
+use Rattle.ring_words.specs.{Change.AppendsClaim, Change.opened, Change.written, Storing.IsAdmitted, Storing.padded}
+use Rattle.ring_words.proofs.{ClaimLemmas.appended, ClaimLemmas.tail_aligned, ClaimLemmas.free_of, StoreLemmas.stores}
 
 -- an admitted claim is not before the tail
 pub tail_first : (r : Ring) (tail len place end : ℕ) → tail ≡ tail_of r → IsAdmitted r len place end → tail ≤ place

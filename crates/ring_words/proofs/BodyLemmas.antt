@@ -1,20 +1,13 @@
 -- The body of the record at the head, from the words.
-use Rattle.std.proofs.Common.{◌≡◌, ℕ, ◌+◌, ◌-◌, ◌*◌, ◌/◌, ◌%◌, ◌^◌, ◌<◌, ◌≤◌, List, ◌∷◌, length, drop, slice_index, ap, sym, ◌∙◌, arith, inl, inr, ℤ}
-use Rattle.std.specs.Int.{from_le_bytes, to_le_bytes, w64}
-use Rattle.std.proofs.lemmas.Bool.{cases_lt, ne_eqb, cond-false}
-use Rattle.std.proofs.lemmas.List.{ext_get_or, get_or-drop, get_or_past}
-use Rattle.std.proofs.lemmas.List.Elements.{All-head, All-get_or}
-use Rattle.ring_layout.specs.declared.message.Claim.{Claim}
-use Rattle.ring_layout.specs.declared.message.Message.{Message}
-use Rattle.ring_layout.specs.History.{IsMessage, overwritten, span_of}
-use Rattle.ring_layout.specs.Places.{next_place}
-use Rattle.ring_layout.specs.Picture.{claim_word}
-use Rattle.ring_words.specs.Ring.{Ring, Has, IsRing, head_of}
-use Rattle.ring_words.specs.Reading.{IsAtHead}
-use Rattle.ring_layout.proofs.Laps.{index_step}
-use Rattle.ring_layout.proofs.CapacityLemmas.{capacity_blocks}
-use Rattle.ring_layout.proofs.PlaceLemmas.{next_within, span_bounds}
-use Rattle.ring_layout.proofs.PictureLemmas.{word_at_record}
+use Rattle.std.proofs.Common.{◌≡◌, ℕ, ◌+◌, ◌-◌, ◌*◌, ◌/◌, ◌%◌, ◌^◌, ◌<◌, ◌≤◌, List, ◌∷◌, length, drop, slice_index, ap, sym, ◌∙◌, arith, inl, inr, ℤ, w64, ne_eqb, ext_get_or, get_or-drop}
+use Rattle.std.specs.Int.{from_le_bytes, to_le_bytes}
+use Rattle.std.proofs.lemmas.Bool.{cases_lt, cond-false}
+use Rattle.std.proofs.lemmas.List.{get_or_past, Elements.All-head, Elements.All-get_or}
+use Rattle.ring_layout.specs.{declared.message.Claim.Claim, declared.message.Message.Message, Picture.claim_word}
+use Rattle.ring_layout.specs.{History.IsMessage, History.overwritten, History.span_of, Places.next_place}
+use Rattle.ring_words.specs.{Ring.Ring, Ring.Has, Ring.IsRing, Ring.head_of, Reading.IsAtHead}
+use Rattle.ring_layout.proofs.{Laps.index_step, PictureLemmas.word_at_record}
+use Rattle.ring_layout.proofs.{CapacityLemmas.capacity_blocks, PlaceLemmas.next_within, PlaceLemmas.span_bounds}
 use Rattle.ring_layout.proofs.WordBytes.{byte_of_bytes, byte_of_word, length-overwritten, overwritten_before, overwritten_inside}
 
 -- the first n bytes are those of the words from `at` on

@@ -1,21 +1,12 @@
 -- A claim at the end of a ring's history.
-use Rattle.std.proofs.Common.{◌≡◌, ◌≢◌, ℕ, ◌+◌, ◌/◌, ◌%◌, ◌<◌, ◌≤◌, List, [], ◌∷◌, ◌++◌, length, slice_index, slice_set, refl, ap, sym, ◌∙◌, subst, arith, inl, inr, get_or-set_other, get_or-set_same}
-use Rattle.std.proofs.lemmas.Bool.{cases_lt}
-use Rattle.std.proofs.lemmas.List.{length-set}
-use Rattle.std.proofs.lemmas.List.Elements.{All-push}
-use Rattle.std.proofs.lemmas.Nat.{mod_below}
-use Rattle.ring_layout.specs.declared.message.Claim.{Claim}
-use Rattle.ring_layout.specs.History.{IsMessage, span_of}
-use Rattle.ring_layout.specs.Places.{end_after, end_of}
-use Rattle.ring_layout.specs.Picture.{word_at, IsPicture}
+use Rattle.std.proofs.Common.{◌≡◌, ◌≢◌, ℕ, ◌+◌, ◌/◌, ◌%◌, ◌<◌, ◌≤◌, List, [], ◌∷◌, ◌++◌, length, slice_index, slice_set, refl, ap, sym, ◌∙◌, subst, arith, inl, inr, get_or-set_other, get_or-set_same, length-set}
+use Rattle.std.proofs.lemmas.{Bool.cases_lt, List.Elements.All-push, Nat.mod_below}
+use Rattle.ring_layout.{specs.declared.message.Claim.Claim, proofs.CapacityLemmas.capacity_blocks}
+use Rattle.ring_layout.specs.{History.IsMessage, History.span_of, Places.end_after, Places.end_of, Places.max_position}
+use Rattle.ring_layout.specs.{Picture.word_at, Picture.IsPicture, Layout.head_index, Layout.tail_index}
 use Rattle.ring_words.specs.Ring.{Ring, ring, Has, IsRing, head_of, tail_of}
-use Rattle.ring_layout.specs.Layout.{head_index, tail_index}
-use Rattle.ring_layout.specs.Places.{max_position}
-use Rattle.ring_words.specs.Change.{AppendsClaim}
-use Rattle.ring_words.specs.Storing.{Stores, IsAdmitted}
-use Rattle.ring_layout.proofs.Laps.{apart}
-use Rattle.ring_layout.proofs.CapacityLemmas.{capacity_blocks}
-use Rattle.ring_layout.proofs.PlaceLemmas.{next_le, end_of-append, end_of_aligned}
+use Rattle.ring_words.specs.{Change.AppendsClaim, Storing.Stores, Storing.IsAdmitted}
+use Rattle.ring_layout.proofs.{Laps.apart, PlaceLemmas.next_le, PlaceLemmas.end_of-append, PlaceLemmas.end_of_aligned}
 use Rattle.ring_layout.proofs.PictureLemmas.{word_at_past, word_at-append_before, word_at-append_after}
 
 -- the words below C / 8 of a ring after its tail are 0

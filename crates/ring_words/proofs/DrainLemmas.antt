@@ -1,27 +1,17 @@
 -- A read over the end of the buffer drains a ring: it stops when no settled record is at the head.
-use Rattle.std.proofs.Common.{◌≡◌, ◌≢◌, ℕ, ◌+◌, ◌-◌, ◌*◌, ◌%◌, ◌^◌, ◌<◌, ◌≤◌, ◌⊎◌, ◌&&◌, ◌==◌, nat_lt, if◌then◌else◌, slice_index, List, [], ◌∷◌, ◌++◌, length, refl, ap, sym, ◌∙◌, subst, arith, inl, inr}
-use Rattle.std.proofs.lemmas.Bool.{and_parts, cases_Bool, cases_lt, cond-true, cond-false, eqb-true, ltb-true, ne_eqb}
-use Rattle.std.proofs.lemmas.List.{append-nil, append_assoc, length-append}
+use Rattle.std.proofs.Common.{◌≡◌, ◌≢◌, ℕ, ◌+◌, ◌-◌, ◌*◌, ◌%◌, ◌^◌, ◌<◌, ◌≤◌, ◌⊎◌, ◌&&◌, ◌==◌, nat_lt, if◌then◌else◌, slice_index, List, [], ◌∷◌, ◌++◌, length, refl, ap, sym, ◌∙◌, subst, arith, inl, inr, eqb-true, ltb-true, ne_eqb, append-nil, append_assoc, length-append}
+use Rattle.std.proofs.lemmas.Bool.{and_parts, cases_Bool, cases_lt, cond-true, cond-false}
 use Rattle.std.proofs.lemmas.List.Elements.{All-append, All-head, All-tail}
-use Rattle.ring_layout.specs.declared.message.Claim.{Claim}
-use Rattle.ring_layout.specs.declared.message.Message.{Message}
-use Rattle.ring_layout.specs.declared.message.ClaimState.TheVariants.{Open}
-use Rattle.ring_layout.specs.History.{committed_of, shown, span_of}
+use Rattle.ring_layout.specs.declared.message.{Claim.Claim, Message.Message, ClaimState.TheVariants.Open}
+use Rattle.ring_layout.specs.{History.committed_of, History.shown, History.span_of, Places.end_after, Places.end_of}
 use Rattle.ring_layout.specs.Layout.{tail_index}
-use Rattle.ring_layout.specs.Places.{end_after, end_of}
-use Rattle.ring_layout.proofs.Laps.{mod_step}
-use Rattle.ring_layout.proofs.PlaceLemmas.{end_of_le, next_le, span_bounds}
-use Rattle.ring_words.specs.declared.read.action.Action.{Action}
-use Rattle.ring_words.specs.declared.read.end.ReadEnd.{ReadEnd}
-use Rattle.ring_words.specs.declared.read.end.Stop.{Stop}
-use Rattle.ring_words.specs.declared.read.end.Stop.TheVariants.{Limit, Block, Unpublished}
-use Rattle.ring_words.specs.Across.{ReadsAcross, ReadsOnce, ReadsTwice}
-use Rattle.ring_words.specs.Drain.{AllSettled, Drains}
-use Rattle.ring_words.specs.Read.{ReadsTo, stop_of}
+use Rattle.ring_layout.proofs.{Laps.mod_step, PlaceLemmas.end_of_le, PlaceLemmas.next_le, PlaceLemmas.span_bounds}
+use Rattle.ring_words.specs.declared.read.{action.Action.Action, end.ReadEnd.ReadEnd}
+use Rattle.ring_words.specs.declared.read.end.Stop.{Stop, TheVariants.Limit, TheVariants.Block, TheVariants.Unpublished}
+use Rattle.ring_words.specs.{Across.ReadsAcross, Across.ReadsOnce, Across.ReadsTwice, Drain.AllSettled, Drain.Drains}
+use Rattle.ring_words.specs.{Read.ReadsTo, Read.stop_of, Ring.Has, Ring.IsRing, Ring.Ring, Ring.head_of, Ring.tail_of}
 use Rattle.ring_words.specs.Reading.{IsBlocked, MovesHead}
-use Rattle.ring_words.specs.Ring.{Has, IsRing, Ring, head_of, tail_of}
-use Rattle.ring_words.proofs.HeadLemmas.{state_cases}
-use Rattle.ring_words.proofs.ReadLemmas.{committed_of-append}
+use Rattle.ring_words.proofs.{HeadLemmas.state_cases, ReadLemmas.committed_of-append}
 
 -- The number of messages that a ring shows ---------------------------------------
 

@@ -1,18 +1,11 @@
 -- A fresh ring is a ring with no claim.
-use Rattle.std.proofs.Common.{◌≡◌, ℕ, ◌+◌, ◌/◌, ◌%◌, ◌<◌, ◌≤◌, [], length, slice_index, slice_set, replicate, ap, sym, ◌∙◌, arith, get_or-set_other, get_or-set_same}
-use Rattle.std.proofs.lemmas.List.{length-set, length-replicate, get_or-replicate}
-use Rattle.std.proofs.lemmas.List.Elements.{All-nil}
-use Rattle.std.proofs.lemmas.Nat.{mod_below}
-use Rattle.std.proofs.lemmas.Nat.Gcd.{dvd_of_mod-eq-zero}
-use Rattle.std.proofs.Math.Nat.{mod-mod_of_dvd}
-use Rattle.ring_layout.specs.declared.message.Claim.{Claim}
-use Rattle.ring_layout.specs.History.{IsMessage}
-use Rattle.ring_words.specs.Ring.{IsRing, Has, head_of, tail_of}
-use Rattle.ring_layout.specs.Places.{IsCapacity, max_position}
-use Rattle.ring_layout.specs.Layout.{tail_index, head_cache_index, head_index}
-use Rattle.ring_words.specs.Fresh.{fresh}
-use Rattle.ring_layout.proofs.CapacityLemmas.{capacity_blocks}
-use Rattle.ring_layout.proofs.PictureLemmas.{word_at_none}
+use Rattle.std.proofs.Common.{◌≡◌, ℕ, ◌+◌, ◌/◌, ◌%◌, ◌<◌, ◌≤◌, [], length, slice_index, slice_set, replicate, ap, sym, ◌∙◌, arith, get_or-set_other, get_or-set_same, length-set}
+use Rattle.std.proofs.lemmas.List.{length-replicate, get_or-replicate, Elements.All-nil}
+use Rattle.std.proofs.{lemmas.Nat.mod_below, lemmas.Nat.Gcd.dvd_of_mod-eq-zero, Math.Nat.mod-mod_of_dvd}
+use Rattle.ring_layout.specs.{declared.message.Claim.Claim, Places.IsCapacity, Places.max_position}
+use Rattle.ring_layout.specs.{History.IsMessage, Layout.tail_index, Layout.head_cache_index, Layout.head_index}
+use Rattle.ring_words.specs.{Ring.IsRing, Ring.Has, Ring.head_of, Ring.tail_of, Fresh.fresh}
+use Rattle.ring_layout.proofs.{CapacityLemmas.capacity_blocks, PictureLemmas.word_at_none}
 
 module _ (C start : ℕ) (lawful : IsCapacity C) (lap : start % C ≡ 0) (limit : start ≤ max_position) where
   len0 : length {A = ℕ} (replicate (C / 8 + 96) 0) ≡ C / 8 + 96

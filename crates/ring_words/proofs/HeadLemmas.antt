@@ -1,16 +1,11 @@
 -- What the header at the head says.
-use Rattle.std.proofs.Common.{◌≡◌, ℕ, ◌+◌, ◌-◌, ◌/◌, ◌%◌, ◌^◌, ◌<◌, List, [], ◌∷◌, length, slice_index, refl, ap, ◌∙◌, arith, ◌⊎◌, inl, inr, ℤ, pos, neg_ℤ, FitsSigned, ◌<ℤ◌, ◌≤ℤ◌, Some, nat_abs, true, false}
+use Rattle.std.proofs.Common.{◌≡◌, ℕ, ◌+◌, ◌-◌, ◌/◌, ◌%◌, ◌^◌, ◌<◌, List, [], ◌∷◌, length, slice_index, refl, ap, ◌∙◌, arith, ◌⊎◌, inl, inr, ℤ, pos, neg_ℤ, FitsSigned, ◌<ℤ◌, ◌≤ℤ◌, Some, nat_abs, true, false, w32}
 use lib.Signed.{lt_z}
-use Rattle.std.proofs.lemmas.Int.{ints}
-use Rattle.std.specs.Int.{cast_signed, w32}
-use Rattle.std.proofs.lemmas.Bool.{cases_lt}
-use Rattle.std.proofs.lemmas.List.Elements.{All-head}
-use Rattle.ring_layout.specs.declared.message.Claim.{Claim}
-use Rattle.ring_layout.specs.declared.message.ClaimState.{ClaimState}
+use Rattle.std.proofs.lemmas.{Int.ints, Bool.cases_lt, List.Elements.All-head}
+use Rattle.std.specs.Int.{cast_signed}
+use Rattle.ring_layout.specs.{declared.message.Claim.Claim, declared.message.ClaimState.ClaimState, Places.next_place}
 use Rattle.ring_layout.specs.declared.message.ClaimState.TheVariants.{Open, Committed, Aborted}
-use Rattle.ring_layout.specs.History.{IsMessage, span_of}
-use Rattle.ring_layout.specs.Places.{next_place}
-use Rattle.ring_layout.specs.Picture.{word_at, claim_word}
+use Rattle.ring_layout.specs.{History.IsMessage, History.span_of, Picture.word_at, Picture.claim_word}
 use Rattle.ring_layout.specs.Headers.{header, header_of, padding_type}
 use Rattle.ring_words.specs.Ring.{Ring, Has, IsRing, head_of}
 use Rattle.ring_layout.proofs.PlaceLemmas.{next_le, next_cases, span_bounds}

@@ -1,11 +1,8 @@
 -- A read that heeds the handler's actions, and one that takes each as Continue.
 use Rattle.std.proofs.Common.{◌≡◌, ◌⊎◌, ℕ, List, [], ◌∷◌, ◌++◌, true, false, sym, ◌∙◌, subst, inl, inr, All}
-use Rattle.ring_layout.specs.declared.message.Message.{Message}
-use Rattle.ring_layout.specs.Handles.{Handles}
-use Rattle.ring_words.specs.declared.read.action.Action.{Action}
+use Rattle.ring_layout.specs.{declared.message.Message.Message, Handles.Handles}
+use Rattle.ring_words.specs.declared.read.{action.Action.Action, end.ReadEnd.ReadEnd, end.Stop.Stop}
 use Rattle.ring_words.specs.declared.read.action.Action.TheVariants.{Abort, Break, Continue}
-use Rattle.ring_words.specs.declared.read.end.ReadEnd.{ReadEnd}
-use Rattle.ring_words.specs.declared.read.end.Stop.{Stop}
 use Rattle.ring_words.specs.Controlled.{BrokenOff, CutShort, GoesOn, LetOn, heeded}
 
 module _ {S : Type 0} (step : S → Message → S → Action → Type 0) where

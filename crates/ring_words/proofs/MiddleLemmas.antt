@@ -1,25 +1,20 @@
 -- One claim of a history is replaced by one of the same span.
-use Rattle.std.proofs.Common.{◌≡◌, ℕ, ◌+◌, ◌-◌, ◌*◌, ◌/◌, ◌%◌, ◌<◌, ◌≤◌, List, [], ◌∷◌, ◌++◌, length, drop, slice_index, ap, sym, ◌∙◌, subst, arith, ◌⊎◌, inl, inr, pos, All, refl}
-use Rattle.std.proofs.lemmas.Bool.{cases_lt, cases_eq, ne_eqb, cond-false}
+use Rattle.std.proofs.Common.{◌≡◌, ℕ, ◌+◌, ◌-◌, ◌*◌, ◌/◌, ◌%◌, ◌<◌, ◌≤◌, List, [], ◌∷◌, ◌++◌, length, drop, slice_index, ap, sym, ◌∙◌, subst, arith, ◌⊎◌, inl, inr, pos, All, refl, ne_eqb, w64}
+use Rattle.std.proofs.lemmas.Bool.{cases_lt, cases_eq, cond-false}
 use Rattle.std.proofs.lemmas.List.Elements.{All-append, All-cons, All-tail, All-head, All-nil}
 use Rattle.ring_words.specs.Ring.{Ring, ring, Has, IsRing, head_of, tail_of}
 use Rattle.ring_words.specs.Open.{ClaimAt, IsOpen, IsOpenClaim, IsOpenIn}
 use Rattle.ring_words.specs.Change.{ChangesClaim, changed_at}
-use Rattle.ring_layout.specs.Bytes.{HoldsBytes}
+use Rattle.ring_layout.specs.{Bytes.HoldsBytes, Headers.header, Headers.header_of, Headers.padding_type}
 use Rattle.ring_words.proofs.OpenLemmas.{Stands, open_stands, open_replaced, changed_at_there}
-use Rattle.ring_words.proofs.UniqueLemmas.{open_in_each}
-use Rattle.ring_words.proofs.StoreLemmas.{record_inside}
-use Rattle.std.specs.Int.{from_le_bytes, w64}
-use Rattle.ring_layout.specs.Layout.{head_index, tail_index}
-use Rattle.ring_layout.specs.declared.message.Claim.{Claim}
-use Rattle.ring_layout.specs.declared.message.ClaimState.TheVariants.{Open}
-use Rattle.ring_layout.specs.History.{IsMessage, span, span_of}
+use Rattle.ring_words.proofs.{UniqueLemmas.open_in_each, StoreLemmas.record_inside}
+use Rattle.std.specs.Int.{from_le_bytes}
+use Rattle.ring_layout.specs.{Layout.head_index, Layout.tail_index, History.IsMessage, History.span, History.span_of}
+use Rattle.ring_layout.specs.declared.message.{Claim.Claim, ClaimState.TheVariants.Open}
 use Rattle.ring_layout.specs.Places.{index, next_place, place_behind, end_after, end_of}
 use Rattle.ring_layout.specs.Picture.{word_at, claim_word, IsPicture}
-use Rattle.ring_layout.specs.Headers.{header, header_of, padding_type}
 use Rattle.ring_layout.proofs.PlaceLemmas.{next_le, next_within, next_aligned, end_of-append, end_of_le, end_of_aligned, span_bounds}
-use Rattle.ring_layout.proofs.CapacityLemmas.{capacity_blocks}
-use Rattle.ring_layout.proofs.Laps.{index_step, index_outside}
+use Rattle.ring_layout.proofs.{CapacityLemmas.capacity_blocks, Laps.index_step, Laps.index_outside}
 use Rattle.ring_layout.proofs.PictureLemmas.{word_at-append_before, word_at-append_after, word_at_padding, word_at_padding_header, word_at_record, word_at_rest}
 
 module _ (C e : ℕ) (front back : List Claim) (c d : Claim) (same : span_of c ≡ span_of d) where

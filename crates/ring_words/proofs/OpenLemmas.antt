@@ -1,17 +1,14 @@
 -- Open claims of a history: where they are, and what they keep when the history changes.
-use Rattle.std.proofs.Common.{◌≡◌, ◌≢◌, ℕ, ℤ, ◌+◌, ◌%◌, ◌<◌, ◌≤◌, List, [], ◌∷◌, ◌++◌, length, replicate, refl, ap, sym, ◌∙◌, subst, arith, inl, inr, All, ◌==◌}
-use Rattle.std.proofs.lemmas.Bool.{eq-eqb, ne_eqb, cond-true, cond-false}
-use Rattle.std.proofs.lemmas.List.{length-replicate}
-use Rattle.std.proofs.lemmas.List.Elements.{All-head, All-tail}
-use Rattle.ring_layout.specs.declared.message.Claim.{Claim}
-use Rattle.ring_layout.specs.declared.message.ClaimState.TheVariants.{Open}
+use Rattle.std.proofs.Common.{◌≡◌, ◌≢◌, ℕ, ℤ, ◌+◌, ◌%◌, ◌<◌, ◌≤◌, List, [], ◌∷◌, ◌++◌, length, replicate, refl, ap, sym, ◌∙◌, subst, arith, inl, inr, All, ◌==◌, eq-eqb, ne_eqb}
+use Rattle.std.proofs.lemmas.Bool.{cond-true, cond-false}
+use Rattle.std.proofs.lemmas.List.{length-replicate, Elements.All-head, Elements.All-tail}
+use Rattle.ring_layout.specs.declared.message.{Claim.Claim, ClaimState.TheVariants.Open}
 use Rattle.ring_layout.specs.History.{span, span_of}
 use Rattle.ring_layout.specs.Places.{next_place, place_behind, end_after, end_of}
 use Rattle.ring_layout.proofs.PlaceLemmas.{next_le, next_fixed, span_bounds, end_of_le}
 use Rattle.ring_words.specs.Ring.{Ring, IsRing, head_of, tail_of}
 use Rattle.ring_words.specs.Open.{ClaimAt, IsOpen, IsOpenClaim, IsOpenIn, fresh_claim}
-use Rattle.ring_words.specs.Change.{AppendsClaim, changed_at, opened}
-use Rattle.ring_words.specs.Read.{IsHeadAfter}
+use Rattle.ring_words.specs.{Change.AppendsClaim, Change.changed_at, Change.opened, Read.IsHeadAfter}
 
 -- an open claim is between the start and the end
 pub open_within : (C e : ℕ) (h : List Claim) (t : ClaimAt) → IsOpenIn C e h t

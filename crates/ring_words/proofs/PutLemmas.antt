@@ -1,12 +1,10 @@
 -- Bytes put into a body that is in words.
-use Rattle.std.proofs.Common.{◌≡◌, ◌⊎◌, ℕ, ◌+◌, ◌-◌, ◌*◌, ◌/◌, ◌%◌, ◌<◌, ◌≤◌, List, length, take, drop, slice_index, slice_set, ap, sym, ◌∙◌, subst, arith, inl, inr, All, get_or-set_other, get_or-set_same}
-use Rattle.std.specs.Int.{from_le_bytes, to_le_bytes, w64}
+use Rattle.std.proofs.Common.{◌≡◌, ◌⊎◌, ℕ, ◌+◌, ◌-◌, ◌*◌, ◌/◌, ◌%◌, ◌<◌, ◌≤◌, List, length, take, drop, slice_index, slice_set, ap, sym, ◌∙◌, subst, arith, inl, inr, All, get_or-set_other, get_or-set_same, w64, ext_get_or, get_or-take, length-take-le}
+use Rattle.std.specs.Int.{from_le_bytes, to_le_bytes}
 use Rattle.std.proofs.lemmas.Bool.{cases_lt, cases_eq}
-use Rattle.std.proofs.lemmas.List.{ext_get_or, get_or-take, get_or_past, length-take-le}
-use Rattle.std.proofs.lemmas.List.Elements.{All-get_or, All-from_get_or}
-use Rattle.ring_layout.specs.History.{overwritten}
+use Rattle.std.proofs.lemmas.List.{get_or_past, Elements.All-get_or, Elements.All-from_get_or}
+use Rattle.ring_layout.specs.{History.overwritten, Bytes.HoldsBytes}
 use Rattle.ring_layout.proofs.WordBytes.{length-overwritten, overwritten_before, overwritten_inside, overwritten_behind, overwritten_word, overwritten_word_apart, overwritten_more}
-use Rattle.ring_layout.specs.Bytes.{HoldsBytes}
 
 pub overwritten_small : (at : ℕ) (bs xs : List ℕ) → at + length bs ≤ length xs → All (λ b. b < 256) xs
     → All (λ b. b < 256) bs → All (λ b. b < 256) (overwritten at bs xs)

@@ -1,8 +1,6 @@
 -- What a branch of a read knows by its test.
-use Rattle.std.proofs.Common.{◌≡◌, ◌≢◌, ℕ, ◌-◌, ◌%◌, ◌<◌, ap, sym, ◌∙◌, arith, inl, inr, ℤ, FitsSigned, to_z, of_z, nat_lt, ◌&&◌, ◌==◌, false}
-use Rattle.std.specs.Int.{w32}
-use Rattle.std.proofs.lemmas.Int.{to_z-of_z}
-use Rattle.std.proofs.lemmas.Bool.{and_cases, ltb-false, eqb-false}
+use Rattle.std.proofs.Common.{◌≡◌, ◌≢◌, ℕ, ◌-◌, ◌%◌, ◌<◌, ap, sym, ◌∙◌, arith, inl, inr, ℤ, FitsSigned, to_z, of_z, nat_lt, ◌&&◌, ◌==◌, false, w32, ltb-false}
+use Rattle.std.proofs.lemmas.{Int.to_z-of_z, Bool.and_cases, Bool.eqb-false}
 use Rattle.ring_layout.specs.Headers.{padding_type}
 
 -- what the test for the end of the buffer says

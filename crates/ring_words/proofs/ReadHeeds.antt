@@ -1,12 +1,8 @@
 -- What a read took, by the handler's actions.
 use Rattle.std.proofs.Common.{◌≡◌, ℕ, List, true, false, subst, refl}
-use Rattle.ring_layout.specs.declared.message.Message.{Message}
-use Rattle.ring_layout.specs.Handles.{Handles}
-use Rattle.ring_words.specs.declared.read.action.Action.{Action}
-use Rattle.ring_words.specs.declared.read.end.ReadEnd.{ReadEnd}
-use Rattle.ring_words.specs.Controlled.{heeded}
-use Rattle.ring_words.specs.Read.{Controls, Reads, stop_of}
-use Rattle.ring_words.specs.Ring.{Ring, head_of}
+use Rattle.ring_layout.specs.{declared.message.Message.Message, Handles.Handles}
+use Rattle.ring_words.specs.{declared.read.action.Action.Action, declared.read.end.ReadEnd.ReadEnd, Controlled.heeded}
+use Rattle.ring_words.specs.{Read.Controls, Read.Reads, Read.stop_of, Ring.Ring, Ring.head_of}
 use Rattle.ring_words.proofs.HeedLemmas.{ends_heard, ends_unheard, handles_heard, handles_unheard, no_break}
 
 module _ {S : Type 0} (step : S → Message → S → Action → Type 0) (limit : ℕ) (old new : Ring) (s : S) where

@@ -1,28 +1,17 @@
 -- The turns of a read.
-use Rattle.std.proofs.Common.{◌≡◌, ◌≢◌, ℕ, ◌+◌, ◌-◌, ◌%◌, ◌<◌, ◌≤◌, List, [], ◌∷◌, ◌++◌, length, refl, ap, sym, ◌∙◌, subst, arith, inl, inr, ℤ, pos, ◌≤ℤ◌, All, Some}
-use Rattle.std.proofs.lemmas.Int.{ints}
-use Rattle.std.proofs.lemmas.Bool.{cases_lt}
-use Rattle.std.proofs.lemmas.List.{append-nil, append_assoc, length_push}
+use Rattle.std.proofs.Common.{◌≡◌, ◌≢◌, ℕ, ◌+◌, ◌-◌, ◌%◌, ◌<◌, ◌≤◌, List, [], ◌∷◌, ◌++◌, length, refl, ap, sym, ◌∙◌, subst, arith, inl, inr, ℤ, pos, ◌≤ℤ◌, All, Some, append-nil, append_assoc}
+use Rattle.std.proofs.lemmas.{Int.ints, Bool.cases_lt, List.length_push, Nat.mod_below}
 use Rattle.std.proofs.lemmas.List.Elements.{All-nil, All-push, All-head, All-tail, All-cons}
-use Rattle.std.proofs.lemmas.Nat.{mod_below}
-use Rattle.ring_words.specs.declared.read.action.Action.{Action}
-use Rattle.ring_words.specs.declared.read.head.Settled.{Settled}
-use Rattle.ring_layout.specs.declared.message.Claim.{Claim}
-use Rattle.ring_layout.specs.declared.message.Message.{Message}
+use Rattle.ring_words.specs.declared.read.action.Action.{Action, TheVariants.Abort, TheVariants.Break}
+use Rattle.ring_words.specs.declared.read.{head.Settled.Settled, end.ReadEnd.ReadEnd, end.Stop.Stop}
+use Rattle.ring_layout.specs.declared.message.{Claim.Claim, Message.Message}
 use Rattle.ring_layout.specs.declared.message.ClaimState.TheVariants.{Open, Committed, Aborted}
-use Rattle.ring_layout.specs.History.{IsMessage, shown, committed_of, span_of}
-use Rattle.ring_layout.specs.Places.{room, next_place, end_after, end_of}
-use Rattle.ring_layout.specs.Headers.{padding_type}
-use Rattle.ring_words.specs.Ring.{Ring, Has, IsRing, head_of}
-use Rattle.ring_layout.specs.Handles.{Handles}
+use Rattle.ring_layout.specs.{History.IsMessage, History.shown, History.committed_of, History.span_of, Handles.Handles}
+use Rattle.ring_layout.specs.{Places.room, Places.next_place, Places.end_after, Places.end_of, Headers.padding_type}
+use Rattle.ring_words.specs.{Ring.Ring, Ring.Has, Ring.IsRing, Ring.head_of, Open.ClaimAt, Open.IsOpen, Open.IsOpenIn}
 use Rattle.ring_words.specs.Reading.{Sees, SeesCommitted, IsAtHead, Leaves, MovesHead}
-use Rattle.ring_words.specs.Controlled.{GoesOn}
+use Rattle.ring_words.{specs.Controlled.GoesOn, proofs.OpenLemmas.open_after}
 use Rattle.ring_words.specs.Read.{Reads, Passes, IsHeadAfter, IsTight, IsNext, WentOn, Broke, Aborts, stop_of}
-use Rattle.ring_words.specs.Open.{ClaimAt, IsOpen, IsOpenIn}
-use Rattle.ring_words.specs.declared.read.action.Action.TheVariants.{Abort, Break}
-use Rattle.ring_words.specs.declared.read.end.ReadEnd.{ReadEnd}
-use Rattle.ring_words.specs.declared.read.end.Stop.{Stop}
-use Rattle.ring_words.proofs.OpenLemmas.{open_after}
 use Rattle.ring_layout.proofs.Laps.{mod_step, mod_room}
 use Rattle.ring_layout.proofs.PlaceLemmas.{next_fixed, span_bounds, end_of-append}
 

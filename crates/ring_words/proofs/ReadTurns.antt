@@ -1,18 +1,10 @@
 -- Turns of a controlled read, at a head where a record or padding is.
-use Rattle.std.proofs.Common.{◌≡◌, ◌≢◌, ℕ, ◌+◌, ◌%◌, ◌<◌, ◌≤◌, List, ◌∷◌, ap, sym, ◌∙◌, subst, arith, of_z, Bool, nat_lt, ◌&&◌, ◌==◌, false, Some}
-use Rattle.std.specs.Int.{w32}
-use Rattle.ring_layout.specs.declared.message.Claim.{Claim}
-use Rattle.ring_layout.specs.declared.message.Message.{Message}
-use Rattle.ring_layout.specs.Headers.{padding_type}
-use Rattle.ring_words.specs.declared.read.action.Action.{Action}
-use Rattle.ring_words.specs.declared.read.action.Action.TheVariants.{Abort, Break}
-use Rattle.ring_words.specs.declared.read.end.ReadEnd.{ReadEnd}
-use Rattle.ring_words.specs.declared.read.end.Stop.{Stop}
-use Rattle.ring_words.specs.declared.read.head.Settled.{Settled}
-use Rattle.ring_words.specs.Ring.{Ring, Has, IsRing, head_of}
-use Rattle.ring_words.specs.Reading.{Sees, SeesCommitted, Leaves, MovesHead}
-use Rattle.ring_words.specs.Controlled.{GoesOn}
-use Rattle.ring_words.specs.Read.{Broke, Aborts}
+use Rattle.std.proofs.Common.{◌≡◌, ◌≢◌, ℕ, ◌+◌, ◌%◌, ◌<◌, ◌≤◌, List, ◌∷◌, ap, sym, ◌∙◌, subst, arith, of_z, Bool, nat_lt, ◌&&◌, ◌==◌, false, Some, w32}
+use Rattle.ring_layout.specs.{declared.message.Claim.Claim, declared.message.Message.Message, Headers.padding_type}
+use Rattle.ring_words.specs.declared.read.action.Action.{Action, TheVariants.Abort, TheVariants.Break}
+use Rattle.ring_words.specs.declared.read.{end.ReadEnd.ReadEnd, end.Stop.Stop, head.Settled.Settled}
+use Rattle.ring_words.specs.{Ring.Ring, Ring.Has, Ring.IsRing, Ring.head_of, Read.Broke, Read.Aborts}
+use Rattle.ring_words.specs.{Reading.Sees, Reading.SeesCommitted, Reading.Leaves, Reading.MovesHead, Controlled.GoesOn}
 use Rattle.ring_words.proofs.ReadLemmas.{ReadsOn, aborts, broke, next_is, reads_on_message, reads_on_quiet}
 use Rattle.ring_words.proofs.ReadBranches.{inside_from}
 

@@ -1,11 +1,8 @@
 -- A message is known by its type id and the words of its body.
-use Rattle.std.proofs.Common.{◌≡◌, ℕ, ◌+◌, ◌-◌, ◌*◌, ◌/◌, ◌%◌, ◌^◌, ◌<◌, List, length, drop, slice_index, ap, sym, ◌∙◌, arith, inl, inr, All}
-use Rattle.std.specs.Int.{from_le_bytes, w64}
-use Rattle.std.proofs.lemmas.Bool.{cases_lt}
-use Rattle.std.proofs.lemmas.List.{ext_get_or, get_or-drop, get_or_past}
-use Rattle.std.proofs.lemmas.List.Elements.{All-get_or}
-use Rattle.ring_layout.specs.declared.message.Message.{Message}
-use Rattle.ring_layout.proofs.WordBytes.{byte_of_word}
+use Rattle.std.proofs.Common.{◌≡◌, ℕ, ◌+◌, ◌-◌, ◌*◌, ◌/◌, ◌%◌, ◌^◌, ◌<◌, List, length, drop, slice_index, ap, sym, ◌∙◌, arith, inl, inr, All, w64, ext_get_or, get_or-drop}
+use Rattle.std.specs.Int.{from_le_bytes}
+use Rattle.std.proofs.lemmas.{Bool.cases_lt, List.get_or_past, List.Elements.All-get_or}
+use Rattle.ring_layout.{specs.declared.message.Message.Message, proofs.WordBytes.byte_of_word}
 
 -- the bytes of a body from its words
 byte_small : (bs : List ℕ) → All (λ b. b < 256) bs → (j : ℕ) → slice_index bs j < 256

@@ -1,20 +1,11 @@
 -- What settling an open claim, and putting bytes into it, does to the words.
-use Rattle.std.proofs.Common.{◌≡◌, ◌≢◌, ℕ, ◌+◌, ◌/◌, ◌<◌, ◌≤◌, List, length, slice_index, slice_set, refl, ap, sym, ◌∙◌, arith, inl, inr, All, pos, neg_ℤ, get_or-set_other, get_or-set_same}
-use Rattle.std.proofs.lemmas.List.{length-set}
+use Rattle.std.proofs.Common.{◌≡◌, ◌≢◌, ℕ, ◌+◌, ◌/◌, ◌<◌, ◌≤◌, List, length, slice_index, slice_set, refl, ap, sym, ◌∙◌, arith, inl, inr, All, pos, neg_ℤ, get_or-set_other, get_or-set_same, length-set}
 use Rattle.std.proofs.lemmas.Nat.{mod_below}
-use Rattle.ring_layout.specs.declared.message.Claim.{Claim}
-use Rattle.ring_layout.specs.declared.message.ClaimState.{ClaimState}
-use Rattle.ring_layout.specs.History.{span, overwritten}
-use Rattle.ring_layout.specs.Places.{index, next_place}
-use Rattle.ring_layout.specs.Headers.{header, header_of}
-use Rattle.ring_layout.proofs.WordBytes.{length-overwritten}
-use Rattle.ring_words.specs.Ring.{Ring, IsRing}
-use Rattle.ring_words.specs.Open.{ClaimAt, IsOpenClaim}
-use Rattle.ring_words.specs.Change.{put_into, settled_as}
-use Rattle.ring_layout.specs.Bytes.{HoldsBytes}
-use Rattle.ring_words.proofs.HeadLemmas.{header_open}
-use Rattle.ring_words.proofs.MiddleLemmas.{Rewrites}
-use Rattle.ring_words.proofs.PutLemmas.{overwritten_small}
+use Rattle.ring_layout.specs.{declared.message.Claim.Claim, declared.message.ClaimState.ClaimState, Bytes.HoldsBytes}
+use Rattle.ring_layout.specs.{History.span, History.overwritten, Headers.header, Headers.header_of}
+use Rattle.ring_layout.{specs.Places.index, specs.Places.next_place, proofs.WordBytes.length-overwritten}
+use Rattle.ring_words.specs.{Ring.Ring, Ring.IsRing, Open.ClaimAt, Open.IsOpenClaim, Change.put_into, Change.settled_as}
+use Rattle.ring_words.proofs.{HeadLemmas.header_open, MiddleLemmas.Rewrites, PutLemmas.overwritten_small}
 
 -- a settled header is stored
 pub settle_rewrites : (r : Ring) (t : ClaimAt) (state : ClaimState) (word : ℕ) → IsRing r

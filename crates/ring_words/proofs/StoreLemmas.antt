@@ -1,14 +1,9 @@
 -- The words after a record is stored.
-use Rattle.std.proofs.Common.{◌≡◌, ◌≢◌, ℕ, ◌+◌, ◌-◌, ◌*◌, ◌/◌, ◌%◌, ◌<◌, ◌≤◌, List, [], ◌∷◌, length, drop, slice_index, slice_set, ap, sym, ◌∙◌, arith, ◌⊎◌, inl, inr, pos, get_or-set_other, get_or-set_same}
-use Rattle.std.proofs.lemmas.Nat.{mod_below}
-use Rattle.std.specs.Int.{from_le_bytes, w64}
-use Rattle.std.proofs.lemmas.Bool.{cases_lt, cases_eq, eq-eqb, ne_eqb, cond-true, cond-false}
-use Rattle.std.proofs.lemmas.List.{length-set}
-use Rattle.ring_layout.specs.declared.message.Claim.{Claim}
-use Rattle.ring_layout.specs.History.{span_of}
-use Rattle.ring_layout.specs.Places.{next_place}
-use Rattle.ring_layout.specs.Picture.{word_at, claim_word}
-use Rattle.ring_layout.specs.Headers.{header, header_of, padding_type}
+use Rattle.std.proofs.Common.{◌≡◌, ◌≢◌, ℕ, ◌+◌, ◌-◌, ◌*◌, ◌/◌, ◌%◌, ◌<◌, ◌≤◌, List, [], ◌∷◌, length, drop, slice_index, slice_set, ap, sym, ◌∙◌, arith, ◌⊎◌, inl, inr, pos, get_or-set_other, get_or-set_same, w64, eq-eqb, ne_eqb, length-set}
+use Rattle.std.proofs.lemmas.{Nat.mod_below, Bool.cases_lt, Bool.cases_eq, Bool.cond-true, Bool.cond-false}
+use Rattle.std.specs.Int.{from_le_bytes}
+use Rattle.ring_layout.specs.{declared.message.Claim.Claim, Headers.header, Headers.header_of, Headers.padding_type}
+use Rattle.ring_layout.specs.{History.span_of, Places.next_place, Picture.word_at, Picture.claim_word}
 use Rattle.ring_words.specs.Storing.{Stores}
 use Rattle.ring_layout.proofs.Laps.{IsInLap, index_step, index_outside, apart}
 use Rattle.ring_layout.proofs.PlaceLemmas.{next_le, next_within, next_aligned, span_bounds}

@@ -1,21 +1,14 @@
 -- A record or padding at the head is cleared, and the head is moved past it.
-use Rattle.std.proofs.Common.{◌≡◌, ◌≢◌, ℕ, ◌+◌, ◌-◌, ◌*◌, ◌/◌, ◌%◌, ◌<◌, ◌≤◌, List, ◌∷◌, length, slice_index, slice_set, refl, ap, sym, ◌∙◌, subst, arith, ◌⊎◌, inl, inr, Some, All, get_or-set_other, get_or-set_same}
-use Rattle.std.proofs.lemmas.Bool.{cases_lt}
-use Rattle.std.proofs.lemmas.List.{length-set}
-use Rattle.std.proofs.lemmas.List.Elements.{All-head, All-tail}
-use Rattle.std.proofs.lemmas.Nat.{mod_below}
+use Rattle.std.proofs.Common.{◌≡◌, ◌≢◌, ℕ, ◌+◌, ◌-◌, ◌*◌, ◌/◌, ◌%◌, ◌<◌, ◌≤◌, List, ◌∷◌, length, slice_index, slice_set, refl, ap, sym, ◌∙◌, subst, arith, ◌⊎◌, inl, inr, Some, All, get_or-set_other, get_or-set_same, length-set}
+use Rattle.std.proofs.lemmas.{Bool.cases_lt, List.Elements.All-head, List.Elements.All-tail, Nat.mod_below}
 use Rattle.std.proofs.Math.Nat.{add-mod_right}
 use Rattle.ring_words.specs.declared.read.head.Settled.{Settled}
-use Rattle.ring_layout.specs.declared.message.Claim.{Claim}
-use Rattle.ring_layout.specs.History.{IsMessage, span, span_of}
-use Rattle.ring_layout.specs.Places.{room, next_place, end_after, end_of}
-use Rattle.ring_layout.specs.Picture.{word_at, claim_word, IsPicture}
-use Rattle.ring_layout.specs.Headers.{padding_type}
+use Rattle.ring_layout.specs.{declared.message.Claim.Claim, Picture.word_at, Picture.claim_word, Picture.IsPicture}
+use Rattle.ring_layout.specs.{History.IsMessage, History.span, History.span_of, Layout.head_index, Layout.tail_index}
+use Rattle.ring_layout.specs.{Places.room, Places.next_place, Places.end_after, Places.end_of, Headers.padding_type}
 use Rattle.ring_words.specs.Ring.{Ring, ring, Has, IsRing, head_of, tail_of}
-use Rattle.ring_layout.specs.Layout.{head_index, tail_index}
 use Rattle.ring_words.specs.Reading.{Sees, IsAtHead, Leaves, MovesHead}
-use Rattle.ring_layout.proofs.Laps.{index_outside, mod_step, mod_aligned}
-use Rattle.ring_layout.proofs.CapacityLemmas.{capacity_blocks}
+use Rattle.ring_layout.proofs.{Laps.index_outside, Laps.mod_step, Laps.mod_aligned, CapacityLemmas.capacity_blocks}
 use Rattle.ring_layout.proofs.PlaceLemmas.{next_cases, next_fixed, next_within, next_aligned, span_bounds, end_of_le}
 use Rattle.ring_layout.proofs.PictureLemmas.{word_at_past, word_at_rest, word_at_record}
 

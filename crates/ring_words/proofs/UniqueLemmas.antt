@@ -1,22 +1,15 @@
 -- Histories with one picture show the same messages and have the same open claims.
-use Rattle.std.proofs.Common.{◌≡◌, ℕ, ◌+◌, ◌-◌, ◌*◌, ◌/◌, ◌%◌, ◌^◌, ◌<◌, ◌≤◌, List, [], ◌∷◌, ◌++◌, length, drop, refl, ap, sym, ◌∙◌, subst, arith, ◌⊎◌, inl, inr, All, ℤ, pos, neg_ℤ, nat_abs, ◌≤ℤ◌, zero, suc}
+use Rattle.std.proofs.Common.{◌≡◌, ℕ, ◌+◌, ◌-◌, ◌*◌, ◌/◌, ◌%◌, ◌^◌, ◌<◌, ◌≤◌, List, [], ◌∷◌, ◌++◌, length, drop, refl, ap, sym, ◌∙◌, subst, arith, ◌⊎◌, inl, inr, All, ℤ, pos, neg_ℤ, nat_abs, ◌≤ℤ◌, zero, suc, w32, w64, ne_eqb}
 use Rattle.ring_words.specs.Ring.{Ring, IsRing, Has, head_of}
 use Rattle.ring_words.specs.Open.{ClaimAt, IsOpen, IsOpenClaim, IsOpenIn}
 use Rattle.ring_words.proofs.OpenLemmas.{open_past_padding, open_before_padding}
-use Rattle.ring_layout.specs.Places.{IsCapacity}
-use Rattle.ring_layout.proofs.CapacityLemmas.{capacity_blocks}
-use Rattle.std.proofs.lemmas.Nat.{mod_below}
-use Rattle.std.specs.Int.{cast_signed, from_le_bytes, w32, w64}
-use Rattle.std.proofs.lemmas.Int.{ints}
-use Rattle.std.proofs.lemmas.Bool.{cases_lt, ne_eqb, cond-false}
-use Rattle.std.proofs.lemmas.List.Elements.{All-head, All-tail}
-use Rattle.ring_layout.specs.declared.message.Claim.{Claim}
-use Rattle.ring_layout.specs.declared.message.Message.{Message}
-use Rattle.ring_layout.specs.declared.message.ClaimState.{ClaimState}
+use Rattle.ring_layout.specs.Places.{IsCapacity, next_place, end_after, end_of}
+use Rattle.ring_layout.{proofs.CapacityLemmas.capacity_blocks, specs.Picture.word_at, specs.Picture.claim_word}
+use Rattle.std.{proofs.lemmas.Nat.mod_below, specs.Int.cast_signed, specs.Int.from_le_bytes}
+use Rattle.std.proofs.lemmas.{Int.ints, Bool.cases_lt, Bool.cond-false, List.Elements.All-head, List.Elements.All-tail}
+use Rattle.ring_layout.specs.declared.message.{Claim.Claim, Message.Message, ClaimState.ClaimState}
 use Rattle.ring_layout.specs.declared.message.ClaimState.TheVariants.{Open, Committed, Aborted}
 use Rattle.ring_layout.specs.History.{IsMessage, shown, committed_of, span_of}
-use Rattle.ring_layout.specs.Places.{next_place, end_after, end_of}
-use Rattle.ring_layout.specs.Picture.{word_at, claim_word}
 use Rattle.ring_layout.specs.Headers.{header, header_of, padding_type}
 use Rattle.ring_layout.proofs.PlaceLemmas.{next_le, next_cases, next_fixed, next_aligned, span_bounds, end_of_le}
 use Rattle.ring_layout.proofs.PictureLemmas.{word_at_padding_header, word_at_record, word_at_rest, word_at_past}

@@ -1,8 +1,7 @@
 -- A read that goes on past the end of the buffer, of a ring of any kind: X is what is said of the ring, S the
 -- handler's states, and Reads what one read says.
 use Rattle.std.specs.Prelude.{◌≡◌, ◌≢◌, ◌⊎◌, ℕ, ◌+◌, ◌-◌}
-use Rattle.ring_words.specs.declared.read.end.ReadEnd.{ReadEnd}
-use Rattle.ring_words.specs.declared.read.end.Stop.{Stop}
+use Rattle.ring_words.specs.declared.read.end.{ReadEnd.ReadEnd, Stop.Stop}
 
 -- one read, which was stopped by something other than the end of the buffer
 pub record ReadsOnce {X S : Type 0} (Reads : ℕ → X → X → S → S → ReadEnd → Type 0) (limit : ℕ) (old new : X) (s t : S)

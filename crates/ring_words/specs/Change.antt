@@ -1,11 +1,8 @@
 -- What a call changes: the events of a ring.
 use Rattle.std.specs.Prelude.{◌≡◌, ◌≢◌, ℕ, ◌/◌, ◌≤◌, ℤ, List, [], ◌∷◌, ◌++◌, length, replicate, slice_index, if◌then◌else◌, ◌==◌}
-use Rattle.ring_layout.specs.declared.message.Claim.{Claim}
-use Rattle.ring_layout.specs.declared.message.ClaimState.{ClaimState}
-use Rattle.ring_layout.specs.declared.message.ClaimState.TheVariants.{Open, Committed}
-use Rattle.ring_layout.specs.History.{span_of, overwritten}
-use Rattle.ring_layout.specs.Places.{next_place, end_after}
-use Rattle.ring_layout.specs.Layout.{tail_index}
+use Rattle.ring_layout.specs.{declared.message.Claim.Claim, Layout.tail_index}
+use Rattle.ring_layout.specs.declared.message.ClaimState.{ClaimState, TheVariants.Open, TheVariants.Committed}
+use Rattle.ring_layout.specs.{History.span_of, History.overwritten, Places.next_place, Places.end_after}
 use Rattle.ring_words.specs.Ring.{Ring, Has, head_of, tail_of}
 
 -- a fresh claim with this type id and length: its body is zeros

@@ -1,10 +1,8 @@
 -- How a read ends that its handler controls, whatever it takes. `Takes t n`: n messages were taken, after which the
 -- handler is t. `answers` are the actions that it returned for them.
 use Rattle.std.specs.Prelude.{◌≡◌, ◌<◌, ℕ, Bool, true, false, List, [], ◌∷◌, ◌++◌, All}
-use Rattle.ring_words.specs.declared.read.action.Action.{Action}
+use Rattle.ring_words.specs.declared.read.{action.Action.Action, end.ReadEnd.ReadEnd, end.Stop.Stop}
 use Rattle.ring_words.specs.declared.read.action.Action.TheVariants.{Abort, Break, Commit, Continue}
-use Rattle.ring_words.specs.declared.read.end.ReadEnd.{ReadEnd}
-use Rattle.ring_words.specs.declared.read.end.Stop.{Stop}
 use Rattle.ring_layout.specs.declared.message.Message.{Message}
 
 -- the action that a read goes by: the handler's, if the read heeds it

@@ -1,10 +1,8 @@
 -- What draining a ring does.
 use Rattle.std.specs.Prelude.{◌≡◌, ◌≢◌, ℕ, List, ◌++◌, length, All}
-use Rattle.ring_layout.specs.declared.message.Claim.{Claim}
-use Rattle.ring_layout.specs.declared.message.ClaimState.TheVariants.{Open}
+use Rattle.ring_layout.specs.declared.message.{Claim.Claim, ClaimState.TheVariants.Open}
 use Rattle.ring_layout.specs.History.{committed_of}
-use Rattle.ring_words.specs.Ring.{Ring, Has}
-use Rattle.ring_words.specs.Reading.{IsBlocked}
+use Rattle.ring_words.specs.{Ring.Ring, Ring.Has, Reading.IsBlocked}
 
 -- every claim is settled
 abbrev pub AllSettled : List Claim → Type 0

@@ -1,9 +1,7 @@
 -- Open claims of a ring.
 use Rattle.std.specs.Prelude.{◌≡◌, ◌⊎◌, ℕ, ◌+◌, ◌%◌, ℤ, List, [], ◌∷◌, length}
-use Rattle.ring_layout.specs.declared.message.Claim.{Claim}
-use Rattle.ring_layout.specs.declared.message.ClaimState.TheVariants.{Open}
-use Rattle.ring_layout.specs.History.{span, span_of}
-use Rattle.ring_layout.specs.Places.{next_place, end_after}
+use Rattle.ring_layout.specs.declared.message.{Claim.Claim, ClaimState.TheVariants.Open}
+use Rattle.ring_layout.specs.{History.span, History.span_of, Places.next_place, Places.end_after}
 use Rattle.ring_words.specs.Ring.{Ring, Has, head_of, tail_of}
 
 -- a claim in the hands of its owner: its place, the byte index of its body, the type id, and the bytes of its body

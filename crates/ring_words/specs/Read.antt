@@ -1,17 +1,11 @@
 -- What a read does.
 use Rattle.std.specs.Prelude.{◌≡◌, ◌≢◌, ◌⊎◌, ℕ, ◌+◌, ◌<◌, ◌%◌, ◌==◌, ◌&&◌, nat_lt, List, [], ◌∷◌, ◌++◌, length, All, if◌then◌else◌}
-use Rattle.ring_words.specs.declared.read.action.Action.{Action}
-use Rattle.ring_words.specs.declared.read.end.ReadEnd.{ReadEnd}
-use Rattle.ring_words.specs.declared.read.end.Stop.{Stop}
-use Rattle.ring_words.specs.declared.read.end.Stop.TheVariants.{Limit, Block, Unpublished}
-use Rattle.ring_layout.specs.declared.message.Claim.{Claim}
-use Rattle.ring_layout.specs.declared.message.Message.{Message}
+use Rattle.ring_words.specs.declared.read.{action.Action.Action, end.ReadEnd.ReadEnd}
+use Rattle.ring_words.specs.declared.read.end.Stop.{Stop, TheVariants.Limit, TheVariants.Block, TheVariants.Unpublished}
+use Rattle.ring_layout.specs.{declared.message.Claim.Claim, declared.message.Message.Message, Handles.Handles}
 use Rattle.ring_layout.specs.declared.message.ClaimState.TheVariants.{Open, Committed}
-use Rattle.ring_layout.specs.History.{committed_of, span_of}
-use Rattle.ring_layout.specs.Places.{next_place, end_of}
-use Rattle.ring_words.specs.Ring.{Ring, Has, head_of}
-use Rattle.ring_layout.specs.Handles.{Handles}
-use Rattle.ring_words.specs.Reading.{IsAtHead, MovesHead}
+use Rattle.ring_layout.specs.{History.committed_of, History.span_of, Places.next_place, Places.end_of}
+use Rattle.ring_words.specs.{Ring.Ring, Ring.Has, Ring.head_of, Reading.IsAtHead, Reading.MovesHead}
 use Rattle.ring_words.specs.Controlled.{BrokenOff, CutShort, LetOn}
 
 -- the head is the end of the claims passed or, if padding follows, the place of the next claim

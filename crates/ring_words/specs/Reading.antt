@@ -1,13 +1,9 @@
 -- What a read sees at the head and what it passes.
 use Rattle.std.specs.Prelude.{◌≡◌, ◌≢◌, ◌⊎◌, ℕ, ◌+◌, ◌/◌, ◌<◌, ◌≤◌, List, [], ◌∷◌, length, slice_index, Option, Some, None}
-use Rattle.ring_words.specs.declared.read.head.Settled.{Settled}
-use Rattle.ring_layout.specs.declared.message.Claim.{Claim}
+use Rattle.ring_words.specs.{declared.read.head.Settled.Settled, Ring.Ring, Ring.Has, Ring.head_of}
+use Rattle.ring_layout.specs.{declared.message.Claim.Claim, Places.room, Places.next_place, Headers.padding_type}
 use Rattle.ring_layout.specs.declared.message.ClaimState.TheVariants.{Open, Committed, Aborted}
-use Rattle.ring_layout.specs.History.{span_of}
-use Rattle.ring_layout.specs.Places.{room, next_place}
-use Rattle.ring_layout.specs.Headers.{padding_type}
-use Rattle.ring_words.specs.Ring.{Ring, Has, head_of}
-use Rattle.ring_layout.specs.Layout.{head_index}
+use Rattle.ring_layout.specs.{History.span_of, Layout.head_index}
 
 -- the claim c is at the head
 abbrev pub IsAtHead : Ring → Claim → Type 0

@@ -1,12 +1,9 @@
 -- Why a claim is refused.
 use Rattle.std.specs.Prelude.{ℕ, ◌+◌, ℤ, pos, Option, Some, None, if◌then◌else◌, nat_lt}
-use Rattle.ring_words.specs.declared.fault.ClaimFault.{ClaimFault}
+use Rattle.ring_words.specs.{declared.fault.ClaimFault.ClaimFault, Ring.Ring, Ring.head_of, Ring.tail_of}
 use Rattle.ring_words.specs.declared.fault.ClaimFault.TheVariants.{BadType, TooLong, PositionLimit, InsufficientCapacity}
-use Rattle.ring_layout.specs.History.{span}
-use Rattle.ring_layout.specs.Places.{end_after}
-use Rattle.ring_layout.specs.Refusals.{place_refusal_or}
+use Rattle.ring_layout.specs.{History.span, Places.end_after, Refusals.place_refusal_or}
 pub use Rattle.ring_layout.specs.Refusals.{IsRefusedBy}
-use Rattle.ring_words.specs.Ring.{Ring, head_of, tail_of}
 
 -- the refusal of a claim of this type id and length, in the order of the tests; none if it fits
 abbrev pub refusal_of : Ring → ℤ → ℕ → Option ClaimFault

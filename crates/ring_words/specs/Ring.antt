@@ -1,10 +1,8 @@
 -- A ring of one owner: its capacity, its words, and the histories of untaken claims that it has.
 use Rattle.std.specs.Prelude.{◌≡◌, ℕ, ◌+◌, ◌%◌, ◌≤◌, List, length, slice_index, All}
-use Rattle.ring_layout.specs.declared.message.Claim.{Claim}
-use Rattle.ring_layout.specs.History.{IsMessage}
-use Rattle.ring_layout.specs.Places.{IsCapacity, max_position, end_of}
+use Rattle.ring_layout.specs.{declared.message.Claim.Claim, Layout.tail_index, Layout.head_index, Layout.ring_words}
+use Rattle.ring_layout.specs.{History.IsMessage, Places.IsCapacity, Places.max_position, Places.end_of}
 use Rattle.ring_layout.specs.Picture.{IsPicture}
-use Rattle.ring_layout.specs.Layout.{tail_index, head_index, ring_words}
 
 pub record Ring : Type 0 where
   pub capacity : ℕ

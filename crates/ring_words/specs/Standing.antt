@@ -1,8 +1,6 @@
 -- What a read shows together with the positions before it and after it.
 use Rattle.std.specs.Prelude.{◌≡◌, ℕ, ◌≤◌, ◌<◌}
-use Rattle.ring_words.specs.declared.positions.Positions.{Positions}
-use Rattle.ring_words.specs.declared.read.end.ReadEnd.{ReadEnd}
-use Rattle.ring_words.specs.declared.read.end.Stop.{Stop}
+use Rattle.ring_words.specs.declared.{positions.Positions.Positions, read.end.ReadEnd.ReadEnd, read.end.Stop.Stop}
 
 -- the read found no settled record at this head, which both positions have
 pub record StandsAt (before : Positions) (end : ReadEnd) (after : Positions) (head : ℕ) : Type 0 where

@@ -1,10 +1,7 @@
 -- Storing a record after the tail.
 use Rattle.std.specs.Prelude.{◌≡◌, ℕ, ◌+◌, ◌-◌, ◌%◌, ◌/◌, ◌<◌, ◌≤◌, List, [], ◌∷◌, length, slice_index, slice_set, if◌then◌else◌, nat_lt}
-use Rattle.ring_layout.specs.declared.message.Claim.{Claim}
-use Rattle.ring_layout.specs.History.{span, span_of}
-use Rattle.ring_layout.specs.Places.{index, next_place, end_after, max_position}
-use Rattle.ring_layout.specs.Headers.{padding_header}
-use Rattle.ring_layout.specs.Picture.{word_at}
+use Rattle.ring_layout.specs.{declared.message.Claim.Claim, History.span, History.span_of, Headers.padding_header}
+use Rattle.ring_layout.specs.{Places.index, Places.next_place, Places.end_after, Places.max_position, Picture.word_at}
 use Rattle.ring_words.specs.Ring.{Ring, head_of, tail_of}
 
 -- a claim of this length is admitted: it has a valid length, fits, and ends at a valid position

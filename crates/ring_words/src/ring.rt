@@ -1,12 +1,9 @@
 //! The ring with one owner.
 ghost use Rattle.std.specs.Prelude.{◌≡◌, ◌/◌, ◌%◌, ◌||◌, List, IfOk, slice_get, vec_len};
-ghost use Rattle.ring_layout.specs.declared.message.Claim.{Claim};
-ghost use Rattle.ring_layout.specs.History.{committed_of};
-ghost use Rattle.ring_layout.specs.Places.{is_capacity};
-ghost use Rattle.ring_layout.specs.Refusals.{make_refusal_of, IsMadeUnless};
-ghost use Rattle.ring_words.specs.Ring.{ring, head_of, tail_of, Has, IsRing};
+ghost use Rattle.ring_layout.specs.{declared.message.Claim.Claim, Refusals.make_refusal_of, Refusals.IsMadeUnless};
+ghost use Rattle.ring_layout.specs.{History.committed_of, Places.is_capacity};
+ghost use Rattle.ring_words.specs.{Ring.ring, Ring.head_of, Ring.tail_of, Ring.Has, Ring.IsRing, Fresh.fresh};
 ghost use Rattle.ring_words.specs.Open.{ClaimAt, IsOpen, IsOpenIn};
-ghost use Rattle.ring_words.specs.Fresh.{fresh};
 
 use crate::positions::Positions;
 use ring_layout::ring_buffer_descriptor::{

@@ -1,7 +1,6 @@
 //! Bodies in a slice of words.
 ghost use Rattle.std.specs.Prelude.{◌≡◌, ℕ, ◌+◌, ◌*◌, ◌/◌, ◌%◌, ◌^◌, ◌<◌, ◌≤◌, List, All, length, slice_index};
-ghost use Rattle.ring_layout.specs.Bytes.{HoldsBytes};
-ghost use Rattle.ring_layout.specs.History.{overwritten};
+ghost use Rattle.ring_layout.specs.{Bytes.HoldsBytes, History.overwritten};
 
 use ring_layout::{put_bytes_word, put_part, put_word};
 

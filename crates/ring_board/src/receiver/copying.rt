@@ -8,9 +8,8 @@ use ring_layout::has_spare_share;
 use std::alloc::Global;
 
 impl Board {
-    ghost use Rattle.ring_board.specs.Runs.{AreRuns};
+    ghost use Rattle.ring_board.specs.{Runs.AreRuns, Refusals.subscribe_refusal_of, Refusals.IsSubscribedUnless};
     ghost use Rattle.ring_board.specs.Views.{as_joined, fewer, newcomer, joined};
-    ghost use Rattle.ring_board.specs.Refusals.{subscribe_refusal_of, IsSubscribedUnless};
     ghost use Rattle.ring_board.specs.Board.{copied, heard_by, latest_of, subscribed_at, transmitted};
     ghost use Rattle.ring_board.specs.Seats.{view_of, shares_of, IsTransmitterOf, IsReceiverOf, receiver_view};
 
@@ -64,10 +63,9 @@ impl Board {
 impl CopyReceiver {
     ghost use Rattle.std.specs.Borrow.{sem};
     ghost use Rattle.std.specs.Prelude.{vec_len};
-    ghost use Rattle.ring_board.specs.Receiving.{GotNothing, GotCopy, GotLapped};
+    ghost use Rattle.ring_board.specs.{Receiving.GotNothing, Receiving.GotCopy, Receiving.GotLapped, Lending.Rests};
     ghost use Rattle.ring_board.specs.Board.{lapped_count_of, place_in, CopiesNext};
     ghost use Rattle.ring_board.specs.Seats.{IsReceiverOf, receiver_seat, Received};
-    ghost use Rattle.ring_board.specs.Lending.{Rests};
 
     /// Returns the position, in bytes, at which the next call looks for a record. After `Lapped`, this position is
     /// above `Lapped.place` by the number of bytes that the receiver missed. This number is never 0.

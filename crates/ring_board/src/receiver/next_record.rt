@@ -1,14 +1,12 @@
 //! The search of a receiver for the next record, and its copy.
 ghost use Rattle.std.specs.Prelude.{◌≡◌, ℕ, ◌+◌, ◌-◌, ◌*◌, ◌/◌, ◌%◌, ◌^◌, ◌<◌, ◌≤◌, [], length, take, nat_le, MatchResult, MatchOption};
 ghost use Rattle.std.specs.Int.{cast_signed, w32};
-ghost use Rattle.ring_layout.specs.History.{span};
-ghost use Rattle.ring_layout.specs.Places.{max_position};
+ghost use Rattle.ring_layout.specs.{History.span, Places.max_position};
 ghost use Rattle.ring_board.specs.declared.shared.view.Stage.TheVariants.{Behind, Reading};
 ghost use Rattle.ring_board.specs.Records.{announced, body_len, word_count, is_padding};
 ghost use Rattle.ring_board.specs.Views.{Sat};
-ghost use Rattle.ring_board.specs.ReceiverSteps.{IsSound, LoadsLatest};
+ghost use Rattle.ring_board.specs.{ReceiverSteps.IsSound, ReceiverSteps.LoadsLatest, Seats.IsSeatOf, Seats.IsSameSeat};
 ghost use Rattle.ring_board.specs.Receiving.{RestsAt, FoundIs, NearIs, IsInBuffer, CopiedWords, TookAll, FailedBody, GotNothing, GotCopy, GotLapped, GotRecord, GotMiss};
-ghost use Rattle.ring_board.specs.Seats.{IsSeatOf, IsSameSeat};
 
 use crate::board::{Board, RawRecord};
 use crate::fault::Lapped;

@@ -9,8 +9,7 @@ use crate::shared::steps::BoardSeat;
 use ring_layout::{NoShares, has_spare_share, put_part, span};
 
 impl Board {
-    ghost use Rattle.ring_board.specs.Runs.{AreRuns};
-    ghost use Rattle.ring_board.specs.Views.{as_joined, fewer, newcomer, joined};
+    ghost use Rattle.ring_board.specs.{Runs.AreRuns, Views.as_joined, Views.fewer, Views.newcomer, Views.joined};
     ghost use Rattle.ring_layout.specs.Refusals.{share_refusal_of, IsRefusedBy};
     ghost use Rattle.ring_board.specs.Board.{heard_by, latest_of, raw_subscribed_at, returned, transmitted};
     ghost use Rattle.ring_board.specs.Seats.{view_of, shares_of, IsTransmitterOf, IsRawOf, raw_view};
@@ -167,8 +166,7 @@ impl Receiver {
 
 impl Board {
     ghost use Rattle.ring_board.specs.declared.shared.view.Stage.TheVariants.{Resting};
-    ghost use Rattle.ring_board.specs.Bodies.{GaveBody};
-    ghost use Rattle.ring_board.specs.Seats.{IsAnsweredRecord, place_of, len_of};
+    ghost use Rattle.ring_board.specs.{Bodies.GaveBody, Seats.IsAnsweredRecord, Seats.place_of, Seats.len_of};
 
     /// Loads the body of a record that was returned without its body. The body is as long as `out`.
     fn load_answered(&self, seat: &mut BoardSeat, raw: &RawRecord, out: &mut [u8])

@@ -1,8 +1,7 @@
 //! Shared counters, and their adders.
 ghost use Rattle.std.specs.Prelude.{◌≡◌};
 ghost use Rattle.ring_handles.specs.Adding.{IsOfAnother, IsOfThisCounter, SaysShares, SaysSum, SplitsAdder};
-ghost use Rattle.ring_handles.specs.Adding.{Summed, TakesAdder, WhyNotSplit};
-ghost use Rattle.ring_handles.specs.Kinds.{an_adder};
+ghost use Rattle.ring_handles.specs.{Adding.Summed, Adding.TakesAdder, Adding.WhyNotSplit, Kinds.an_adder};
 ghost use Rattle.ring_c.specs.Told.{GivesInto, JoinsInto, OpensAdder, WhereBoth, Yields};
 
 use crate::work_on::{fill, join_into, make_into, work_on};

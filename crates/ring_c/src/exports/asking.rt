@@ -1,9 +1,7 @@
 //! What a conductor's counters are asked.
-ghost use Rattle.ring_counters.specs.Counter.{deadline_of, state_of};
-ghost use Rattle.ring_counters.specs.Registry.{counter_at};
-ghost use Rattle.ring_handles.specs.Conducting.{AsksIts};
+ghost use Rattle.ring_counters.specs.{Counter.deadline_of, Counter.state_of, Registry.counter_at};
+ghost use Rattle.ring_handles.specs.{Conducting.AsksIts, Kinds.a_conductor};
 ghost use Rattle.ring_handles.specs.Counting.{label_out, TellsCount, TellsFound, TellsKey, TellsLabel, TellsOf, TellsOfRecord};
-ghost use Rattle.ring_handles.specs.Kinds.{a_conductor};
 ghost use Rattle.ring_c.specs.Told.{Yields};
 
 use crate::work_on::work_on;

@@ -1,7 +1,6 @@
 //! What a consumer's handle does.
-ghost use Rattle.ring_handles.specs.Batch.{batch, ReadBatch, ReceivesBatch};
+ghost use Rattle.ring_handles.specs.{Batch.batch, Batch.ReadBatch, Batch.ReceivesBatch, Kinds.a_consumer};
 ghost use Rattle.ring_handles.specs.Consuming.{out, Beat, PeekOne, ReadOne, ReceivesNone, ReceivesOne, ReceivesOut, TakeOne};
-ghost use Rattle.ring_handles.specs.Kinds.{a_consumer};
 ghost use Rattle.ring_c.specs.Told.{Uses, Yields};
 
 use crate::work_on::work_on;

@@ -2,9 +2,8 @@
 ghost use Rattle.ring_handles.specs.Finishing.{Finishes, IsNotLast, IsUnfinished, TakesLast};
 ghost use Rattle.ring_handles.specs.Returning.{BoardEndsAt, IsAstray, IsBoardKept, IsOfOthers, IsOfThese, IsOfThisBoard};
 ghost use Rattle.ring_handles.specs.Returning.{IsRawAstray, IsRawOfThisBoard, TakesListener, TakesLoads, TakesWatcher};
-ghost use Rattle.ring_handles.specs.Side.{IsOfThisRing};
+ghost use Rattle.ring_handles.specs.{Side.IsOfThisRing, Kinds.some_counters};
 ghost use Rattle.ring_handles.specs.Kinds.{a_consumer, a_producer, a_raw_receiver, a_reader, a_receiver, a_transmitter};
-ghost use Rattle.ring_handles.specs.Kinds.{some_counters};
 ghost use Rattle.ring_c.specs.Told.{EndsAs, JoinsInto, WhereBoth};
 
 use crate::work_on::{end_with, join_into};

@@ -1,7 +1,5 @@
 //! Producers that are put together.
-ghost use Rattle.ring_handles.specs.Producing.{IsApart, TakesIn};
-ghost use Rattle.ring_handles.specs.Side.{AreOfOneRing};
-ghost use Rattle.ring_handles.specs.Kinds.{a_producer};
+ghost use Rattle.ring_handles.specs.{Producing.IsApart, Producing.TakesIn, Side.AreOfOneRing, Kinds.a_producer};
 ghost use Rattle.ring_c.specs.Told.{JoinsInto, WhereBoth};
 
 use crate::work_on::join_into;

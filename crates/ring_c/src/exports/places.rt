@@ -1,8 +1,7 @@
 //! Where receivers are, how they were lapped last, and how large rings and boards are.
 ghost use Rattle.std.specs.Prelude.{◌≡◌, pos};
 ghost use Rattle.ring_handles.specs.Boards.{lap_out, SaysLap, SaysPlace};
-ghost use Rattle.ring_handles.specs.Kinds.{a_raw_receiver, a_receiver};
-ghost use Rattle.ring_handles.specs.Raw.{SaysRawLap, SaysRawPlace};
+ghost use Rattle.ring_handles.specs.{Kinds.a_raw_receiver, Kinds.a_receiver, Raw.SaysRawLap, Raw.SaysRawPlace};
 ghost use Rattle.ring_c.specs.Told.{sizes, SaysSizes, Yields};
 
 use crate::work_on::work_on;

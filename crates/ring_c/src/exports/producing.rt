@@ -1,8 +1,7 @@
 //! What a producer's handle does.
 ghost use Rattle.ring_layout.specs.declared.message.ClaimState.TheVariants.{Aborted, Committed};
 ghost use Rattle.ring_handles.specs.Producing.{positions, Claimed, Counted, Drew, HeardBeat, Positioned, Put, Settled, Wrote};
-ghost use Rattle.ring_handles.specs.Kinds.{a_producer};
-ghost use Rattle.ring_handles.specs.WritingBatch.{WroteBatch};
+ghost use Rattle.ring_handles.specs.{Kinds.a_producer, WritingBatch.WroteBatch};
 ghost use Rattle.ring_c.specs.Told.{Uses, Yields};
 
 use crate::work_on::work_on;

@@ -1,8 +1,6 @@
 //! What counters are asked of their records, and how a value is raised.
-ghost use Rattle.ring_counters.specs.Counter.{deadline_of, state_of};
-ghost use Rattle.ring_counters.specs.Registry.{counter_at};
-ghost use Rattle.ring_handles.specs.Counting.{Asks, TellsOfRecord, WasProposed};
-ghost use Rattle.ring_handles.specs.Kinds.{some_counters};
+ghost use Rattle.ring_counters.specs.{Counter.deadline_of, Counter.state_of, Registry.counter_at};
+ghost use Rattle.ring_handles.specs.{Counting.Asks, Counting.TellsOfRecord, Counting.WasProposed, Kinds.some_counters};
 ghost use Rattle.ring_c.specs.Told.{Yields};
 
 use crate::work_on::work_on;

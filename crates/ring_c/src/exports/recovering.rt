@@ -1,6 +1,5 @@
 //! What recovers the messages that a ring left.
-ghost use Rattle.ring_handles.specs.Batch.{batch};
-ghost use Rattle.ring_handles.specs.Recovering.{recovery, Recovers};
+ghost use Rattle.ring_handles.specs.{Batch.batch, Recovering.recovery, Recovering.Recovers};
 
 /// Recovers the messages of a ring whose threads all died, each at any step, and lays them into a buffer.
 #[unsafe(no_mangle)]

@@ -1,8 +1,7 @@
 //! Producers that are split off, and handles that are freed.
 ghost use Rattle.std.specs.Prelude.{◌≡◌};
 ghost use Rattle.std.specs.declared.option.Option.TheVariants.{None};
-ghost use Rattle.ring_handles.specs.Producing.{WhyNotSplit, Splits};
-ghost use Rattle.ring_handles.specs.Kinds.{a_producer};
+ghost use Rattle.ring_handles.specs.{Producing.WhyNotSplit, Producing.Splits, Kinds.a_producer};
 ghost use Rattle.ring_c.specs.Told.{ClosesHeld, GivesInto};
 
 use crate::work_on::make_into;

@@ -4,10 +4,8 @@ ghost use Rattle.std.specs.Prelude.{Err, IfOk, IsErr, IsOkUnless, MatchOption, O
 ghost use Rattle.std.specs.List.{list_all};
 ghost use Rattle.ring_layout.specs.Refusals.{all_shares};
 ghost use Rattle.ring_counters.specs.Registry.{allocated_in, allocation_of, answer, closed_in, fresh_registry};
-ghost use Rattle.ring_counters.specs.Registry.{make_refusal_of, new_counter, owned_ids, reclaimed_in};
-ghost use Rattle.ring_counters.specs.Registry.{text_refusal_of};
-ghost use Rattle.ring_counters.specs.Views.{value_write};
-ghost use Rattle.ring_counters.specs.Seats.{values_count};
+ghost use Rattle.ring_counters.specs.Registry.{make_refusal_of, new_counter, owned_ids, reclaimed_in, text_refusal_of};
+ghost use Rattle.ring_counters.specs.{Views.value_write, Seats.values_count};
 ghost use Rattle.ring_counters.specs.Manager.{refusal_at, registry_of, writes_of, shares_of, IsManagerOf, KeepsValues};
 
 use crate::fault::{AllocateRefused, BadOwner, IdFault, MakeFault};

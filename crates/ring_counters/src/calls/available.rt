@@ -1,8 +1,6 @@
 //! The call that counts how many counters can be allocated.
 ghost use Rattle.std.specs.Prelude.{◌≡◌, ◌↔◌, None};
-ghost use Rattle.ring_counters.specs.Available.{available_in};
-ghost use Rattle.ring_counters.specs.Manager.{registry_of};
-ghost use Rattle.ring_counters.specs.Registry.{next_id};
+ghost use Rattle.ring_counters.specs.{Available.available_in, Manager.registry_of, Registry.next_id};
 
 use crate::manager::CountersManager;
 

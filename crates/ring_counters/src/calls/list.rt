@@ -1,9 +1,7 @@
 //! An iterator over the counters in use, which takes no memory.
 ghost use Rattle.std.specs.Prelude.{◌≡◌, length};
 ghost use Rattle.std.specs.Iterator.{YieldsFirst, item_count};
-ghost use Rattle.ring_counters.specs.Counter.{zero_padded};
-ghost use Rattle.ring_counters.specs.Registry.{live_of};
-ghost use Rattle.ring_counters.specs.Manager.{registry_of};
+ghost use Rattle.ring_counters.specs.{Counter.zero_padded, Registry.live_of, Manager.registry_of};
 
 use crate::manager::CountersManager;
 use crate::records::metadata::MetadataRecord;
@@ -92,8 +90,7 @@ pub struct LiveCounters<'a> {
 
 impl<'a> Model for LiveCounters<'a> {
     ghost use Rattle.std.specs.Prelude.{ℕ, List};
-    ghost use Rattle.ring_counters.specs.Counter.{Counter};
-    ghost use Rattle.ring_counters.specs.Registry.{live_from};
+    ghost use Rattle.ring_counters.specs.{Counter.Counter, Registry.live_from};
 
     ghost Value = { List (ℕ × Counter) };
 

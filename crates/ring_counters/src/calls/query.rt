@@ -1,13 +1,11 @@
 //! The calls that read counters, and that make readers for other threads.
 ghost use Rattle.std.specs.Prelude.{◌≡◌, ℕ, ◌+◌, ◌<◌, ◌↔◌, length, IfOk, IfErr, OnOk, OnErr, IsOk};
-ghost use Rattle.ring_counters.specs.Counter.{zero_padded, state_of, deadline_of};
+ghost use Rattle.ring_counters.specs.{Counter.zero_padded, Counter.state_of, Counter.deadline_of, ValueWrites.AreLoads};
 ghost use Rattle.ring_counters.specs.Counter.{metadata_word as metadata_word_of, value_word as value_word_of};
 ghost use Rattle.ring_counters.specs.Registry.{answer, count_of, live_of, registered_id};
-ghost use Rattle.ring_counters.specs.Infos.{AreInfos};
+ghost use Rattle.ring_counters.specs.{Infos.AreInfos, Manager.counter_in, Manager.range_refusal_at, Manager.refusal_at};
 ghost use Rattle.ring_counters.specs.Agree.{Agree};
-ghost use Rattle.ring_counters.specs.ValueWrites.{AreLoads};
 ghost use Rattle.ring_counters.specs.Seats.{IsNewReaderOf, IsReaderOf, made_of, loads_of};
-ghost use Rattle.ring_counters.specs.Manager.{counter_in, range_refusal_at, refusal_at};
 ghost use Rattle.ring_counters.specs.Manager.{registry_of, writes_of, shares_of, IsManagerOf, KeepsCounters};
 
 use crate::fault::{IdFault, OutOfMemory};

@@ -2,8 +2,7 @@
 ghost use Rattle.std.specs.Prelude.{◌≡◌, ℕ, ◌^◌, ◌<◌, ◌≤◌, ◌↔◌, true, IfNone, IfSome};
 ghost use Rattle.std.specs.Prelude.{length, position, remove, slice_index, slice_set};
 ghost use Rattle.std.specs.VecDeque.{deque_capacity};
-ghost use Rattle.ring_counters.specs.Allocating.{HasShortTexts, counter_wanted};
-ghost use Rattle.ring_counters.specs.Counter.{deadline_of};
+ghost use Rattle.ring_counters.specs.{Allocating.HasShortTexts, Allocating.counter_wanted, Counter.deadline_of};
 ghost use Rattle.ring_counters.specs.Kept.{last_deadline};
 ghost use Rattle.ring_counters.specs.Registry.{allocated_in, closed_in, count_of, counter_at, is_allocated, is_due};
 ghost use Rattle.ring_counters.specs.Registry.{is_owned, next_id, owned_ids, reclaimed_in, status_at, unused_id};

@@ -19,8 +19,7 @@ pub(crate) struct MetadataRecord {
 }
 
 impl Model for MetadataRecord {
-    ghost use Rattle.ring_counters.specs.Counter.{Metadata};
-    ghost use Rattle.ring_counters.specs.Records.{metadata_of, SomeMetadata};
+    ghost use Rattle.ring_counters.specs.{Counter.Metadata, Records.metadata_of, Records.SomeMetadata};
 
     ghost Value = { Metadata };
 

@@ -3,12 +3,10 @@
 ghost use Rattle.std.specs.Prelude.{◌≡◌, ℕ, ◌+◌, ◌<◌, ◌≤◌, ◌↔◌, List, [], ◌∷◌, ◌++◌, true, false, IfOk, IfErr, IsOk};
 ghost use Rattle.std.specs.Prelude.{OnOk, OnErr};
 ghost use Rattle.ring_layout.specs.Refusals.{all_shares};
-ghost use Rattle.ring_counters.specs.declared.values.view.ValueWrite.{ValueWrite};
+ghost use Rattle.ring_counters.specs.{declared.values.view.ValueWrite.ValueWrite, ValueWrites.AreLoads};
 ghost use Rattle.ring_counters.specs.Registry.{answer, value_at, value_plus, is_raised_by};
-ghost use Rattle.ring_counters.specs.Views.{value_write};
-ghost use Rattle.ring_counters.specs.ValueWrites.{AreLoads};
+ghost use Rattle.ring_counters.specs.{Views.value_write, Seats.values_count, Seats.writer_writes};
 ghost use Rattle.ring_counters.specs.Seats.{IsNewReaderOf, IsReaderOf, IsWriterOf, LoadsValue, loads_of, made_of};
-ghost use Rattle.ring_counters.specs.Seats.{values_count, writer_writes};
 ghost use Rattle.ring_counters.specs.Manager.{refusal_at, registry_of, shares_of, IsManagerOf, SetsValue};
 
 use crate::fault::{BadId, IdFault};

@@ -1,7 +1,6 @@
 //! Calls that change a value and return the value before the change.
 ghost use Rattle.std.specs.Prelude.{◌≡◌, pos, negsuc, true, false, IfOk, OnOk, OnErr};
-ghost use Rattle.ring_counters.specs.Available.{has_value};
-ghost use Rattle.ring_counters.specs.Registry.{answer, value_at, value_plus};
+ghost use Rattle.ring_counters.specs.{Available.has_value, Registry.answer, Registry.value_at, Registry.value_plus};
 ghost use Rattle.ring_counters.specs.Manager.{refusal_at, registry_of, shares_of, IsManagerOf, SetsValue};
 
 use crate::fault::IdFault;

@@ -1,8 +1,7 @@
 //! The rule that holds between any two steps.
 ghost use Rattle.std.specs.Prelude.{true, []};
 ghost use Rattle.ring_layout.specs.Refusals.{all_shares};
-ghost use Rattle.ring_counters.specs.Views.{values_view};
-ghost use Rattle.ring_counters.specs.ValuesRule.{ValuesRule};
+ghost use Rattle.ring_counters.specs.{Views.values_view, ValuesRule.ValuesRule};
 
 use crate::values::view::ValuesView;
 use atomic_table::TableRule;

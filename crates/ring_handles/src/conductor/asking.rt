@@ -1,6 +1,5 @@
 //! What a conductor's counters are asked.
-ghost use Rattle.ring_counters.specs.Counter.{deadline_of, state_of};
-ghost use Rattle.ring_counters.specs.Registry.{counter_at};
+ghost use Rattle.ring_counters.specs.{Counter.deadline_of, Counter.state_of, Registry.counter_at};
 ghost use Rattle.ring_handles.specs.Conducting.{AsksIts};
 ghost use Rattle.ring_handles.specs.Counting.{label_out, TellsCount, TellsFound, TellsKey, TellsLabel, TellsOf, TellsOfRecord};
 

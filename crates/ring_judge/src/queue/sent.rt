@@ -1,8 +1,7 @@
 //! What each producer sent.
 
 ghost use Rattle.std.specs.Prelude.{◌≡◌, ◌+◌, ◌<◌, ◌≤◌, ℕ, List, [], ◌∷◌, ◌++◌, All, IfOk, OnOk, length, slice_set, slice_index_or, replicate, vec_len};
-ghost use Rattle.ring_judge.specs.Queue.{IsBelow, part_of, sent_in};
-ghost use Rattle.ring_judge.specs.Lists.{lists_of};
+ghost use Rattle.ring_judge.specs.{Queue.IsBelow, Queue.part_of, Queue.sent_in, Lists.lists_of};
 
 use crate::message::Message;
 use crate::queue::QueueLine;

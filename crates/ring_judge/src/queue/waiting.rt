@@ -1,10 +1,8 @@
 //! The messages that the consumer of a queue was not shown yet.
 
 ghost use Rattle.std.specs.Prelude.{◌≡◌, ◌+◌, ◌<◌, ℕ, List, IfOk, IsTrue, ◌↔◌, length, Some, slice_get, vec_len, All};
-ghost use Rattle.ring_judge.specs.Queue.{AnswersLine, AreWaiting, IsBelow, sent_in};
-ghost use Rattle.ring_judge.specs.Lists.{lists_of};
-ghost use Rattle.ring_judge.specs.declared.message.Message.{Message};
-ghost use Rattle.ring_judge.specs.declared.queue.QueueLine.TheVariants.{Got};
+ghost use Rattle.ring_judge.specs.{Queue.AnswersLine, Queue.AreWaiting, Queue.IsBelow, Queue.sent_in, Lists.lists_of};
+ghost use Rattle.ring_judge.specs.declared.{message.Message.Message, queue.QueueLine.TheVariants.Got};
 
 use crate::message::Message;
 use crate::queue::QueueLine;

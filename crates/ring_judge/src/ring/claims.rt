@@ -1,8 +1,7 @@
 //! The claims that the consumer passes.
 
 ghost use Rattle.std.specs.Prelude.{◌≡◌, ◌+◌, ◌<◌, ◌≤◌, ◌↔◌, IsTrue, MatchOption, [], ◌∷◌, drop, length};
-ghost use Rattle.ring_layout.specs.Places.{max_position};
-ghost use Rattle.ring_layout.specs.Lists.{or_else};
+ghost use Rattle.ring_layout.specs.{Places.max_position, Lists.or_else};
 ghost use Rattle.ring_judge.specs.Ring.{IsCopyOf, IsHead, claims_from, end_of_claim, first_open, unaborted};
 ghost use Rattle.ring_judge.specs.Judged.{AreWithin, MovesHead};
 

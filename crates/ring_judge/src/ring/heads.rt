@@ -2,11 +2,9 @@
 
 ghost use Rattle.std.specs.Prelude.{◌≡◌, ◌+◌, ◌/◌, ◌<◌, ◌≤◌, ◌↔◌, ℕ, All, IsTrue, length, take, slice_index_or};
 ghost use Rattle.std.specs.Int.{is_power_of_two};
-ghost use Rattle.ring_layout.specs.History.{span};
-ghost use Rattle.ring_layout.specs.Places.{end_after, max_position};
-ghost use Rattle.ring_judge.specs.Ring.{end_of_claim};
+ghost use Rattle.ring_layout.specs.{History.span, Places.end_after, Places.max_position};
+ghost use Rattle.ring_judge.specs.{Ring.end_of_claim, declared.ring.RingClaim.RingClaim};
 ghost use Rattle.ring_judge.specs.Judged.{AreInOrder, AreWithin, FindsHead, IsBehind};
-ghost use Rattle.ring_judge.specs.declared.ring.RingClaim.{RingClaim};
 
 use crate::ring::RingClaim;
 use crate::ring::claims::end_of_claim;

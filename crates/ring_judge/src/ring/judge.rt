@@ -3,8 +3,7 @@
 ghost use Rattle.std.specs.Prelude.{◌≤◌, ◌^◌, IfOk, IsTrue};
 ghost use Rattle.std.specs.Int.{is_power_of_two};
 ghost use Rattle.ring_layout.specs.Places.{max_position};
-ghost use Rattle.ring_judge.specs.Ring.{JudgesRing};
-ghost use Rattle.ring_judge.specs.Judged.{IsJudged};
+ghost use Rattle.ring_judge.specs.{Ring.JudgesRing, Judged.IsJudged};
 
 use crate::ring::RingLine;
 use crate::ring::judged::Judged;

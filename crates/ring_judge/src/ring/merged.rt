@@ -2,8 +2,7 @@
 
 ghost use Rattle.std.specs.Prelude.{◌≡◌, ◌+◌, ◌-◌, ◌<◌, ◌≤◌, ◌++◌, ℕ, [], All, IfOk, MatchBool, OnOk, drop, length, slice_index, slice_index_or, slice_set, take};
 ghost use Rattle.std.specs.BinaryHeap.{heap_items, heap_len};
-ghost use Rattle.ring_judge.specs.Lists.{lists_of};
-ghost use Rattle.ring_judge.specs.Threads.{lines_of};
+ghost use Rattle.ring_judge.specs.{Lists.lists_of, Threads.lines_of};
 ghost use Rattle.ring_judge.specs.Merged.{AddsTurn, AreLists, AreMerged, FindsClaim, FindsClaimAt, HaveTurns, IsArranged, IsMerging, NoClaims, TakesTo, left_in};
 
 use crate::ring::RingLine;

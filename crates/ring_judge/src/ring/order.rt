@@ -1,8 +1,7 @@
 //! The lines of a run in the order in which they are judged.
 
 ghost use Rattle.std.specs.Prelude.{IfOk};
-ghost use Rattle.ring_judge.specs.Threads.{KeepsThreads};
-ghost use Rattle.ring_judge.specs.Histories.{EndsLate, IsBest};
+ghost use Rattle.ring_judge.specs.{Threads.KeepsThreads, Histories.EndsLate, Histories.IsBest};
 
 use crate::ring::RingLine;
 use crate::ring::merged::merged;

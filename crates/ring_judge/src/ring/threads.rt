@@ -1,8 +1,7 @@
 //! The lines of each thread.
 
 ghost use Rattle.std.specs.Prelude.{◌≡◌, ◌+◌, ◌<◌, ◌≤◌, ℕ, [], ◌∷◌, ◌++◌, All, IfOk, OnOk, slice_index_or, slice_set, vec_len};
-ghost use Rattle.ring_judge.specs.Lists.{lists_of};
-ghost use Rattle.ring_judge.specs.Threads.{lines_of, numbered, thread_of};
+ghost use Rattle.ring_judge.specs.{Lists.lists_of, Threads.lines_of, Threads.numbered, Threads.thread_of};
 
 use crate::ring::order::NumberedLine;
 use crate::ring::{RingClaim, RingLine};

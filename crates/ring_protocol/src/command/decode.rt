@@ -1,8 +1,7 @@
 //! The decoder of commands.
 
 ghost use Rattle.std.specs.Prelude.{◌≡◌, IfOk, IsOkAnd, IfErr};
-ghost use Rattle.std.specs.Option.{option_map};
-ghost use Rattle.std.specs.Result.{result_map_both};
+ghost use Rattle.std.specs.{Option.option_map, Result.result_map_both};
 ghost use Rattle.ring_protocol.specs.Command.{Instruction, content_of, Spells, IsCommandType};
 ghost use Rattle.ring_protocol.specs.Bad.{IsFaultOf};
 ghost use Rattle.ring_protocol.specs.Reading.{command_of, allocate_of, free_of, set_of, allocate_owned_of, close_of};

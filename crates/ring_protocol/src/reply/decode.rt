@@ -1,8 +1,7 @@
 //! The decoder of replies.
 
 ghost use Rattle.std.specs.Prelude.{◌≡◌, IfOk, IfErr};
-ghost use Rattle.ring_protocol.specs.Bad.{IsFaultOf};
-ghost use Rattle.ring_protocol.specs.Reply.{Spells, IsReplyType};
+ghost use Rattle.ring_protocol.specs.{Bad.IsFaultOf, Reply.Spells, Reply.IsReplyType};
 ghost use Rattle.ring_protocol.specs.Reading.{reply_of, allocated_of, done_of, refused_of, closed_of};
 
 use super::{Reply, type_ids};

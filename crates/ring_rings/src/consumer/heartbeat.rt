@@ -1,8 +1,7 @@
 //! The heartbeat of a consumer.
 ghost use Rattle.std.specs.Prelude.{◌≡◌};
 ghost use Rattle.ring_table.specs.Views.{with_beat};
-ghost use Rattle.ring_rings.specs.Ring.{received};
-ghost use Rattle.ring_rings.specs.Seats.{IsConsumerOf, consumer_view, IsSameConsumer};
+ghost use Rattle.ring_rings.specs.{Ring.received, Seats.IsConsumerOf, Seats.consumer_view, Seats.IsSameConsumer};
 
 use crate::bodies::Bodies;
 use crate::ring::{Consumer, Ring};

@@ -3,8 +3,7 @@
 ghost use Rattle.std.specs.Prelude.{◌≤◌, List};
 ghost use Rattle.ring_table.specs.declared.claim.PlacedMessage.{PlacedMessage};
 ghost use Rattle.ring_rings.specs.Seats.{IsConsumerOf, capacity_of, head_of, run_of, seat_view, IsSameConsumer};
-ghost use Rattle.ring_rings.specs.ReadingSteps.{HasCome, IsLeft, MayMoveTo};
-ghost use Rattle.ring_rings.specs.ReadingSteps.{SettlesAll, SettlesBefore};
+ghost use Rattle.ring_rings.specs.ReadingSteps.{HasCome, IsLeft, MayMoveTo, SettlesAll, SettlesBefore};
 
 use crate::bodies::Bodies;
 use crate::ring::{Consumer, Ring};

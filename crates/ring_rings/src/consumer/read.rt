@@ -2,10 +2,8 @@
 
 ghost use Rattle.std.specs.Prelude.{◌≡◌, ◌⊎◌, ◌+◌, ◌%◌, ◌<◌, ◌≤◌, ◌&&◌, ◌==◌, nat_lt};
 ghost use Rattle.ring_rings.specs.Seats.{IsConsumerOf, capacity_of, consumer_view, head_of, seat_view, IsSameConsumer};
-ghost use Rattle.ring_words.specs.Across.{ReadsAcross};
-ghost use Rattle.ring_words.specs.Controlled.{heeded};
-ghost use Rattle.ring_rings.specs.Reading.{Controls, EndsAt, ReadsTo};
-ghost use Rattle.ring_rings.specs.Ring.{Leaves, Receives};
+ghost use Rattle.ring_words.specs.{Across.ReadsAcross, Controlled.heeded};
+ghost use Rattle.ring_rings.specs.{Reading.Controls, Reading.EndsAt, Reading.ReadsTo, Ring.Leaves, Ring.Receives};
 ghost use Rattle.ring_rings.specs.ReadingSteps.{Ended, HasCome, MayMoveTo, SettlesAll};
 
 use crate::bodies::Bodies;

@@ -1,14 +1,11 @@
 //! Batches of a plain ring: messages that are written together. The records of a run are published by one store.
 ghost use Rattle.std.specs.Prelude.{◌≡◌, ◌+◌, ◌%◌, ◌/◌, ◌^◌, ◌≤◌, ◌<◌, ◌++◌, All, IfErr, IfOk, None, OnErr, OnOk, drop as without_first, length, pos, take as first_of, ◌-◌};
 ghost use Rattle.ring_layout.specs.Places.{IsCapacity, max_position};
-ghost use Rattle.ring_table.specs.RunBodies.{messages_of as batch_of, IsSendable};
+ghost use Rattle.ring_table.specs.{RunBodies.messages_of as batch_of, RunBodies.IsSendable, declared.view.View.View};
 ghost use Rattle.ring_table.specs.Runs.{run_bytes};
-ghost use Rattle.ring_table.specs.declared.view.View.{View};
-ghost use Rattle.ring_rings.specs.Batches.{batch_refusal_of, RefusesBatch, StopsAtFirst};
-ghost use Rattle.ring_rings.specs.Claiming.{IsRefusedBy, RefusesTry};
+ghost use Rattle.ring_rings.specs.{Batches.batch_refusal_of, Batches.RefusesBatch, Batches.StopsAtFirst, Ring.sent};
+ghost use Rattle.ring_rings.specs.{Claiming.IsRefusedBy, Claiming.RefusesTry, declared.fault.TryFault.TryFault};
 ghost use Rattle.ring_rings.specs.Making.{KnowsTail};
-ghost use Rattle.ring_rings.specs.Ring.{sent};
-ghost use Rattle.ring_rings.specs.declared.fault.TryFault.{TryFault};
 ghost use Rattle.ring_rings.specs.Seats.{capacity_of, view_of, IsProducerOf, MayClaim, OpensNone};
 
 use crate::fault::TryFault;

@@ -1,11 +1,9 @@
 //! The calls of a ring with any number of producers.
 ghost use Rattle.std.specs.Prelude.{◌≡◌, ◌↔◌, length, replicate, [], ◌∷◌, ◌++◌, true, IfErr, IfOk, IsTrue, OnErr, OnOk, is_err};
-ghost use Rattle.ring_table.specs.Staged.{AreRising};
-ghost use Rattle.ring_table.specs.Views.{producer_alone, without_share};
+ghost use Rattle.ring_table.specs.{Staged.AreRising, Views.producer_alone, Views.without_share};
 ghost use Rattle.ring_rings.specs.Claiming.{Claims, RefusesTry, Writes};
-ghost use Rattle.ring_rings.specs.Joining.{Joins};
+ghost use Rattle.ring_rings.specs.{Joining.Joins, Seats.capacity_of, Seats.claims_of, Seats.shares_of, Seats.view_of};
 ghost use Rattle.ring_rings.specs.Ring.{message, sent, AreMerged, HasMessage};
-ghost use Rattle.ring_rings.specs.Seats.{capacity_of, claims_of, shares_of, view_of};
 ghost use Rattle.ring_rings.specs.Seats.{IsNewClaimOf, IsProducerOf, KeepsBoth, KeepsClaims};
 
 use crate::bodies::Bodies;

@@ -3,8 +3,7 @@ ghost use Rattle.std.specs.Prelude.{◌≡◌, false, length, replicate, [], ◌
 ghost use Rattle.ring_layout.specs.Refusals.{all_shares};
 ghost use Rattle.ring_rings.specs.Claiming.{Claims, Refuses, Writes};
 ghost use Rattle.ring_rings.specs.Ring.{message, sent, HasMessage};
-ghost use Rattle.ring_rings.specs.Seats.{capacity_of, shares_of, view_of};
-ghost use Rattle.ring_rings.specs.Seats.{IsNewClaimOf, IsProducerOf, KeepsClaims};
+ghost use Rattle.ring_rings.specs.Seats.{capacity_of, shares_of, view_of, IsNewClaimOf, IsProducerOf, KeepsClaims};
 
 use crate::bodies::Bodies;
 use crate::claim::Claim;

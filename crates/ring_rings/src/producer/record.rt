@@ -1,11 +1,9 @@
 //! Stores of the headers of a claim.
 ghost use Rattle.ring_layout.specs.History.{IsMessage};
 ghost use Rattle.ring_rings.specs.Making.{HasNewest, IsNewest};
-ghost use Rattle.ring_table.specs.Changes.{blank, staged, with_header};
+ghost use Rattle.ring_table.specs.{Changes.blank, Changes.staged, Changes.with_header, Views.with_claims};
 ghost use Rattle.ring_table.specs.Seats.{IsSameSeat, IsSeatOf};
-ghost use Rattle.ring_table.specs.Views.{with_claims};
-ghost use Rattle.ring_table.specs.declared.claim.Stage.TheVariants.{Padded};
-ghost use Rattle.ring_table.specs.declared.claim.StagedClaim.{StagedClaim};
+ghost use Rattle.ring_table.specs.declared.claim.{Stage.TheVariants.Padded, StagedClaim.StagedClaim};
 ghost use Rattle.std.specs.Prelude.{◌≡◌, ℕ, ◌+◌, ◌≤◌, List, [], ◌∷◌, ◌++◌};
 
 use crate::bodies::Bodies;

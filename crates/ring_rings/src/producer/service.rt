@@ -2,8 +2,7 @@
 ghost use Rattle.std.specs.Prelude.{◌≡◌, ◌≤◌};
 ghost use Rattle.ring_table.specs.ServiceSteps.{DrawsId, LoadsHeartbeat};
 ghost use Rattle.ring_rings.specs.Joining.{LoadsPositions};
-ghost use Rattle.ring_rings.specs.Ring.{sent};
-ghost use Rattle.ring_rings.specs.Seats.{capacity_of, view_of, IsProducerOf, KeepsClaims};
+ghost use Rattle.ring_rings.specs.{Ring.sent, Seats.capacity_of, Seats.view_of, Seats.IsProducerOf, Seats.KeepsClaims};
 
 use crate::bodies::Bodies;
 use crate::ring::{Producer, Ring};

@@ -1,15 +1,11 @@
 //! The calls by which producers settle their claims.
 ghost use Rattle.std.specs.Prelude.{◌≡◌, ◌≢◌, ◌+◌, ◌<◌, ◌↔◌, length, IsTrue, OnErr, OnOk, is_err};
 ghost use Rattle.ring_layout.specs.declared.message.ClaimState.TheVariants.{Aborted, Committed, Open};
-ghost use Rattle.ring_layout.specs.declared.message.Message.{Message};
-ghost use Rattle.ring_layout.specs.History.{overwritten, IsMessage};
-ghost use Rattle.ring_table.specs.declared.claim.Stage.TheVariants.{Stored};
-ghost use Rattle.ring_table.specs.Changes.{blank, staged};
+ghost use Rattle.ring_layout.specs.{declared.message.Message.Message, History.overwritten, History.IsMessage};
+ghost use Rattle.ring_table.specs.{declared.claim.Stage.TheVariants.Stored, Seats.IsSameSeat, Seats.IsSeatOf};
+ghost use Rattle.ring_table.specs.{Changes.blank, Changes.staged, Staged.AreRising};
 ghost use Rattle.ring_table.specs.ProducerSteps.{with_changed, HasClaimAt, IsStagedOpen};
-ghost use Rattle.ring_table.specs.Seats.{IsSameSeat, IsSeatOf};
-ghost use Rattle.ring_table.specs.Staged.{AreRising};
-ghost use Rattle.ring_rings.specs.Bodies.{PutsBytes};
-ghost use Rattle.ring_rings.specs.Ring.{message, sent, HasMessage, SendsClaimed};
+ghost use Rattle.ring_rings.specs.{Bodies.PutsBytes, Ring.message, Ring.sent, Ring.HasMessage, Ring.SendsClaimed};
 ghost use Rattle.ring_rings.specs.Seats.{view_of, IsOpenClaimOf, IsProducerOf, KeepsOthers};
 
 use crate::bodies::Bodies;

@@ -1,9 +1,8 @@
 //! One try to claim or to write. Only the move of the tail depends on the kind of the ring.
 ghost use Rattle.std.specs.Prelude.{◌≡◌, length, replicate, [], ◌∷◌, ◌++◌, IfErr, IfOk, OnErr, OnOk};
 ghost use Rattle.ring_rings.specs.Claiming.{Claims, RefusesTry, Writes};
-ghost use Rattle.ring_rings.specs.Ring.{message, sent, HasMessage};
+ghost use Rattle.ring_rings.specs.{Ring.message, Ring.sent, Ring.HasMessage, Seats.MayClaim, Seats.OpensNone};
 ghost use Rattle.ring_rings.specs.Seats.{capacity_of, view_of, IsNewClaimOf, IsProducerOf, KeepsHoldings};
-ghost use Rattle.ring_rings.specs.Seats.{MayClaim, OpensNone};
 
 use crate::bodies::Bodies;
 use crate::claim::Claim;

@@ -2,8 +2,7 @@
 ghost use Rattle.std.specs.Prelude.{◌≡◌, ◌≢◌, true, IfErr, IfOk, string_bytes, ◌↔◌, IfNone, IfSome, IsSome, OnOk};
 ghost use Rattle.ring_protocol.specs.Command.{content_of_request};
 ghost use Rattle.ring_rings.specs.Seats.{all_shares, capacity_of, shares_of, view_of, IsProducerOf, OpensNone};
-ghost use Rattle.ring_ends.specs.End.{WritesAlone};
-ghost use Rattle.ring_ends.specs.Held.{IsFree, held_in};
+ghost use Rattle.ring_ends.specs.{End.WritesAlone, Held.IsFree, Held.held_in};
 ghost use Rattle.ring_scenario.specs.ServiceTexts.{counter_text, counters_text, work_stop_text};
 ghost use Rattle.ring_scenario.specs.Keeping.{KeepsButProducer};
 ghost use Rattle.ring_scenario.specs.Serving.{FitsRoom, RefusesRequest, SendsRequest};

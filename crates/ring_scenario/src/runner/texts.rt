@@ -1,7 +1,6 @@
 //! The texts of the results of calls.
 ghost use Rattle.std.specs.Prelude.{◌≡◌, ◌++◌, false, IfOk, string_bytes};
-ghost use Rattle.ring_scenario.specs.RefusalTexts.{claim_refused, load_refused};
-ghost use Rattle.ring_scenario.specs.ServiceTexts.{value_text};
+ghost use Rattle.ring_scenario.specs.{RefusalTexts.claim_refused, RefusalTexts.load_refused, ServiceTexts.value_text};
 ghost use Rattle.ring_scenario.specs.Texts.{answer_text, claimed_text, done_text, number_text, ok_text, read_text, received_text, stop_text};
 
 use super::Runner;

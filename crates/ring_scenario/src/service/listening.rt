@@ -1,8 +1,7 @@
 //! The listeners to the conductor's replies.
 ghost use Rattle.std.specs.Prelude.{◌≡◌, IfNone, IfOk, IfSome, OnErr, OnSome};
 ghost use Rattle.ring_layout.specs.Refusals.{all_shares};
-ghost use Rattle.ring_board.specs.Refusals.{subscribe_refusal_of, IsSubscribedUnless};
-ghost use Rattle.ring_board.specs.Seats.{shares_of};
+ghost use Rattle.ring_board.specs.{Refusals.subscribe_refusal_of, Refusals.IsSubscribedUnless, Seats.shares_of};
 ghost use Rattle.ring_service.specs.Conducting.{KeepsTheRest, transmitter_of};
 ghost use Rattle.ring_ends.specs.Held.{IsFree, held_in};
 ghost use Rattle.ring_ends.specs.Receivers.{LeavesAt, ReceivesAt, Subscribes, by_number};

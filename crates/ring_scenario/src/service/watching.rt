@@ -2,9 +2,8 @@
 ghost use Rattle.std.specs.Prelude.{◌≡◌, ◌<◌, ◌↔◌, IfNone, IfOk, IfSome, IsOk, OnErr, OnSome};
 ghost use Rattle.ring_layout.specs.Refusals.{all_shares};
 ghost use Rattle.ring_counters.specs.Manager.{writes_of};
-ghost use Rattle.ring_counters.specs.Seats.{values_count};
+ghost use Rattle.ring_counters.specs.{Seats.values_count, declared.values.seats.ValueReader.ValueReader};
 ghost use Rattle.ring_service.specs.Conducting.{manager_in, value_shares_of, KeepsAllCounters};
-ghost use Rattle.ring_counters.specs.declared.values.seats.ValueReader.{ValueReader};
 ghost use Rattle.ring_ends.specs.Held.{IsFree, IsHeld, held_in};
 ghost use Rattle.ring_scenario.specs.Keeping.{KeepsButWatchers, KeepsRing};
 ghost use Rattle.ring_scenario.specs.Watchers.{Peeks, Unwatches, Watches};

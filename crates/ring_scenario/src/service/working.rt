@@ -1,7 +1,6 @@
 //! The conductor's work, and the calls that read its counters.
 ghost use Rattle.std.specs.Prelude.{◌≡◌, IfOk};
-ghost use Rattle.ring_counters.specs.Infos.{AreInfos};
-ghost use Rattle.ring_counters.specs.Manager.{registry_of};
+ghost use Rattle.ring_counters.specs.{Infos.AreInfos, Manager.registry_of};
 ghost use Rattle.ring_counters.specs.Registry.{answer, counter_at, id_refusal_of, live_of};
 ghost use Rattle.ring_service.specs.Conducting.{Works, manager_in, ledger_of, ring_view};
 ghost use Rattle.ring_scenario.specs.Keeping.{KeepsButConductor};

@@ -2,11 +2,9 @@
 
 ghost use Rattle.std.specs.Prelude.{◌≡◌, ◌^◌, ◌≤◌, All};
 ghost use Rattle.ring_board.specs.Board.{heard_by, transmitted};
-ghost use Rattle.ring_service.specs.declared.conductor.WorkStop.TheVariants.{Limit};
+ghost use Rattle.ring_service.specs.{declared.conductor.WorkStop.TheVariants.Limit, Running.Runs};
 ghost use Rattle.ring_layout.specs.Lists.{Begins};
-ghost use Rattle.ring_service.specs.Conducting.{IsConductorOf};
-ghost use Rattle.ring_service.specs.Conducting.{ledger_of, ring_view, transmitter_of, value_shares_of};
-ghost use Rattle.ring_service.specs.Running.{Runs};
+ghost use Rattle.ring_service.specs.Conducting.{IsConductorOf, ledger_of, ring_view, transmitter_of, value_shares_of};
 
 use crate::conductor::{Conductor, Cycle, Work, WorkStop};
 use ring_board::Board;

@@ -1,13 +1,10 @@
 //! Receivers of the conductor's replies, and readers of the counters' values.
 
 ghost use Rattle.std.specs.Prelude.{◌≡◌, ◌+◌, ◌<◌, ◌↔◌, IfOk, IsOk, OnErr, OnOk};
-ghost use Rattle.ring_board.specs.Refusals.{subscribe_refusal_of, IsSubscribedUnless};
-ghost use Rattle.ring_board.specs.Runs.{AreRuns};
-ghost use Rattle.ring_board.specs.Board.{copied, subscribed_at, transmitted};
+ghost use Rattle.ring_board.specs.{Refusals.subscribe_refusal_of, Refusals.IsSubscribedUnless, Runs.AreRuns};
+ghost use Rattle.ring_board.specs.{Board.copied, Board.subscribed_at, Board.transmitted, Views.fewer, Views.newcomer};
 ghost use Rattle.ring_board.specs.Seats.{receiver_view, shares_of, IsReceiverOf, IsTransmitterOf};
-ghost use Rattle.ring_board.specs.Views.{fewer, newcomer};
-ghost use Rattle.ring_counters.specs.Agree.{Agree};
-ghost use Rattle.ring_counters.specs.Manager.{registry_of, writes_of, IsManagerOf};
+ghost use Rattle.ring_counters.specs.{Agree.Agree, Manager.registry_of, Manager.writes_of, Manager.IsManagerOf};
 ghost use Rattle.ring_counters.specs.Seats.{IsNewReaderOf, IsReaderOf, made_of, loads_of};
 ghost use Rattle.ring_counters.specs.ValueWrites.{AreLoads};
 ghost use Rattle.ring_service.specs.Conducting.{JoinsReceiver, KeepsAllCounters, KeepsTheRest};

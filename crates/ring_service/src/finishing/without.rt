@@ -1,6 +1,5 @@
 //! The call that finishes a conductor whose producers were lost.
-ghost use Rattle.ring_service.specs.Conducting.{IsConductorOf};
-ghost use Rattle.ring_service.specs.Finishing.{HandsOnWithout, HeadlineWithout};
+ghost use Rattle.ring_service.specs.{Conducting.IsConductorOf, Finishing.HandsOnWithout, Finishing.HeadlineWithout};
 
 use crate::conductor::Conductor;
 use ring_board::{Board, ClosedBoard};

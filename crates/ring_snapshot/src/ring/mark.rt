@@ -1,10 +1,7 @@
 //! The marks in the words of a plain ring.
 ghost use Rattle.std.specs.Prelude.{◌≡◌, ℕ, ◌+◌, ◌-◌, ◌/◌, ◌%◌, ◌<◌, ◌≤◌, ◌<ℤ◌, pos, length, slice_index};
-ghost use Rattle.ring_layout.specs.Marks.{padding_kind};
-ghost use Rattle.ring_layout.specs.declared.message.Claim.{Claim};
-ghost use Rattle.ring_layout.specs.Headers.{header_of, padding_header};
-ghost use Rattle.ring_layout.specs.Places.{index, IsCapacity};
-ghost use Rattle.ring_layout.specs.Layout.{ring_words, tail_index};
+ghost use Rattle.ring_layout.specs.{Marks.padding_kind, declared.message.Claim.Claim, Places.index, Places.IsCapacity};
+ghost use Rattle.ring_layout.specs.{Headers.header_of, Headers.padding_header, Layout.ring_words, Layout.tail_index};
 ghost use Rattle.ring_snapshot.specs.Marks.{HasMark, header_as, header_at, header_with, is_end, is_message_of, mark_at, marked_header, run_of};
 ghost use Rattle.ring_snapshot.specs.RingRecords.{length_in};
 

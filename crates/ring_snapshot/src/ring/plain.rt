@@ -1,14 +1,10 @@
 //! The words of a plain ring. Its own words have marks. Slots have the headers and the words of the bodies at the same
 //! indexes.
 ghost use Rattle.std.specs.Prelude.{◌≡◌, ◌≢◌, ℕ, ◌+◌, ◌-◌, ◌/◌, ◌≤◌, ◌==◌, if◌then◌else◌, List, length, replicate, set, slice_index, Err, IfErr, IfOk, None, Some};
-ghost use Rattle.ring_layout.specs.declared.message.Claim.{Claim};
-ghost use Rattle.ring_layout.specs.History.{overwritten};
-ghost use Rattle.ring_layout.specs.Places.{index, IsCapacity};
-ghost use Rattle.ring_layout.specs.Layout.{ring_words};
-ghost use Rattle.ring_layout.specs.Refusals.{IsRefusedBy};
+ghost use Rattle.ring_layout.specs.{declared.message.Claim.Claim, History.overwritten, Places.index, Places.IsCapacity};
+ghost use Rattle.ring_layout.specs.{Layout.ring_words, Refusals.IsRefusedBy};
 ghost use Rattle.ring_snapshot.specs.declared.ring_finding.RingFinding.TheVariants.{BadBodies, BadSize};
-ghost use Rattle.ring_snapshot.specs.Marks.{header_with};
-ghost use Rattle.ring_snapshot.specs.PlainRecords.{IsPlain, LiesBetween};
+ghost use Rattle.ring_snapshot.specs.{Marks.header_with, PlainRecords.IsPlain, PlainRecords.LiesBetween};
 ghost use Rattle.ring_snapshot.specs.PlainWords.{joined, joined_from, span_at, with_body, with_record, with_zeros};
 
 use crate::ring::RingSnapshot;

@@ -1,7 +1,6 @@
 //! The search for rings among the words of memory.
 ghost use Rattle.std.specs.Prelude.{◌≡◌, ℕ, ◌+◌, ◌-◌, ◌/◌, ◌%◌, ◌<◌, ◌≤◌, false, true, length, IfNone, IfSome};
-ghost use Rattle.ring_layout.specs.Places.{IsCapacity};
-ghost use Rattle.ring_layout.specs.Layout.{ring_words};
+ghost use Rattle.ring_layout.specs.{Places.IsCapacity, Layout.ring_words};
 ghost use Rattle.ring_snapshot.specs.Search.{is_ring_at};
 
 use crate::listing::Listing;

@@ -4,8 +4,7 @@ ghost use Rattle.std.specs.Int.{w32};
 ghost use Rattle.ring_layout.specs.Headers.{open_header};
 ghost use mathlib.Core.Option.{some};
 ghost use Rattle.ring_layout.specs.declared.message.ClaimState.TheVariants.{Aborted, Committed};
-ghost use Rattle.ring_table.specs.Staged.{AreRising};
-ghost use Rattle.ring_table.specs.Views.{Logs, Wanted, logged};
+ghost use Rattle.ring_table.specs.{Staged.AreRising, Views.Logs, Views.Wanted, Views.logged};
 ghost use Rattle.ring_table.specs.ProducerSteps.{LoadsHead, LoadsOwn, LoadsTail, MovesOwnTail, MovesTail};
 ghost use Rattle.ring_table.specs.ProducerSteps.{StoresBody, StoresClaimed, StoresPadding, StoresSettled};
 

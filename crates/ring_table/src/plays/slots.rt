@@ -3,9 +3,8 @@ ghost use Rattle.std.specs.Prelude.{◌≡◌};
 ghost use Rattle.ring_table.specs.Staged.{AreRising};
 ghost use Rattle.ring_layout.specs.declared.message.ClaimState.TheVariants.{Committed, Open};
 ghost use Rattle.ring_table.specs.Marks.{LoadsInRun, LoadsMark, SplitsAtLast, SplitsAtScan};
-ghost use Rattle.ring_table.specs.Runs.{StoresRun};
+ghost use Rattle.ring_table.specs.{Runs.StoresRun, SlotSteps.ReturnsSlots, SlotSteps.StoresRecord, SlotSteps.TakesBody};
 ghost use Rattle.ring_table.specs.SlotSteps.{GivesBody, LendsBody, ReservesAt, ReservesBody, ReturnsBody};
-ghost use Rattle.ring_table.specs.SlotSteps.{ReturnsSlots, StoresRecord, TakesBody};
 
 use crate::view::View;
 use atomic_table::Play;

@@ -1,10 +1,9 @@
 //! The steps of the consumer.
 ghost use Rattle.std.specs.Prelude.{◌≡◌, ◌+◌, ◌%◌, ◌<◌, true};
 ghost use Rattle.ring_layout.specs.Places.{index};
-ghost use Rattle.ring_table.specs.Views.{logged, no_run, with_run};
+ghost use Rattle.ring_table.specs.{Views.logged, Views.no_run, Views.with_run, Seats.IsSameSeat, Seats.IsSeatOf};
 ghost use Rattle.ring_table.specs.ConsumerSteps.{ClearsWord, LoadsBody, LoadsHeader, LoadsPassed};
 ghost use Rattle.ring_table.specs.ConsumerSteps.{StandsBefore, StoresHead, StoresHeadBefore};
-ghost use Rattle.ring_table.specs.Seats.{IsSameSeat, IsSeatOf};
 
 use crate::mode::InWords;
 use crate::plays::consumer::{

@@ -2,14 +2,12 @@
 ghost use Rattle.std.specs.Prelude.{◌≡◌, ◌+◌, ◌-◌, ◌%◌, ◌^◌, ◌≤◌, ◌<◌, [], ◌∷◌, List, ℕ, length, true};
 ghost use Rattle.ring_layout.specs.declared.message.ClaimState.TheVariants.{Aborted, Committed};
 ghost use Rattle.ring_layout.specs.History.{IsMessage, span};
-ghost use Rattle.ring_table.specs.Changes.{blank, staged};
+ghost use Rattle.ring_table.specs.{Changes.blank, Changes.staged, Seats.IsSameSeat, Seats.IsSeatOf, Views.with_run};
 ghost use Rattle.ring_table.specs.ConsumerSteps.{LoadsHeader, StandsBefore, StoresHead, StoresHeadBefore};
 ghost use Rattle.ring_table.specs.Filling.{IsSameTable};
 ghost use Rattle.ring_table.specs.Marks.{LoadsMark, MayStop, SplitsAtLast, SplitsAtScan, TakesRecord};
 ghost use Rattle.ring_table.specs.ProducerSteps.{HasClaimAt, IsStagedOpen, Mine, NeedsPadding, with_changed};
-ghost use Rattle.ring_table.specs.Seats.{IsSameSeat, IsSeatOf};
 ghost use Rattle.ring_table.specs.SlotSteps.{with_out, HasLast, IsHolderOf, IsSameHolder};
-ghost use Rattle.ring_table.specs.Views.{with_run};
 ghost use Rattle.ring_table.specs.Staged.{AreRising, PlacedMessage, Padded, Stored};
 
 use crate::mode::InSlots;

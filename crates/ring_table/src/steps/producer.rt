@@ -1,15 +1,12 @@
 //! The steps of a producer on the tail, the head and its claims.
 ghost use Rattle.std.specs.Prelude.{◌≡◌, ◌+◌, ◌%◌, ◌<◌, ◌≤◌};
 ghost use Rattle.ring_layout.specs.declared.message.ClaimState.TheVariants.{Aborted, Committed, Open};
-ghost use Rattle.ring_layout.specs.History.{IsMessage};
-ghost use Rattle.ring_layout.specs.Places.{index};
-ghost use Rattle.ring_layout.specs.Refusals.{all_shares};
-ghost use Rattle.ring_table.specs.Staged.{AreRising, Padded, Stored};
+ghost use Rattle.ring_layout.specs.{History.IsMessage, Places.index, Refusals.all_shares};
+ghost use Rattle.ring_table.specs.{Staged.AreRising, Staged.Padded, Staged.Stored, Seats.IsSameSeat, Seats.IsSeatOf};
 ghost use Rattle.ring_table.specs.Changes.{blank, with_header, staged, with_body_word};
 ghost use Rattle.ring_table.specs.Views.{logged};
 ghost use Rattle.ring_table.specs.ProducerSteps.{HasClaimAt, IsClaimable, IsStagedOpen, NeedsHeader, NeedsPadding, IsWordOfBody};
 ghost use Rattle.ring_table.specs.ProducerSteps.{LoadsHead, LoadsOwn, LoadsTail, MovesOwnTail, MovesTail, with_changed};
-ghost use Rattle.ring_table.specs.Seats.{IsSameSeat, IsSeatOf};
 
 use crate::mode::{InWords, Mode};
 use crate::plays::producer::{

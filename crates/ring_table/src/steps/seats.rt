@@ -1,8 +1,7 @@
 //! The steps that cut a seat in two or put two together. Each is a load of one word.
 ghost use Rattle.std.specs.Prelude.{◌≡◌, ◌<◌, [], true, false};
 ghost use Rattle.ring_table.specs.Views.{consumer_alone, with_consumer_of, without_consumer};
-ghost use Rattle.ring_table.specs.Views.{producer_alone, with_producer_of, without_share};
-ghost use Rattle.ring_table.specs.Seats.{IsSameSeat};
+ghost use Rattle.ring_table.specs.{Views.producer_alone, Views.with_producer_of, Views.without_share, Seats.IsSameSeat};
 
 use crate::mode::Mode;
 use crate::plays::seats::{OneProducer, TheConsumer};

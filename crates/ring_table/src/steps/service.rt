@@ -1,8 +1,7 @@
 //! The steps on the head cache, the correlation counter and the heartbeat.
 ghost use Rattle.std.specs.Prelude.{◌≡◌, ◌<◌, ◌≤◌, true};
-ghost use Rattle.ring_table.specs.Views.{with_beat};
+ghost use Rattle.ring_table.specs.{Views.with_beat, Seats.IsSameSeat, Seats.IsSeatOf};
 ghost use Rattle.ring_table.specs.ServiceSteps.{DrawsId, LoadsCache, LoadsHeartbeat};
-ghost use Rattle.ring_table.specs.Seats.{IsSameSeat, IsSeatOf};
 
 use crate::mode::Mode;
 use crate::plays::service::{DrawId, LoadCache, LoadHeartbeat, StoreCache, StoreHeartbeat};

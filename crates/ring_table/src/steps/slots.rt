@@ -2,14 +2,9 @@
 //! seat reads and writes the slots as plain memory.
 ghost use Rattle.std.specs.Prelude.{◌≡◌, ◌+◌, ◌/◌, ◌<◌, [], ◌∷◌, List, ℕ, length, true};
 ghost use Rattle.ring_layout.specs.declared.message.ClaimState.TheVariants.{Committed, Open};
-ghost use Rattle.ring_layout.specs.History.{IsMessage};
-ghost use Rattle.ring_layout.specs.Places.{index};
-ghost use Rattle.ring_table.specs.Staged.{AreRising};
-ghost use Rattle.ring_table.specs.Changes.{blank};
-ghost use Rattle.ring_table.specs.ProducerSteps.{HasClaimAt, HasNewestAt};
-ghost use Rattle.ring_table.specs.Seats.{IsSameSeat, IsSeatOf};
-ghost use Rattle.ring_layout.specs.declared.message.Message.{Message};
-ghost use Rattle.ring_table.specs.Runs.{HasRun, StoresRun};
+ghost use Rattle.ring_layout.specs.{History.IsMessage, Places.index, declared.message.Message.Message};
+ghost use Rattle.ring_table.specs.{Staged.AreRising, Changes.blank, Seats.IsSameSeat, Seats.IsSeatOf};
+ghost use Rattle.ring_table.specs.{ProducerSteps.HasClaimAt, ProducerSteps.HasNewestAt, Runs.HasRun, Runs.StoresRun};
 ghost use Rattle.ring_table.specs.SlotSteps.{GivesBody, HasLast, IsHolderOf, IsLent};
 ghost use Rattle.ring_table.specs.SlotSteps.{IsOpen, IsPadded, IsReserved, IsSameHolder, IsTaken};
 ghost use Rattle.ring_table.specs.SlotSteps.{LendsBody, ReservesAt, ReservesBody, ReturnsBody, ReturnsSlots, StoresRecord, TakesBody};

@@ -1,10 +1,7 @@
 //! Taking what is left in a ring.
 ghost use Rattle.std.specs.Prelude.{◌≡◌, List, [], length};
-ghost use Rattle.ring_layout.specs.declared.message.Claim.{Claim};
-ghost use Rattle.ring_layout.specs.History.{committed_of};
-ghost use Rattle.ring_words.specs.Ring.{Has};
-ghost use Rattle.ring_words.specs.Open.{ClaimAt, IsOpen};
-ghost use Rattle.ring_words.specs.Drain.{AllSettled, Drains};
+ghost use Rattle.ring_layout.specs.{declared.message.Claim.Claim, History.committed_of};
+ghost use Rattle.ring_words.specs.{Ring.Has, Open.ClaimAt, Open.IsOpen, Drain.AllSettled, Drain.Drains};
 
 use crate::read::action::Action;
 use crate::read::handler::Handler;

@@ -1,9 +1,7 @@
 //! Records at the head of a ring.
 ghost use Rattle.std.specs.Prelude.{◌≡◌, ◌≢◌, ℕ, ◌+◌, ◌-◌, ◌*◌, ◌/◌, ◌%◌, ◌^◌, ◌<◌, ◌≤◌, List, ◌∷◌, length, slice_index};
 ghost use Rattle.ring_words.specs.Ring.{ring, IsRingAt, Has, head_of};
-ghost use Rattle.ring_layout.specs.declared.message.Claim.{Claim};
-ghost use Rattle.ring_layout.specs.declared.message.Message.{Message};
-ghost use Rattle.ring_layout.specs.History.{span};
+ghost use Rattle.ring_layout.specs.{declared.message.Claim.Claim, declared.message.Message.Message, History.span};
 ghost use Rattle.ring_layout.specs.Headers.{padding_type};
 ghost use Rattle.ring_words.specs.Reading.{Sees, SeesCommitted, Leaves, MovesHead, IsAtHead};
 

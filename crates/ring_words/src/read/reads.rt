@@ -1,14 +1,10 @@
 //! Reads of the ring with one owner.
 ghost use Rattle.std.specs.Prelude.{◌≡◌, ◌≢◌, ◌+◌, ◌%◌, ◌<◌, ◌≤◌, ◌&&◌, ◌==◌, nat_lt, List, ◌∷◌, Some};
-ghost use Rattle.ring_layout.specs.declared.message.Claim.{Claim};
-ghost use Rattle.ring_layout.specs.declared.message.Message.{Message};
+ghost use Rattle.ring_layout.specs.declared.message.{Claim.Claim, Message.Message};
 ghost use Rattle.ring_layout.specs.Headers.{padding_type};
-ghost use Rattle.ring_words.specs.Ring.{Has, IsRing, head_of};
-ghost use Rattle.ring_words.specs.Open.{ClaimAt, IsOpen};
+ghost use Rattle.ring_words.specs.{Ring.Has, Ring.IsRing, Ring.head_of, Controlled.heeded, Read.ReadsTo, Read.Controls};
+ghost use Rattle.ring_words.specs.{Open.ClaimAt, Open.IsOpen, Across.ReadsAcross};
 ghost use Rattle.ring_words.specs.Reading.{Sees, SeesCommitted, IsBlocked, Leaves, MovesHead};
-ghost use Rattle.ring_words.specs.Across.{ReadsAcross};
-ghost use Rattle.ring_words.specs.Controlled.{heeded};
-ghost use Rattle.ring_words.specs.Read.{ReadsTo, Controls};
 
 use crate::read::action::Action;
 use crate::read::end::{ReadEnd, Stop};

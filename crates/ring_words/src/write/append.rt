@@ -1,10 +1,8 @@
 //! Storing a record after the tail.
 ghost use Rattle.std.specs.Prelude.{◌≡◌, ℕ, ◌+◌, ◌-◌, ◌*◌, ◌/◌, ◌%◌, ◌^◌, ◌<◌, ◌≤◌, pos, neg_ℤ, ◌≤ℤ◌, length, slice_index, slice_set};
-ghost use Rattle.ring_layout.specs.History.{span};
-ghost use Rattle.ring_layout.specs.Places.{IsCapacity, index, next_place};
-ghost use Rattle.ring_words.specs.Ring.{ring, IsRing, tail_of};
+ghost use Rattle.ring_layout.specs.{History.span, Places.IsCapacity, Places.index, Places.next_place};
+ghost use Rattle.ring_words.specs.{Ring.ring, Ring.IsRing, Ring.tail_of, Storing.IsAdmitted, Storing.padded};
 ghost use Rattle.ring_words.specs.Change.{AppendsClaim, opened, written};
-ghost use Rattle.ring_words.specs.Storing.{IsAdmitted, padded};
 
 use ring_layout::ring_buffer_descriptor::TAIL_POSITION_WORD;
 use ring_layout::{

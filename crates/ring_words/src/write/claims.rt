@@ -2,11 +2,9 @@
 ghost use Rattle.std.specs.Prelude.{◌≡◌, ◌≢◌, ◌+◌, ◌%◌, ◌<◌, ◌↔◌, pos, ◌≤ℤ◌, length, IfOk, OnOk, OnErr, IsTrue, is_err};
 ghost use Rattle.ring_layout.specs.declared.message.ClaimState.TheVariants.{Open, Committed, Aborted};
 ghost use Rattle.ring_layout.specs.Places.{IsCapacity};
-ghost use Rattle.ring_words.specs.Ring.{tail_of};
-ghost use Rattle.ring_words.specs.Open.{ClaimAt, IsOpen, fresh_claim};
+ghost use Rattle.ring_words.specs.{Ring.tail_of, Open.ClaimAt, Open.IsOpen, Open.fresh_claim, Storing.IsAdmitted};
 ghost use Rattle.ring_words.specs.Refusal.{refusal_of, IsRefusedBy};
 ghost use Rattle.ring_words.specs.Change.{AppendsClaim, PutsInto, Settles, opened, written};
-ghost use Rattle.ring_words.specs.Storing.{IsAdmitted};
 
 use crate::claim::SoloClaim;
 use crate::fault::{ClaimFault, PutRange};

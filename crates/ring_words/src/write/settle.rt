@@ -1,11 +1,9 @@
 //! What an owner does to an open claim.
 ghost use Rattle.std.specs.Prelude.{◌≡◌, ◌≢◌, ◌+◌, ◌^◌, ◌≤◌, length};
-ghost use Rattle.ring_layout.specs.declared.message.Claim.{Claim};
-ghost use Rattle.ring_layout.specs.declared.message.ClaimState.TheVariants.{Open};
+ghost use Rattle.ring_layout.specs.declared.message.{Claim.Claim, ClaimState.TheVariants.Open};
 ghost use Rattle.ring_layout.specs.Headers.{header_of};
 ghost use Rattle.ring_words.specs.Ring.{ring, IsRing};
-ghost use Rattle.ring_words.specs.Open.{ClaimAt, IsOpen};
-ghost use Rattle.ring_words.specs.Change.{PutsInto, Settles, settled_as};
+ghost use Rattle.ring_words.specs.{Open.ClaimAt, Open.IsOpen, Change.PutsInto, Change.Settles, Change.settled_as};
 
 use crate::claim::SoloClaim;
 use crate::words::overwrite_body;

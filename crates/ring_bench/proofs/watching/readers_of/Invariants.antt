@@ -1,6 +1,5 @@
 use Rattle.std.proofs.Common.{All}
-use Rattle.ring_counters.specs.Manager.{IsManagerOf}
-use Rattle.ring_counters.specs.Seats.{IsReaderOf}
+use Rattle.ring_counters.specs.{Manager.IsManagerOf, Seats.IsReaderOf}
 use Rattle.ring_bench.proofs.watching.readers_of.Given as goal
 
 abbrev pub invariant-loop : goal.invariant-loop

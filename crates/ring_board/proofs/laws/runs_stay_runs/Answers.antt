@@ -1,9 +1,6 @@
 use Rattle.std.proofs.Common.{ℕ, List, [], ◌∷◌, ◌++◌, sym, subst, append_assoc}
-use Rattle.ring_board.specs.declared.shared.view.Record.{Record}
-use Rattle.ring_board.specs.declared.shared.view.Taken.{Taken}
-use Rattle.ring_board.specs.Runs.{AreRuns}
-use Rattle.ring_board.proofs.StoreLemmas.{append_nil}
-use Rattle.ring_board.proofs.SeatLemmas.{runs_more}
+use Rattle.ring_board.specs.{declared.shared.view.Record.Record, declared.shared.view.Taken.Taken, Runs.AreRuns}
+use Rattle.ring_board.proofs.{StoreLemmas.append_nil, SeatLemmas.runs_more}
 use Rattle.ring_board.proofs.laws.runs_stay_runs.Goals as goal
 
 runs_longer : (sent more : List Record) (from : ℕ) (copies : List Taken) → AreRuns sent from copies

@@ -2,8 +2,7 @@
 ghost use Rattle.std.specs.Prelude.{◌≡◌, ◌+◌, ◌*◌, ◌/◌, ◌<◌, length, ℕ, List};
 ghost use Rattle.ring_layout.specs.Places.{index};
 ghost use Rattle.ring_board.specs.declared.shared.view.Stage.TheVariants.{Resting, Reading, Behind};
-ghost use Rattle.ring_board.specs.Records.{body_len, word_count};
-ghost use Rattle.ring_board.specs.Seats.{IsSeatOf, IsSameSeat};
+ghost use Rattle.ring_board.specs.{Records.body_len, Records.word_count, Seats.IsSeatOf, Seats.IsSameSeat};
 ghost use Rattle.ring_board.specs.ReceiverSteps.{IsHeaderPlace, IsUnread, IsComplete, LoadsTail, LoadsHeader, LoadsWord, LoadsIntent, AnswersEntry, LoadsLatest, LoadsUnread, ChecksAnswered};
 
 use crate::board::Board;

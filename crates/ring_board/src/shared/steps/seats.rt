@@ -1,8 +1,7 @@
 //! The steps that split a seat or join two seats. Each step is a load of one word.
 ghost use Rattle.std.specs.Prelude.{◌≡◌, ◌<◌, []};
-ghost use Rattle.ring_board.specs.declared.shared.view.Stage.TheVariants.{Idle};
+ghost use Rattle.ring_board.specs.{declared.shared.view.Stage.TheVariants.Idle, Seats.IsSeatOf, Seats.IsSameSeat};
 ghost use Rattle.ring_board.specs.Views.{fewer, newcomer, joined};
-ghost use Rattle.ring_board.specs.Seats.{IsSeatOf, IsSameSeat};
 
 use crate::board::Board;
 use crate::shared::plays::seats::{SplitOff, TakeIn};

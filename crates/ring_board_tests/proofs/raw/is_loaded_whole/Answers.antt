@@ -1,9 +1,5 @@
-use Rattle.std.proofs.Common.{◌≤◌, ℕ, List, length, take, subst, arith}
-use Rattle.std.specs.Prelude.{Bool}
-use Rattle.std.proofs.lemmas.List.{length-take-le}
-use Rattle.ring_board.specs.Views.{Sat}
-use Rattle.ring_board.specs.Bodies.{Validated}
-use Rattle.ring_board.proofs.BodyLemmas.{loaded_whole}
+use Rattle.std.proofs.Common.{◌≤◌, ℕ, List, length, take, subst, arith, Bool, length-take-le}
+use Rattle.ring_board.{specs.Views.Sat, specs.Bodies.Validated, proofs.BodyLemmas.loaded_whole}
 use Rattle.ring_board_tests.proofs.raw.is_loaded_whole.Goals as goal
 
 pub returns-clause-whole : goal.returns-clause-whole

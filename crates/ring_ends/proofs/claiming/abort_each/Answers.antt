@@ -1,10 +1,8 @@
 use Rattle.std.proofs.Common.{◌∙◌, [], ap, subst, sym}
 use Rattle.ring_table.specs.Views.{with_claims}
 use Rattle.ring_rings.proofs.HoldingLemmas.{one_open}
-use Rattle.ring_ends.specs.Claims.{claims_in}
-use Rattle.ring_ends.specs.Claiming.{aborted_view, AreAllOpen}
-use Rattle.ring_ends.proofs.ClaimLemmas.{aborted_last, all_last}
-use Rattle.ring_ends.proofs.EndLemmas.{one_ring, open_of}
+use Rattle.ring_ends.specs.{Claims.claims_in, Claiming.aborted_view, Claiming.AreAllOpen}
+use Rattle.ring_ends.proofs.{ClaimLemmas.aborted_last, ClaimLemmas.all_last, EndLemmas.one_ring, EndLemmas.open_of}
 use Rattle.ring_ends.proofs.claiming.abort_each.Goals as goal
 
 pub loop-claim-preserved : goal.loop-claim-preserved

@@ -1,7 +1,5 @@
 use Rattle.std.proofs.Common.{◌≡◌, length}
-use Rattle.ring_ends.specs.Claims.{claims_in}
-use Rattle.ring_ends.specs.Claiming.{aborted_view, AreAllOpen}
-use Rattle.ring_ends.specs.End.{AreOfOneRing}
+use Rattle.ring_ends.specs.{Claims.claims_in, Claiming.aborted_view, Claiming.AreAllOpen, End.AreOfOneRing}
 use Rattle.ring_ends.proofs.claiming.abort_each.Given as goal
 
 -- the claims that are left are open, and once they are aborted too the producer has the view that it has in the end

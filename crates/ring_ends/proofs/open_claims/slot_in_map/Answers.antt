@@ -1,6 +1,5 @@
 use Rattle.std.proofs.Common.{◌≡◌, ◌∙◌, None, Some, subst, sym}
-use Rattle.ring_ends.specs.Claims.{LacksAt}
-use Rattle.ring_ends.proofs.SlotLemmas.{first_lack}
+use Rattle.ring_ends.{specs.Claims.LacksAt, proofs.SlotLemmas.first_lack}
 use Rattle.ring_ends.proofs.open_claims.slot_in_map.Goals as goal
 
 pub returns-in-None : goal.returns-in-None

@@ -1,9 +1,7 @@
 use Rattle.std.proofs.Common.{◌∙◌, subst, sym, w32}
 use Rattle.std.proofs.lemmas.Int.{to_z-of_z}
 use Rattle.ring_layout.specs.declared.message.ClaimState.TheVariants.{Committed}
-use Rattle.ring_handles.specs.Producing.{Settled}
-use Rattle.ring_handles.specs.Side.{side}
-use Rattle.ring_handles.proofs.ProducerLemmas.{settled_is}
+use Rattle.ring_handles.{specs.Producing.Settled, specs.Side.side, proofs.ProducerLemmas.settled_is}
 use Rattle.ring_handles.proofs.claims.commit_in.Goals as goal
 
 pub returns-clause-code : goal.returns-clause-code

@@ -1,8 +1,6 @@
 use Rattle.std.proofs.Common.{◌∙◌, subst, sym, w32}
 use Rattle.std.proofs.lemmas.Int.{to_z-of_z}
-use Rattle.ring_handles.specs.Producing.{Put}
-use Rattle.ring_handles.specs.Side.{side}
-use Rattle.ring_handles.proofs.ProducerLemmas.{put_is}
+use Rattle.ring_handles.{specs.Producing.Put, specs.Side.side, proofs.ProducerLemmas.put_is}
 use Rattle.ring_handles.proofs.claims.put_in.Goals as goal
 
 pub returns-clause-code : goal.returns-clause-code

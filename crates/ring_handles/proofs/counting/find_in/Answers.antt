@@ -1,8 +1,6 @@
-use Rattle.std.proofs.Common.{◌≡◌, ℤ, None, Some, refl, sym, ◌∙◌, subst, inl, inr}
-use Rattle.std.specs.Int.{w32}
+use Rattle.std.proofs.Common.{◌≡◌, ℤ, None, Some, refl, sym, ◌∙◌, subst, inl, inr, w32}
 use Rattle.std.proofs.lemmas.Int.{to_z-of_z}
-use Rattle.ring_counters.specs.Manager.{registry_of}
-use Rattle.ring_counters.specs.Registry.{registered_id}
+use Rattle.ring_counters.specs.{Manager.registry_of, Registry.registered_id}
 use Rattle.ring_handles.proofs.counting.find_in.Goals as goal
 
 pub returns-in-Some : goal.returns-in-Some

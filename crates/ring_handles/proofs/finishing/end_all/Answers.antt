@@ -1,8 +1,7 @@
 use Rattle.std.proofs.Common.{◌∙◌, subst}
 use Rattle.ring_table.proofs.LawLemmas.{none_open}
 use Rattle.ring_rings.specs.Seats.{claims_of}
-use Rattle.ring_service.proofs.FinishLemmas.{drained}
-use Rattle.ring_service.specs.Finishing.{IsFoldOfReceived}
+use Rattle.ring_service.{proofs.FinishLemmas.drained, specs.Finishing.IsFoldOfReceived}
 use Rattle.ring_handles.proofs.EndingLemmas.{rest_counts}
 use Rattle.ring_handles.proofs.finishing.end_all.Goals as goal
 

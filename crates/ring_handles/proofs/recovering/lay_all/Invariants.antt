@@ -1,6 +1,5 @@
 use Rattle.std.proofs.Common.{◌≡◌, ◌*◌, ◌≤◌, length}
-use Rattle.ring_handles.specs.Batch.{laid, laid_end}
-use Rattle.ring_handles.specs.Recovering.{still_to_come}
+use Rattle.ring_handles.specs.{Batch.laid, Batch.laid_end, Recovering.still_to_come}
 use Rattle.ring_handles.proofs.recovering.lay_all.Given as goal
 
 -- the messages that are left come after those that were laid

@@ -1,7 +1,6 @@
 use Rattle.std.proofs.Common.{◌*◌, ◌≤◌, arith, ap, length}
 use Rattle.ring_recovery.specs.Recovered.{messages_left}
-use Rattle.ring_handles.specs.Batch.{laid_end}
-use Rattle.ring_handles.specs.Recovering.{still_to_come}
+use Rattle.ring_handles.specs.{Batch.laid_end, Recovering.still_to_come}
 use Rattle.ring_handles.proofs.RecoveringLemmas.{few, first_fits}
 use Rattle.ring_handles.proofs.recovering.measure.Goals as goal
 

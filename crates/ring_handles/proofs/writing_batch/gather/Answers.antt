@@ -1,9 +1,7 @@
-use Rattle.std.proofs.Common.{◌≡◌, ℕ, List, take, ap, ◌∙◌, arith, length}
-use Rattle.std.proofs.lemmas.List.{length-set}
+use Rattle.std.proofs.Common.{◌≡◌, ℕ, List, take, ap, ◌∙◌, arith, length, length-set}
 use Rattle.ring_layout.specs.declared.message.Message.{Message}
 use Rattle.ring_table.specs.RunBodies.{messages_of}
-use Rattle.ring_handles.specs.Batch.{span_in}
-use Rattle.ring_handles.specs.WritingBatch.{word_at}
+use Rattle.ring_handles.specs.{Batch.span_in, WritingBatch.word_at}
 use Rattle.ring_handles.proofs.WritingLemmas.{body_length, gathers_more, next_record}
 use Rattle.ring_handles.proofs.writing_batch.gather.Goals as goal
 

@@ -1,8 +1,7 @@
 use Rattle.std.proofs.Common.{rules, ◌≡◌, ℕ, ℤ, List, ap, sym, subst, refl, inl, inr, w32, to_z, of_z}
 use Rattle.std.proofs.lemmas.Int.{to_z-of_z}
 use Rattle.ring_layout.specs.declared.message.Message.{Message}
-use Rattle.ring_ends.specs.Claiming.{NumberedClaims}
-use Rattle.ring_ends.specs.End.{End}
+use Rattle.ring_ends.specs.{Claiming.NumberedClaims, End.End}
 use Rattle.ring_handles.specs.WritingBatch.{IsBatch, IsNoBatch, WritesSome}
 use Rattle.ring_handles.proofs.ProducerLemmas.{side_is}
 use Rattle.ring_handles.proofs.writing_batch.write_batch_in.Goals as goal

@@ -1,11 +1,7 @@
 use Rattle.std.proofs.Common.{rules, ◌≡◌, ◌+◌, List, ℕ, ℤ, arith, sym, ◌∙◌, subst, w32, to_z, of_z, take}
-use Rattle.std.proofs.lemmas.Int.{to_z-of_z}
-use Rattle.std.proofs.lemmas.List.{length-take-le}
-use Rattle.ring_table.specs.RunBodies.{messages_of}
-use Rattle.ring_table.specs.declared.runs.Outgoing.{Outgoing}
-use Rattle.ring_ends.specs.Claiming.{NumberedClaims}
-use Rattle.ring_ends.specs.End.{End}
-use Rattle.ring_ends.proofs.EndLemmas.{keeps_on}
+use Rattle.std.proofs.lemmas.{Int.to_z-of_z, List.length-take-le}
+use Rattle.ring_table.specs.{RunBodies.messages_of, declared.runs.Outgoing.Outgoing}
+use Rattle.ring_ends.{specs.Claiming.NumberedClaims, specs.End.End, proofs.EndLemmas.keeps_on}
 use Rattle.ring_handles.specs.WritingBatch.{StopsAt, WritesSome}
 use Rattle.ring_handles.proofs.WritingLemmas.{messages_length, stops_within, wrote_all, wrote_more, wrote_part}
 use Rattle.ring_handles.proofs.writing_batch.write_chunks.Goals as goal

@@ -1,12 +1,9 @@
 use Rattle.std.proofs.Common.{rules, ◌≡◌, ◌+◌, List, [], ◌∷◌, ◌++◌, ℕ, length, arith, sym, ◌∙◌, subst, w32, to_z, of_z, get_or, ℤ}
 use Rattle.std.proofs.lemmas.Int.{to_z-of_z}
 use Rattle.ring_rings.specs.Claiming.{RefusesTry}
-use Rattle.ring_table.specs.RunBodies.{message_of, messages_of}
-use Rattle.ring_table.specs.declared.runs.Outgoing.{Outgoing}
+use Rattle.ring_table.specs.{RunBodies.message_of, RunBodies.messages_of, declared.runs.Outgoing.Outgoing}
 use Rattle.ring_table.proofs.RunFill.{no_message}
-use Rattle.ring_ends.specs.Claiming.{NumberedClaims}
-use Rattle.ring_ends.specs.End.{sent, End}
-use Rattle.ring_ends.proofs.EndLemmas.{keeps_on}
+use Rattle.ring_ends.{specs.Claiming.NumberedClaims, specs.End.sent, specs.End.End, proofs.EndLemmas.keeps_on}
 use Rattle.ring_handles.specs.WritingBatch.{StopsAt}
 use Rattle.ring_handles.proofs.WritingLemmas.{sent_all, sent_next, sent_on, stops_at}
 use Rattle.ring_handles.proofs.writing_batch.write_messages.Goals as goal

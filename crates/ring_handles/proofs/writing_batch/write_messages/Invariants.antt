@@ -1,7 +1,6 @@
 use Rattle.std.proofs.Common.{◌≡◌, ◌-◌, ◌≤◌, ◌++◌, length, take}
 use Rattle.ring_table.specs.RunBodies.{messages_of}
-use Rattle.ring_ends.specs.Claiming.{KeepsNumbered}
-use Rattle.ring_ends.specs.End.{sent}
+use Rattle.ring_ends.specs.{Claiming.KeepsNumbered, End.sent}
 use Rattle.ring_handles.proofs.writing_batch.write_messages.Given as goal
 
 abbrev pub invariant-loop-written : goal.invariant-loop-written

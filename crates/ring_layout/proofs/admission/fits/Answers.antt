@@ -1,7 +1,5 @@
-use Rattle.std.proofs.Common.{◌∙◌, arith}
-use Rattle.std.proofs.lemmas.Bool.{le-leb}
-use Rattle.ring_layout.specs.History.{span}
-use Rattle.ring_layout.proofs.PlaceLemmas.{end_after_rises}
+use Rattle.std.proofs.Common.{◌∙◌, arith, le-leb}
+use Rattle.ring_layout.{specs.History.span, proofs.PlaceLemmas.end_after_rises}
 use Rattle.ring_layout.proofs.admission.fits.Goals as goal
 
 pub returns-clause-lasting : goal.returns-clause-lasting

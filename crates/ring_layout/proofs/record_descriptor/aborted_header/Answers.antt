@@ -1,5 +1,4 @@
-use Rattle.std.proofs.Common.{◌+◌, ◌∙◌, ap}
-use Rattle.std.specs.Int.{w32}
+use Rattle.std.proofs.Common.{◌+◌, ◌∙◌, ap, w32}
 use Rattle.std.proofs.lemmas.Int.{to_z_pos}
 use Rattle.ring_layout.specs.Headers.{header, padding_type}
 use Rattle.ring_layout.proofs.record_descriptor.aborted_header.Goals as goal

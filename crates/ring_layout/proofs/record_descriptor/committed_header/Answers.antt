@@ -1,5 +1,4 @@
-use Rattle.std.proofs.Common.{◌+◌, ◌∙◌}
-use Rattle.std.specs.Int.{w32}
+use Rattle.std.proofs.Common.{◌+◌, ◌∙◌, w32}
 use Rattle.std.proofs.lemmas.Int.{to_z-of_z, to_z_pos}
 use Rattle.ring_layout.specs.Headers.{header}
 use Rattle.ring_layout.proofs.record_descriptor.committed_header.Goals as goal

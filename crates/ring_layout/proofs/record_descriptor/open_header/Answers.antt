@@ -1,8 +1,6 @@
-use Rattle.std.proofs.Common.{◌+◌, ◌∙◌}
-use Rattle.std.specs.Int.{w32}
+use Rattle.std.proofs.Common.{◌+◌, ◌∙◌, w32}
 use Rattle.std.proofs.lemmas.Int.{to_z-of_z}
-use Rattle.ring_layout.specs.Headers.{header}
-use Rattle.ring_layout.proofs.HeaderLemmas.{negated_length}
+use Rattle.ring_layout.{specs.Headers.header, proofs.HeaderLemmas.negated_length}
 use Rattle.ring_layout.proofs.record_descriptor.open_header.Goals as goal
 
 pub returns : goal.returns

@@ -1,6 +1,5 @@
-use Rattle.std.proofs.Common.{◌≡◌, ℕ, ◌+◌, ◌*◌, ◌-◌, ◌<◌, ◌≢◌, List, length, take, drop, slice_set, arith, get_or-set_other, get_or-set_same, below_more, ◌∙◌}
-use Rattle.std.proofs.lemmas.List.{get_or-take}
-use Rattle.std.specs.Int.{from_le_bytes, w64}
+use Rattle.std.proofs.Common.{◌≡◌, ℕ, ◌+◌, ◌*◌, ◌-◌, ◌<◌, ◌≢◌, List, length, take, drop, slice_set, arith, get_or-set_other, get_or-set_same, below_more, ◌∙◌, get_or-take, w64}
+use Rattle.std.specs.Int.{from_le_bytes}
 use Rattle.ring_layout.proofs.WordBytes.{from_le_bytes-same}
 use Rattle.ring_layout.proofs.word_bytes.store_bytes.Invariants.{Stored}
 use Rattle.ring_layout.proofs.word_bytes.store_bytes.Goals as goal

@@ -1,5 +1,5 @@
-use Rattle.std.proofs.Common.{◌≡◌, ℕ, ◌+◌, ◌*◌, ◌<◌, ◌≤◌, drop, slice_index, List}
-use Rattle.std.specs.Int.{from_le_bytes, w64}
+use Rattle.std.proofs.Common.{◌≡◌, ℕ, ◌+◌, ◌*◌, ◌<◌, ◌≤◌, drop, slice_index, List, w64}
+use Rattle.std.specs.Int.{from_le_bytes}
 use Rattle.ring_layout.proofs.word_bytes.store_bytes.Given as goal
 
 -- the first k words of the bytes are stored, and no others

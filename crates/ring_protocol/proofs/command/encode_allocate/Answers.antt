@@ -1,6 +1,5 @@
 use Rattle.std.proofs.Common.{arith, refl}
-use Rattle.ring_protocol.specs.Command.{Allocate, with_id}
-use Rattle.ring_protocol.specs.Field.{IsSized}
+use Rattle.ring_protocol.specs.{Command.Allocate, Command.with_id, Field.IsSized}
 use Rattle.ring_protocol.proofs.Written.{encodes, are_bytes, is_u64, is_i32, allocate_text}
 use Rattle.ring_protocol.proofs.command.encode_allocate.Goals as goal
 

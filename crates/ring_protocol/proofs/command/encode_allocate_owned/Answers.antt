@@ -1,6 +1,5 @@
 use Rattle.std.proofs.Common.{arith, refl}
-use Rattle.ring_protocol.specs.Command.{AllocateOwned, with_id}
-use Rattle.ring_protocol.specs.Field.{IsSized}
+use Rattle.ring_protocol.specs.{Command.AllocateOwned, Command.with_id, Field.IsSized}
 use Rattle.ring_protocol.proofs.Written.{encodes, are_bytes, is_u64, is_i32, allocate_owned_text}
 use Rattle.ring_protocol.proofs.command.encode_allocate_owned.Goals as goal
 

@@ -1,5 +1,4 @@
-use Rattle.std.proofs.Common.{◌≡◌, ◌+◌, length, take}
-use Rattle.std.specs.List.{flat_map}
+use Rattle.std.proofs.Common.{◌≡◌, ◌+◌, length, take, flat_map}
 use Rattle.ring_protocol.proofs.fields.joined_len.Given as goal
 
 abbrev pub invariant-loop-field : goal.invariant-loop-field

@@ -1,5 +1,4 @@
-use Rattle.std.proofs.Common.{◌+◌, ◌≤◌, [], length, arith, refl}
-use Rattle.std.specs.List.{flat_map}
+use Rattle.std.proofs.Common.{◌+◌, ◌≤◌, [], length, arith, refl, flat_map}
 use Rattle.ring_protocol.proofs.Joined.{joined_front, length-joined_more}
 use Rattle.ring_protocol.proofs.fields.write_fields.Goals as goal
 

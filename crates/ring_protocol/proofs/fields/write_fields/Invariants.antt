@@ -1,5 +1,4 @@
-use Rattle.std.proofs.Common.{◌≡◌, length, take}
-use Rattle.std.specs.List.{flat_map}
+use Rattle.std.proofs.Common.{◌≡◌, length, take, flat_map}
 use Rattle.ring_protocol.specs.Writing.{over_start}
 use Rattle.ring_protocol.proofs.fields.write_fields.Given as goal
 

@@ -1,5 +1,4 @@
-use Rattle.std.proofs.Common.{Option, Some, None, ap, ◌∙◌}
-use Rattle.std.specs.Option.{MatchOption}
+use Rattle.std.proofs.Common.{Option, Some, None, ap, ◌∙◌, MatchOption}
 use Rattle.ring_recorder.proofs.producer.claim_room.Goals as goal
 
 match_map : {A : Type 0} (o : Option A) (P Q : A → Type 0) → ((a : A) → P a → Q a) → MatchOption o (Unit {0}) P

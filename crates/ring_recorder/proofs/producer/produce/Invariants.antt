@@ -1,4 +1,4 @@
-use Rattle.std.specs.Option.{MatchOption}
+use Rattle.std.proofs.Common.{MatchOption}
 use Rattle.ring_rings.specs.Seats.{IsOpenClaimOf, IsProducerOf, MayClaim}
 use Rattle.ring_recorder.proofs.producer.produce.Given as goal
 

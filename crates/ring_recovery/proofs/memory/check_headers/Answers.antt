@@ -1,9 +1,7 @@
-use Rattle.std.proofs.Common.{rules, ◌≡◌, ℕ, List, ◌+◌, ◌-◌, ◌*◌, ◌/◌, sym, ap, ◌∙◌, arith, true, false}
-use Rattle.std.specs.Prelude.{if◌then◌else◌}
+use Rattle.std.proofs.Common.{rules, ◌≡◌, ℕ, List, ◌+◌, ◌-◌, ◌*◌, ◌/◌, sym, ap, ◌∙◌, arith, true, false, if◌then◌else◌}
 use Rattle.std.proofs.lemmas.Result.{err_from_is_err_and}
 use Rattle.ring_recovery.specs.Headers.{found_at, headers_finding, headers_in, is_open, open_of}
-use Rattle.ring_recovery.specs.declared.mark.Found.{Found}
-use Rattle.ring_recovery.specs.declared.mark.Walk.{Walk}
+use Rattle.ring_recovery.specs.declared.mark.{Found.Found, Walk.Walk}
 use Rattle.ring_recovery.proofs.StepLemmas.{finds_header, goes_on, passes_zero, refused_by, stops}
 use Rattle.ring_recovery.proofs.memory.check_headers.Goals as goal
 use Rattle.ring_recovery.proofs.memory.check_headers.Goals.{then-found-ne0+in_ok-end+then-is_open, then-found-ne0+in_ok-end+else-is_open, else-found-ne0}

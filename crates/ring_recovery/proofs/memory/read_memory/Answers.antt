@@ -1,8 +1,7 @@
 use Rattle.std.proofs.Common.{rules, ◌≡◌, ◌+◌, ◌/◌, length, slice_index, sym, ap, ◌∙◌, Some, None}
 use Rattle.std.proofs.lemmas.Result.{err_from_is_err_and}
 use Rattle.ring_layout.specs.Layout.{head_index, tail_index}
-use Rattle.ring_snapshot.specs.RingRecords.{positions_finding}
-use Rattle.ring_snapshot.proofs.JoinLemmas.{same_capacity}
+use Rattle.ring_snapshot.{specs.RingRecords.positions_finding, proofs.JoinLemmas.same_capacity}
 use Rattle.ring_recovery.specs.Headers.{all_headers, finding_of, headers_between, headers_finding, messages_of, new_walk, open_of, tail_of}
 use Rattle.ring_recovery.proofs.StepLemmas.{finding_is, not_refused_by, refused_by}
 use Rattle.ring_recovery.proofs.memory.read_memory.Goals as goal

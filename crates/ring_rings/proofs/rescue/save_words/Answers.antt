@@ -1,6 +1,5 @@
 use Rattle.std.proofs.Common.{sym, subst, rules}
-use Rattle.ring_table.specs.Rescued.{HadHistory}
-use Rattle.ring_table.proofs.RescueLemmas.{had_history}
+use Rattle.ring_table.{specs.Rescued.HadHistory, proofs.RescueLemmas.had_history}
 use Rattle.ring_rings.proofs.rescue.save_words.Goals as goal
 
 pub rescue-words-requires-clause-left : goal.rescue-words-requires-clause-left

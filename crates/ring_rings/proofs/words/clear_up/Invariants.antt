@@ -1,6 +1,5 @@
 use Rattle.std.proofs.Common.{◌≡◌, ◌+◌, ◌*◌}
-use Rattle.ring_table.specs.Seats.{IsSameSeat}
-use Rattle.ring_table.specs.Views.{cleared_to, with_consumer}
+use Rattle.ring_table.specs.{Seats.IsSameSeat, Views.cleared_to, Views.with_consumer}
 use Rattle.ring_rings.proofs.words.clear_up.Given as goal
 
 abbrev pub invariant-loop-k : goal.invariant-loop-k

@@ -1,7 +1,6 @@
-use Rattle.std.proofs.Common.{ℕ, ◌*◌, ◌+◌, ap, ◌∙◌, arith}
-use Rattle.std.specs.Int.{from_le_bytes, to_le_bytes, w64}
-use Rattle.ring_layout.specs.History.{overwritten}
-use Rattle.ring_layout.proofs.WordBytes.{overwritten_word}
+use Rattle.std.proofs.Common.{ℕ, ◌*◌, ◌+◌, ap, ◌∙◌, arith, w64}
+use Rattle.std.specs.Int.{from_le_bytes, to_le_bytes}
+use Rattle.ring_layout.{specs.History.overwritten, proofs.WordBytes.overwritten_word}
 use Rattle.ring_table.specs.Staged.{body_word}
 use Rattle.ring_rings.proofs.MergeLemmas.{small_at, small_overwritten}
 use Rattle.ring_rings.proofs.words.merged_word.Goals as goal

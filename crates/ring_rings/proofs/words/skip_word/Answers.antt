@@ -1,10 +1,8 @@
 use Rattle.std.proofs.Common.{ℕ, ◌+◌, ◌*◌, ◌≤◌, ap, ◌∙◌, arith}
 use Rattle.ring_layout.specs.Places.{index}
-use Rattle.ring_table.specs.declared.view.View.{View}
-use Rattle.ring_table.specs.Views.{logged}
-use Rattle.ring_rings.proofs.IndexLemmas.{index_of_body}
+use Rattle.ring_table.specs.{declared.view.View.View, Views.logged}
+use Rattle.ring_rings.proofs.{IndexLemmas.index_of_body, ReadingSeats.log_is}
 use Rattle.ring_rings.proofs.ReadingCopies.{loads_next, loads_only, word_is}
-use Rattle.ring_rings.proofs.ReadingSeats.{log_is}
 use Rattle.ring_rings.proofs.words.skip_word.Goals as goal
 
 pub load_body_word-requires-clause-target : goal.load_body_word-requires-clause-target

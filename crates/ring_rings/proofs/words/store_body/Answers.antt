@@ -1,13 +1,9 @@
-use Rattle.std.proofs.Common.{◌≡◌, ℕ, ◌+◌, ◌-◌, ◌*◌, ◌/◌, ◌<◌, List, [], ◌∷◌, ◌++◌, length, take, subst, sym, ap, ◌∙◌, arith}
-use Rattle.std.proofs.lemmas.List.{take_all}
-use Rattle.ring_table.specs.declared.claim.StagedClaim.{StagedClaim}
-use Rattle.ring_table.specs.declared.view.View.{View}
+use Rattle.std.proofs.Common.{◌≡◌, ℕ, ◌+◌, ◌-◌, ◌*◌, ◌/◌, ◌<◌, List, [], ◌∷◌, ◌++◌, length, take, subst, sym, ap, ◌∙◌, arith, take_all}
+use Rattle.ring_table.specs.{declared.claim.StagedClaim.StagedClaim, declared.view.View.View, Views.with_claims}
 use Rattle.ring_table.specs.Seats.{IsSameSeat}
-use Rattle.ring_table.specs.Views.{with_claims}
 use Rattle.ring_rings.specs.Bodies.{put_at}
 use Rattle.ring_rings.proofs.BodyLemmas.{keeps_next, stores_next, takes_next}
-use Rattle.ring_rings.proofs.IndexLemmas.{index_of_body}
-use Rattle.ring_rings.proofs.ReadingSeats.{same_more, same_none}
+use Rattle.ring_rings.proofs.{IndexLemmas.index_of_body, ReadingSeats.same_more, ReadingSeats.same_none}
 use Rattle.ring_rings.proofs.words.store_body.Goals as goal
 use Rattle.ring_rings.proofs.words.store_body.Goals.{then-word-ne0, else-word-ne0}
 

@@ -1,7 +1,5 @@
 use Rattle.std.proofs.Common.{◌≡◌, ◌*◌, List, [], ◌∷◌, ◌++◌, length, take}
-use Rattle.ring_table.specs.declared.claim.StagedClaim.{StagedClaim}
-use Rattle.ring_table.specs.Seats.{IsSameSeat}
-use Rattle.ring_table.specs.Views.{with_claims}
+use Rattle.ring_table.specs.{declared.claim.StagedClaim.StagedClaim, Seats.IsSameSeat, Views.with_claims}
 use Rattle.ring_rings.specs.Bodies.{put_at, IsFreshClaim}
 use Rattle.ring_rings.proofs.words.store_body.Given as goal
 

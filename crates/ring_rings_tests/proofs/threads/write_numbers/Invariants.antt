@@ -1,4 +1,4 @@
-use Rattle.std.specs.Prelude.{◌≡◌, ◌≤◌}
+use Rattle.std.proofs.Common.{◌≡◌, ◌≤◌}
 use Rattle.ring_rings.specs.Seats.{all_shares, shares_of, IsProducerOf}
 use Rattle.ring_rings_tests.proofs.threads.write_numbers.Given as goal
 

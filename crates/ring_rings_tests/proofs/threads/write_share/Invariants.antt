@@ -1,4 +1,4 @@
-use Rattle.std.specs.Prelude.{◌≤◌}
+use Rattle.std.proofs.Common.{◌≤◌}
 use Rattle.ring_rings.specs.Seats.{IsProducerOf}
 use Rattle.ring_rings_tests.proofs.threads.write_share.Given as goal
 

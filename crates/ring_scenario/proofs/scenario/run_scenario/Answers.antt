@@ -1,8 +1,7 @@
 use Rattle.std.proofs.Common.{◌∙◌, subst}
 use Rattle.std.proofs.lemmas.Result.{IfErr-weaker, on_ok_weaker}
 use Rattle.ring_scenario.specs.Running.{FailsAt, RunsText}
-use Rattle.ring_scenario.proofs.FaultLemmas.{of_line_weaker}
-use Rattle.ring_scenario.proofs.RunLemmas.{of_known}
+use Rattle.ring_scenario.proofs.{FaultLemmas.of_line_weaker, RunLemmas.of_known}
 use Rattle.ring_scenario.proofs.scenario.run_scenario.Goals as goal
 
 pub returns-clause-ran : goal.returns-clause-ran

@@ -1,8 +1,6 @@
 use Rattle.std.proofs.Common.{◌∙◌, Some, ap, sym}
-use Rattle.std.proofs.KnownBytes.{Appends-nil}
-use Rattle.std.proofs.lemmas.Result.{on_ok_weaker}
-use Rattle.ring_scenario.specs.Running.{finished_text}
-use Rattle.ring_scenario.proofs.RunLemmas.{end_written}
+use Rattle.std.proofs.{KnownBytes.Appends-nil, lemmas.Result.on_ok_weaker}
+use Rattle.ring_scenario.{specs.Running.finished_text, proofs.RunLemmas.end_written}
 use Rattle.ring_scenario.proofs.scenario.write_end.Goals as goal
 
 pub returns-in-Some-clause-written : goal.returns-in-Some-clause-written

@@ -1,33 +1,20 @@
 use Rattle.std.proofs.Common.{◌≡◌, ◌∙◌, [], ◌∷◌, length, map, refl, sym, ap, subst, arith}
-use Rattle.ring_table.specs.declared.view.View.{View}
-use Rattle.ring_table.specs.OpenClaims.{open_count}
-use Rattle.ring_table.specs.Services.{times_drawn}
-use Rattle.ring_rings.specs.declared.ring.Consumer.{Consumer}
-use Rattle.ring_rings.specs.declared.ring.Producer.{Producer}
-use Rattle.ring_rings.specs.Closing.{AreOrdered, Serves}
-use Rattle.ring_rings.specs.Reading.{messages_of}
+use Rattle.ring_table.specs.{declared.view.View.View, OpenClaims.open_count, Services.times_drawn}
+use Rattle.ring_rings.specs.{declared.ring.Consumer.Consumer, declared.ring.Producer.Producer, Reading.messages_of}
+use Rattle.ring_rings.specs.{Closing.AreOrdered, Closing.Serves, Ring.sent as sent_by, Ring.IsWhole}
 use Rattle.ring_rings.specs.Seats.{capacity_of, claims_of, consumer_view, open_claims_of, shares_of, taken_of, view_of}
-use Rattle.ring_board.specs.declared.board.CopyReceiver.{CopyReceiver}
-use Rattle.ring_board.specs.declared.board.Transmitter.{Transmitter}
-use Rattle.ring_board.specs.declared.shared.view.View.{View as BoardView}
-use Rattle.ring_board.specs.Closing.{closed_words, IsClosed}
-use Rattle.ring_board.specs.Runs.{AreAllRuns}
-use Rattle.ring_board.specs.Board.{transmitted}
+use Rattle.ring_board.specs.declared.board.{CopyReceiver.CopyReceiver, Transmitter.Transmitter}
+use Rattle.ring_board.specs.{declared.shared.view.View.View as BoardView, Views.as_joined, Views.fewer, Views.newcomer}
+use Rattle.ring_board.specs.{Closing.closed_words, Closing.IsClosed, Runs.AreAllRuns, Board.transmitted}
 use Rattle.ring_board.specs.Seats.{capacity_of as board_capacity_of, receiver_seat, receiver_view, shares_of as board_shares_of, view_of as transmitter_view}
-use Rattle.ring_board.specs.Views.{as_joined, fewer, newcomer}
 use Rattle.ring_counters.specs.declared.manager.CountersManager.{CountersManager}
 use Rattle.ring_counters.specs.declared.values.seats.CounterValues.{CounterValues}
 use Rattle.ring_counters.specs.Manager.{registry_of, writes_of, IsManagerOf}
-use Rattle.ring_service.specs.declared.conductor.Conductor.{Conductor}
-use Rattle.ring_service.specs.declared.whole.Parties.{Parties}
-use Rattle.ring_service.specs.declared.whole.WholeRun.{WholeRun}
-use Rattle.ring_service.specs.Account.{fresh_account}
+use Rattle.ring_service.specs.declared.{conductor.Conductor.Conductor, whole.Parties.Parties, whole.WholeRun.WholeRun}
+use Rattle.ring_service.specs.{Account.fresh_account, Whole.Concludes, Whole.opening_ledger, Whole.settled_message}
 use Rattle.ring_service.specs.Asking.{IsHeard, client_seat, client_view, service_of, services_of}
 use Rattle.ring_service.specs.Conducting.{KeepsTheRest, consumer_of, ledger_of, manager_in, received_of, ring_view, transmitter_of}
-use Rattle.ring_rings.specs.Ring.{sent as sent_by, IsWhole}
-use Rattle.ring_service.specs.Finishing.{joined_by, replies_of}
-use Rattle.ring_service.specs.Whole.{Concludes, opening_ledger, settled_message}
-use Rattle.ring_service.specs.Service.{account_in}
+use Rattle.ring_service.specs.{Finishing.joined_by, Finishing.replies_of, Service.account_in}
 use Rattle.ring_service.proofs.AccountLemmas.{account_as, work_shares}
 use Rattle.ring_service.proofs.WholeLemmas.{never_refused, two_folds, two_joined, two_reads, two_sent}
 use Rattle.ring_service.proofs.whole.whole_run_over.Goals as goal

@@ -1,9 +1,6 @@
-use Rattle.std.proofs.Common.{◌≡◌, ◌++◌, take, ap, sym, ◌∙◌, subst}
-use Rattle.std.specs.Prelude.{Some, slice_get}
-use Rattle.std.specs.Int.{to_le_bytes, w64}
-use Rattle.std.specs.Io.KnownBytes.{Appends}
-use Rattle.std.proofs.KnownBytes.{Appends-trans}
-use Rattle.std.proofs.lemmas.Option.{slice_get_within, get_or_from_slice_get}
+use Rattle.std.proofs.Common.{◌≡◌, ◌++◌, take, ap, sym, ◌∙◌, subst, Some, slice_get, w64}
+use Rattle.std.specs.{Int.to_le_bytes, Io.KnownBytes.Appends}
+use Rattle.std.proofs.{KnownBytes.Appends-trans, lemmas.Option.slice_get_within, lemmas.Option.get_or_from_slice_get}
 use Rattle.ring_board.specs.Records.{bytes_of}
 use Rattle.ring_snapshot.proofs.WriteLemmas.{bytes_of-take}
 use Rattle.ring_snapshot.proofs.write.write_words.Goals as goal

@@ -1,7 +1,6 @@
 use Rattle.std.proofs.Common.{◌∙◌, ap}
 use Rattle.ring_table.specs.declared.view.Service.{Service}
-use Rattle.ring_storm.proofs.SeatLemmas.{leaves}
-use Rattle.ring_storm.proofs.TurnLemmas.{adds_where, keeps_where}
+use Rattle.ring_storm.proofs.{SeatLemmas.leaves, TurnLemmas.adds_where, TurnLemmas.keeps_where}
 use Rattle.ring_storm.proofs.client.try_send.Goals as goal
 
 pub returns-clause-seat : goal.returns-clause-seat

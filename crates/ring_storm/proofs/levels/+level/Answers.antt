@@ -1,8 +1,6 @@
 use Rattle.std.proofs.Common.{◌≡◌, ◌+◌, ◌-◌, ℕ, sym, subst, arith}
-use Rattle.ring_storm.specs.declared.promises.ClientBack.{ClientBack}
-use Rattle.ring_storm.specs.declared.seats.LevelEnd.{LevelEnd}
-use Rattle.ring_storm.specs.declared.seats.StormClient.{StormClient}
-use Rattle.ring_storm.specs.Storming.{HasWorked, IsEndAt}
+use Rattle.ring_storm.specs.{declared.promises.ClientBack.ClientBack, Storming.HasWorked, Storming.IsEndAt}
+use Rattle.ring_storm.specs.declared.seats.{LevelEnd.LevelEnd, StormClient.StormClient}
 use Rattle.ring_storm.proofs.levels.+level.Goals as goal
 use Rattle.ring_storm.proofs.levels.+level.Goals.{in-Ok-started, in-Err}
 

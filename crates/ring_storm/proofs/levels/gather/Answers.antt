@@ -1,10 +1,7 @@
 use Rattle.std.proofs.Common.{◌≡◌, refl, subst, arith}
-use Rattle.ring_board.specs.Seats.{receiver_view}
-use Rattle.ring_board.specs.Views.{as_joined}
+use Rattle.ring_board.specs.{Seats.receiver_view, Views.as_joined}
 use Rattle.ring_service.specs.Asking.{producer_of, receiver_of, service_of}
-use Rattle.ring_storm.specs.Storming.{history_of}
-use Rattle.ring_storm.specs.Turns.{AreAnswered}
-use Rattle.ring_storm.proofs.TurnLemmas.{all_turns}
+use Rattle.ring_storm.{specs.Storming.history_of, specs.Turns.AreAnswered, proofs.TurnLemmas.all_turns}
 use Rattle.ring_storm.proofs.levels.gather.Goals as goal
 
 pub returns-clause-end : goal.returns-clause-end

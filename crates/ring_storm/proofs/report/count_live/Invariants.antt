@@ -1,6 +1,5 @@
 use Rattle.std.proofs.Common.{◌≡◌, ◌+◌, fold, length}
-use Rattle.ring_counters.specs.Manager.{registry_of}
-use Rattle.ring_counters.specs.Registry.{live_of}
+use Rattle.ring_counters.specs.{Manager.registry_of, Registry.live_of}
 use Rattle.ring_storm.specs.Storming.{sum_of, with_value_of}
 use Rattle.ring_storm.proofs.report.count_live.Given as goal
 

@@ -1,23 +1,15 @@
 use Rattle.std.proofs.Common.{◌≡◌, ◌∙◌, ap, subst, sym, arith}
 use Rattle.ring_counters.specs.declared.manager.CountersManager.{CountersManager}
 use Rattle.ring_counters.specs.Manager.{registry_of, writes_of}
-use Rattle.ring_counters.specs.Registry.{count_of}
-use Rattle.ring_storm.specs.declared.plan.StormPlan.{StormPlan}
-use Rattle.ring_storm.specs.declared.seats.StormEnd.{StormEnd}
-use Rattle.ring_service.specs.declared.conductor.Conductor.{Conductor}
-use Rattle.ring_service.specs.declared.finishing.Finished.{Finished}
-use Rattle.ring_service.specs.Asking.{services_of}
+use Rattle.ring_counters.specs.{Registry.count_of, declared.values.seats.CounterValues.CounterValues}
+use Rattle.ring_storm.specs.declared.{plan.StormPlan.StormPlan, seats.StormEnd.StormEnd}
+use Rattle.ring_service.specs.declared.{conductor.Conductor.Conductor, finishing.Finished.Finished}
+use Rattle.ring_service.specs.{Asking.services_of, Conducting.received_of, Conducting.ring_view}
 use Rattle.ring_service.specs.Finishing.{claims_in, joined_by, replies_of, services_in}
 use Rattle.ring_storm.specs.Storming.{HasFinished, IsBoardFor, IsReportBy, IsReportFrom, storm_counters}
-use Rattle.ring_rings.specs.declared.ring.Ring.{Ring}
-use Rattle.ring_rings.specs.declared.bodies.Bodies.{Ghosts}
-use Rattle.ring_board.specs.declared.board.Board.{Board}
-use Rattle.ring_counters.specs.declared.values.seats.CounterValues.{CounterValues}
-use Rattle.ring_rings.specs.Reading.{messages_of}
-use Rattle.ring_rings.specs.declared.ring.Producer.{Producer}
-use Rattle.ring_rings.specs.Seats.{claims_of, view_of}
-use Rattle.ring_board.specs.Closing.{closed_capacity}
-use Rattle.ring_service.specs.Conducting.{received_of, ring_view}
+use Rattle.ring_rings.specs.declared.{ring.Ring.Ring, bodies.Bodies.Ghosts, ring.Producer.Producer}
+use Rattle.ring_board.specs.{declared.board.Board.Board, Closing.closed_capacity}
+use Rattle.ring_rings.specs.{Reading.messages_of, Seats.claims_of, Seats.view_of}
 use Rattle.ring_storm.proofs.SeatLemmas.{drawn_once}
 use Rattle.ring_storm.proofs.StormLemmas.{handed_at, reported, storm_count}
 use Rattle.ring_storm.proofs.storms.storm_over.Goals as goal

@@ -1,7 +1,6 @@
 use Rattle.std.proofs.Common.{◌≡◌, ℕ, ◌+◌, ◌*◌, ◌<◌, ◌≤◌, List, [], ◌∷◌, ◌++◌, length, refl, subst, sym, ap, ◌∙◌, arith}
 use Rattle.std.specs.Int.{to_le_bytes, w64}
-use Rattle.ring_layout.specs.History.{overwritten}
-use Rattle.ring_layout.proofs.WordBytes.{length-overwritten}
+use Rattle.ring_layout.{specs.History.overwritten, proofs.WordBytes.length-overwritten}
 use Rattle.ring_table.specs.Filling.{Copying}
 use Rattle.ring_table.proofs.FillLemmas.{copy_first, copy_front, copy_start, copy_more, copy_end}
 use Rattle.ring_table.proofs.bodies.copy_slots.Goals as goal

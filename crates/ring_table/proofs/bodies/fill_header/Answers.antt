@@ -1,7 +1,5 @@
 use Rattle.std.proofs.Common.{[], sym, arith}
-use Rattle.ring_table.proofs.FillLemmas.{fill_start}
-use Rattle.ring_table.proofs.SlotBytes.{first_word_of}
-use Rattle.ring_table.specs.Staged.{headed}
+use Rattle.ring_table.{proofs.FillLemmas.fill_start, proofs.SlotBytes.first_word_of, specs.Staged.headed}
 use Rattle.ring_table.proofs.bodies.fill_header.Goals as goal
 
 pub put_slot-requires-clause-filling : goal.put_slot-requires-clause-filling

@@ -1,7 +1,5 @@
 use Rattle.std.proofs.Common.{◌≡◌, ℕ, ◌+◌, ◌*◌, ◌/◌, List, length, sym, ap, refl, ◌∙◌, subst, arith}
-use Rattle.ring_table.specs.Filling.{Filling}
-use Rattle.ring_table.specs.SlotSteps.{words_of, HasSlots}
-use Rattle.ring_table.specs.Staged.{body_word, headed}
+use Rattle.ring_table.specs.{Filling.Filling, SlotSteps.words_of, SlotSteps.HasSlots, Staged.body_word, Staged.headed}
 use Rattle.ring_table.proofs.FillLemmas.{fill_end, word_of_slice, word_of_rest}
 use Rattle.ring_table.proofs.SlotBytes.{later_word, length_headed}
 use Rattle.ring_table.proofs.bodies.fill_slots.Goals as goal

@@ -1,11 +1,8 @@
 use Rattle.std.proofs.Common.{◌≡◌, ℕ, ◌+◌, ◌*◌, List, length, replicate, sym, ap, ◌∙◌, subst, arith}
 use Rattle.std.proofs.lemmas.List.{length-replicate}
-use Rattle.ring_table.specs.Filling.{Filling}
-use Rattle.ring_table.specs.SlotSteps.{words_of, HasSlots}
-use Rattle.ring_table.specs.Staged.{body_word, headed}
-use Rattle.ring_table.proofs.BodyWords.{body_word-zeros}
+use Rattle.ring_table.specs.{Filling.Filling, SlotSteps.words_of, SlotSteps.HasSlots, Staged.body_word, Staged.headed}
+use Rattle.ring_table.proofs.{BodyWords.body_word-zeros, SlotBytes.later_word, SlotBytes.length_headed}
 use Rattle.ring_table.proofs.FillLemmas.{fill_end}
-use Rattle.ring_table.proofs.SlotBytes.{later_word, length_headed}
 use Rattle.ring_table.proofs.bodies.fill_zeros.Goals as goal
 
 pub fill_header-requires-clause-has : goal.fill_header-requires-clause-has

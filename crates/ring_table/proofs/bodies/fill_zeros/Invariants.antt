@@ -1,7 +1,5 @@
 use Rattle.std.proofs.Common.{◌+◌, replicate}
-use Rattle.ring_table.specs.SlotSteps.{words_of}
-use Rattle.ring_table.specs.Staged.{headed}
-use Rattle.ring_table.specs.Filling.{Filling, IsSameTable}
+use Rattle.ring_table.specs.{SlotSteps.words_of, Staged.headed, Filling.Filling, Filling.IsSameTable}
 use Rattle.ring_table.proofs.bodies.fill_zeros.Given as goal
 
 abbrev pub invariant-loop-k : goal.invariant-loop-k

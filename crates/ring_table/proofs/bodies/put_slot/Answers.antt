@@ -1,7 +1,6 @@
 use Rattle.std.proofs.Common.{◌+◌, ◌∷◌, ◌++◌, [], sym, ap, ◌∙◌}
 use Rattle.atomic_table.specs.Table.{rest, turned}
-use Rattle.ring_table.specs.ProducerSteps.{Mine}
-use Rattle.ring_table.proofs.FillLemmas.{fill_front, fill_more}
+use Rattle.ring_table.{specs.ProducerSteps.Mine, proofs.FillLemmas.fill_front, proofs.FillLemmas.fill_more}
 use Rattle.ring_table.proofs.bodies.put_slot.Goals as goal
 
 pub exchange-requires : goal.exchange-requires

@@ -1,10 +1,7 @@
 use Rattle.std.proofs.Common.{◌≡◌, ◌≤◌, length, sym, ap, ◌∙◌, subst, arith}
-use Rattle.ring_table.specs.Ranges.{numbered}
+use Rattle.ring_table.specs.{Ranges.numbered, SlotSteps.HasBody, Staged.slot_bytes, Views.View}
 use Rattle.ring_table.proofs.SlotBytes.{length_slot}
 use Rattle.ring_layout.specs.Places.{index}
-use Rattle.ring_table.specs.SlotSteps.{HasBody}
-use Rattle.ring_table.specs.Staged.{slot_bytes}
-use Rattle.ring_table.specs.Views.{View}
 use Rattle.ring_table.proofs.bodies.read_slots.Goals as goal
 
 pub copy_slots-requires-clause-has : goal.copy_slots-requires-clause-has

@@ -1,17 +1,10 @@
 use Rattle.std.proofs.Common.{◌≡◌, ℕ, ℤ, FitsSigned, ◌+◌, ◌^◌, ◌<◌, [], length, replicate, sym, ap, ◌∙◌, subst, arith}
-use Rattle.std.specs.Int.{cast_signed, cast_unsigned, w32}
-use Rattle.std.proofs.lemmas.List.{length-replicate}
-use Rattle.ring_layout.specs.Headers.{committed_header}
-use Rattle.ring_layout.specs.Places.{index}
-use Rattle.ring_table.specs.Staged.{headed}
-use Rattle.ring_table.specs.Changes.{with_header}
-use Rattle.ring_table.specs.Passing.{placed_message}
-use Rattle.ring_table.specs.ProducerSteps.{HasClaim, with_changed}
-use Rattle.ring_table.specs.Ranges.{numbered}
-use Rattle.ring_table.specs.SlotSteps.{HasBody, with_out, words_of}
-use Rattle.ring_table.specs.Views.{View}
-use Rattle.ring_table.proofs.HeaderCalls.{packs_recorded}
-use Rattle.ring_table.proofs.SlotBodies.{body_given}
+use Rattle.std.{specs.Int.cast_signed, specs.Int.cast_unsigned, specs.Int.w32, proofs.lemmas.List.length-replicate}
+use Rattle.ring_layout.specs.{Headers.committed_header, Places.index}
+use Rattle.ring_table.specs.{Staged.headed, Views.View}
+use Rattle.ring_table.specs.{Changes.with_header, ProducerSteps.HasClaim, ProducerSteps.with_changed, Ranges.numbered}
+use Rattle.ring_table.specs.{Passing.placed_message, SlotSteps.HasBody, SlotSteps.with_out, SlotSteps.words_of}
+use Rattle.ring_table.proofs.{HeaderCalls.packs_recorded, SlotBodies.body_given}
 use Rattle.ring_table.proofs.bodies.store_claimed_slots.Goals as goal
 
 -- the header that the code packs is that of zeros

@@ -1,19 +1,11 @@
 use Rattle.std.proofs.Common.{◌≡◌, ℕ, ◌+◌, ◌^◌, ◌<◌, List, [], All, length, sym, refl, ap, ◌∙◌, subst, arith}
-use lib.ListN.{get_elem?}
-use Rattle.std.proofs.lemmas.List.{length-replicate}
-use Rattle.std.proofs.lemmas.List.Elements.{All-from_get_or}
+use Rattle.std.proofs.{Math.ListN.get_elem?, lemmas.List.length-replicate, lemmas.List.Elements.All-from_get_or}
 use Rattle.atomic_table.proofs.Lists.{at_last}
-use Rattle.ring_layout.specs.Headers.{committed_header}
-use Rattle.ring_layout.specs.Places.{index}
-use Rattle.ring_table.specs.Changes.{recorded}
-use Rattle.ring_table.specs.Passing.{placed_message}
-use Rattle.ring_table.specs.ProducerSteps.{with_changed, HasClaim}
-use Rattle.ring_table.specs.Ranges.{numbered}
-use Rattle.ring_table.specs.SlotSteps.{HasBody, with_out, words_of}
-use Rattle.ring_table.specs.Staged.{headed}
-use Rattle.ring_table.specs.Views.{View}
-use Rattle.ring_table.proofs.HeaderCalls.{packs_recorded}
-use Rattle.ring_table.proofs.SlotBodies.{body_given}
+use Rattle.ring_layout.specs.{Headers.committed_header, Places.index}
+use Rattle.ring_table.specs.{Changes.recorded, ProducerSteps.with_changed, ProducerSteps.HasClaim, Ranges.numbered}
+use Rattle.ring_table.specs.{Passing.placed_message, SlotSteps.HasBody, SlotSteps.with_out, SlotSteps.words_of}
+use Rattle.ring_table.specs.{Staged.headed, Views.View}
+use Rattle.ring_table.proofs.{HeaderCalls.packs_recorded, SlotBodies.body_given}
 use Rattle.ring_table.proofs.bodies.write_slots.Goals as goal
 
 pub reserve_body-requires-clause-newest : goal.reserve_body-requires-clause-newest

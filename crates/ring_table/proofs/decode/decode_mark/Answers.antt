@@ -1,5 +1,4 @@
-use Rattle.std.proofs.Common.{ℕ, ◌-◌, ◌%◌, negsuc, sym, ap, ◌∙◌}
-use Rattle.std.specs.Int.{w32}
+use Rattle.std.proofs.Common.{ℕ, ◌-◌, ◌%◌, negsuc, sym, ap, ◌∙◌, w32}
 use Rattle.std.proofs.lemmas.Int.{to_z_pos}
 use Rattle.ring_layout.specs.Headers.{header}
 use Rattle.ring_table.proofs.DecodeLemmas.{decoded_none, kind_is_aborted, kind_is_committed, kind_is_other, kind_is_padding}

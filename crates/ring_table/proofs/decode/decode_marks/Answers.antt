@@ -1,13 +1,8 @@
 use Rattle.std.proofs.Common.{◌≡◌, ◌≢◌, ℕ, ◌+◌, ◌*◌, ◌%◌, ◌≤◌, ◌<◌, List, set, slice_index, get_or, get_or-set_other, get_or-set_same, sym, ap, ◌∙◌, subst, arith}
-use mathlib.Core.Logic.{dite}
-use native.Mathlib.Decide.{ℕ_discrete}
-use Rattle.std.specs.Slots.{slots_items, slots_len}
-use Rattle.ring_layout.specs.Layout.{head_index}
-use Rattle.ring_layout.specs.Places.{index}
-use Rattle.ring_layout.proofs.Laps.{apart}
+use Rattle.std.{proofs.Math.Logic.dite, proofs.Math.Decide.ℕ_discrete, specs.Slots.slots_items, specs.Slots.slots_len}
+use Rattle.ring_layout.{specs.Layout.head_index, specs.Places.index, proofs.Laps.apart}
 use Rattle.ring_table.specs.Marks.{decoded, MayDecode}
-use Rattle.ring_table.proofs.PictureWords.{value_at}
-use Rattle.ring_table.proofs.StagedPlaces.{capacity_aligned, inside_buffer}
+use Rattle.ring_table.proofs.{PictureWords.value_at, StagedPlaces.capacity_aligned, StagedPlaces.inside_buffer}
 use Rattle.ring_table.proofs.decode.decode_marks.Goals as goal
 
 pub get-slot-requires : goal.get-slot-requires

@@ -1,13 +1,9 @@
 use Rattle.std.proofs.Common.{◌≡◌, ◌≢◌, ◌⊎◌, ℕ, ◌+◌, ◌/◌, ◌%◌, ◌^◌, ◌≤◌, ◌<◌, List, set, slice_index, get_or, get_or-set_other, sym, ap, ◌∙◌, subst, inl, inr, ⊎_elim, length, arith}
-use mathlib.Core.Logic.{dite}
-use native.Mathlib.Decide.{ℕ_discrete}
+use Rattle.std.proofs.{Math.Logic.dite, Math.Decide.ℕ_discrete, lemmas.Bool.cases_lt}
 use Rattle.std.specs.Slots.{slots_items, slots_len}
-use Rattle.std.proofs.lemmas.Bool.{cases_lt}
-use Rattle.ring_layout.specs.Marks.{committed_kind}
-use Rattle.ring_layout.specs.Places.{IsCapacity, index, rounded}
+use Rattle.ring_layout.specs.{Marks.committed_kind, Places.IsCapacity, Places.index, Places.rounded}
 use Rattle.ring_table.specs.Marks.{at_position, IsCommitted, ShowsRuns, Spreads}
-use Rattle.ring_table.proofs.PictureWords.{value_at}
-use Rattle.ring_table.proofs.StagedPlaces.{inside_buffer}
+use Rattle.ring_table.proofs.{PictureWords.value_at, StagedPlaces.inside_buffer}
 use Rattle.ring_table.proofs.SpreadLemmas.{committed_bytes, mark_committed, mark_other, spreads_in, spreads_over, spreads_past}
 use Rattle.ring_table.proofs.decode.spread_mark.Goals as goal
 

@@ -1,10 +1,8 @@
 use Rattle.std.proofs.Common.{◌≡◌, ℕ, ◌+◌, ◌/◌, List, length, slice_index, get_or, refl, sym, ◌∙◌, subst, arith}
 use Rattle.std.specs.Slots.{slots_items}
 use Rattle.ring_layout.specs.Layout.{head_index, ring_words}
-use Rattle.ring_table.specs.Marks.{AreMarked, ShowsRuns, Spreads}
-use Rattle.ring_table.proofs.PictureWords.{value_at}
-use Rattle.ring_table.proofs.StagedPlaces.{capacity_aligned}
-use Rattle.ring_table.proofs.SpreadLemmas.{spreads_all, spreads_first}
+use Rattle.ring_table.{specs.Marks.AreMarked, specs.Marks.ShowsRuns, specs.Marks.Spreads, proofs.PictureWords.value_at}
+use Rattle.ring_table.proofs.{StagedPlaces.capacity_aligned, SpreadLemmas.spreads_all, SpreadLemmas.spreads_first}
 use Rattle.ring_table.proofs.decode.spread_runs.Goals as goal
 
 -- the head, as the code reads it

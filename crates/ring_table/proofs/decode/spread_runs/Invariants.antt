@@ -1,5 +1,4 @@
-use Rattle.std.proofs.Common.{◌≡◌, ℕ, ◌+◌, ◌*◌, ◌/◌, ◌≤◌, List, slice_index}
-use Rattle.std.specs.Prelude.{vec_len}
+use Rattle.std.proofs.Common.{◌≡◌, ℕ, ◌+◌, ◌*◌, ◌/◌, ◌≤◌, List, slice_index, vec_len}
 use Rattle.std.specs.Slots.{slots_items}
 use Rattle.ring_table.specs.Marks.{ShowsRuns, Spreads}
 use Rattle.ring_table.proofs.decode.spread_runs.Given as goal

@@ -1,11 +1,8 @@
 use Rattle.std.proofs.Common.{◌≡◌, ℕ, List, slice_index, sym, ◌∙◌, subst, arith}
 use Rattle.atomic_table.proofs.Lists.{at_index}
 use Rattle.ring_layout.specs.Layout.{tail_index, head_index}
-use Rattle.ring_table.specs.Owners.{all_of}
-use Rattle.ring_table.specs.Staged.{staged_end}
-use Rattle.ring_table.specs.Walk.{Walked}
-use Rattle.ring_table.proofs.PictureWords.{read_at}
-use Rattle.ring_table.proofs.WalkLemmas.{begins, stands_below}
+use Rattle.ring_table.specs.{Owners.all_of, Staged.staged_end, Walk.Walked}
+use Rattle.ring_table.proofs.{PictureWords.read_at, WalkLemmas.begins, WalkLemmas.stands_below}
 use Rattle.ring_table.proofs.picture.show_bodies.Goals as goal
 
 pub loop-at-init : goal.loop-at-init

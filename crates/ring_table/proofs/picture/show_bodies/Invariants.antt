@@ -1,10 +1,7 @@
-use Rattle.std.proofs.Common.{◌≡◌, ◌-◌}
-use Rattle.std.specs.Prelude.{vec_len}
+use Rattle.std.proofs.Common.{◌≡◌, ◌-◌, vec_len}
 use Rattle.std.specs.Slots.{slots_items}
 use Rattle.ring_layout.specs.Layout.{ring_words}
-use Rattle.ring_table.specs.Owners.{all_of}
-use Rattle.ring_table.specs.Staged.{staged_end}
-use Rattle.ring_table.specs.Walk.{Parts, Walked}
+use Rattle.ring_table.specs.{Owners.all_of, Staged.staged_end, Walk.Parts, Walk.Walked}
 use Rattle.ring_table.proofs.picture.show_bodies.Given as goal
 
 abbrev pub invariant-loop-at : goal.invariant-loop-at

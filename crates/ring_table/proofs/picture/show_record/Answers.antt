@@ -1,14 +1,10 @@
 use Rattle.std.proofs.Common.{◌≡◌, ℕ, ◌+◌, ◌-◌, ◌*◌, ◌/◌, ◌%◌, ◌^◌, ◌≤◌, ◌<◌, List, length, set, slice_index, get_or, sym, ap, ◌∙◌, subst, arith}
 use Rattle.std.specs.Slots.{slots_items, slots_len}
 use Rattle.atomic_table.proofs.Lists.{at_index}
-use Rattle.ring_layout.specs.Layout.{ring_words}
-use Rattle.ring_layout.specs.Places.{index}
-use Rattle.ring_table.specs.Owners.{all_of}
-use Rattle.ring_table.specs.Staged.{elsewhere, shown_header, staged_end}
+use Rattle.ring_layout.specs.{Layout.ring_words, Places.index}
+use Rattle.ring_table.specs.{Owners.all_of, Staged.elsewhere, Staged.shown_header, Staged.staged_end}
 use Rattle.ring_table.specs.Walk.{IsCopied, Parts, Walked}
-use Rattle.ring_table.proofs.PictureWords.{read_at}
-use Rattle.ring_table.proofs.StagedPlaces.{capacity_aligned}
-use Rattle.ring_table.proofs.WalkLemmas.{Goes, goes}
+use Rattle.ring_table.proofs.{PictureWords.read_at, StagedPlaces.capacity_aligned, WalkLemmas.Goes, WalkLemmas.goes}
 use Rattle.ring_table.proofs.picture.show_record.Goals as goal
 use Rattle.ring_table.proofs.picture.show_record.Goals.{then-shown-header, else-shown-header}
 

@@ -1,23 +1,13 @@
 use Rattle.std.proofs.Common.{◌≡◌, ℕ, ◌-◌, ◌*◌, ◌/◌, ◌≤◌, List, length, slice_index, sym, ap, ◌∙◌, subst}
-use Rattle.std.specs.Slots.{slots_items}
-use Rattle.std.specs.declared.alloc.Global.{Global}
+use Rattle.std.specs.{Slots.slots_items, declared.alloc.Global.Global}
 use Rattle.atomic_table.specs.declared.owned.Closed.{Closed}
-use Rattle.ring_table.specs.declared.view.Key.{Key}
-use Rattle.ring_table.specs.Closed.{IsClosed, IsLeft}
-use Rattle.ring_table.specs.Marks.{AreMarked, IsDecoded, KeepsMarks, ShowsRuns}
-use Rattle.ring_table.specs.Rule.{Kept}
-use Rattle.ring_table.specs.Staged.{elsewhere, StagedClaim}
-use mathlib.Core.Option.{some}
-use lib.ListN.{get_elem?}
-use Rattle.ring_layout.specs.Headers.{committed_header}
-use Rattle.ring_layout.specs.Places.{index}
-use Rattle.ring_table.specs.Views.{View}
-use Rattle.ring_table.specs.Walk.{Parts}
-use Rattle.ring_layout.specs.Layout.{head_index}
-use Rattle.ring_table.proofs.CloseLemmas.{leaves_rest}
+use Rattle.ring_table.specs.{declared.view.Key.Key, Marks.AreMarked, Marks.IsDecoded, Marks.KeepsMarks, Marks.ShowsRuns}
+use Rattle.ring_table.specs.{Closed.IsClosed, Closed.IsLeft, Staged.elsewhere, Staged.StagedClaim, Views.View}
+use Rattle.ring_table.{specs.Rule.Kept, specs.Walk.Parts, proofs.CloseLemmas.leaves_rest, proofs.LawLemmas.none_open}
+use Rattle.std.proofs.Math.{Option.some, ListN.get_elem?}
+use Rattle.ring_layout.specs.{Headers.committed_header, Places.index, Layout.head_index}
 use Rattle.ring_table.proofs.CloseSlots.{capacity_of, closed_slots, heads, hist_settled, parts}
 use Rattle.ring_table.proofs.LastMarks.{head_fits, headers_back, may_decode_all, shows_settled, spread_fits}
-use Rattle.ring_table.proofs.LawLemmas.{none_open}
 use Rattle.ring_table.proofs.picture.show_slots.Goals as goal
 
 module _ (key : Key) (v : View) (closed : Closed ℕ Global) (left : IsLeft elsewhere key v closed) (copied : List ℕ)

@@ -1,10 +1,7 @@
-use Rattle.std.proofs.Common.{◌≡◌, ℕ, ◌-◌, ◌*◌, List, length, refl, sym, ap, ◌∙◌, inl, inr, arith}
-use Rattle.std.specs.Int.{from_le_bytes, to_le_bytes, w64}
-use Rattle.std.specs.List.{slice_range}
-use Rattle.ring_layout.specs.History.{overwritten}
-use Rattle.ring_layout.proofs.WordBytes.{length-overwritten}
-use Rattle.ring_table.specs.SlotSteps.{words_of}
-use Rattle.ring_table.specs.Staged.{body_word}
+use Rattle.std.proofs.Common.{◌≡◌, ℕ, ◌-◌, ◌*◌, List, length, refl, sym, ap, ◌∙◌, inl, inr, arith, w64, slice_range}
+use Rattle.std.specs.Int.{from_le_bytes, to_le_bytes}
+use Rattle.ring_layout.{specs.History.overwritten, proofs.WordBytes.length-overwritten}
+use Rattle.ring_table.specs.{SlotSteps.words_of, Staged.body_word}
 use Rattle.ring_table.proofs.PuttingLemmas.{put_end, put_front, put_more, put_same, put_start, word_kept, word_put}
 use Rattle.ring_table.proofs.putting.merge_slots.Goals as goal
 

@@ -1,7 +1,6 @@
 use Rattle.std.proofs.Common.{List, ℕ}
 use Rattle.ring_layout.specs.History.{overwritten}
-use Rattle.ring_table.specs.Filling.{IsSameTable, Putting, Takes}
-use Rattle.ring_table.specs.SlotSteps.{words_of}
+use Rattle.ring_table.specs.{Filling.IsSameTable, Filling.Putting, Filling.Takes, SlotSteps.words_of}
 use Rattle.ring_table.proofs.putting.merge_slots.Given as goal
 
 abbrev pub invariant-loop-j : goal.invariant-loop-j

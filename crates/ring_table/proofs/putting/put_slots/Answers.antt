@@ -1,20 +1,11 @@
 use Rattle.std.proofs.Common.{◌≡◌, ℕ, ◌+◌, ◌≤◌, List, [], length, sym, refl, ap, ◌∙◌, subst, arith}
-use Rattle.ring_layout.specs.declared.message.Message.{Message}
-use Rattle.ring_layout.specs.Headers.{committed_header}
-use Rattle.ring_layout.specs.History.{overwritten}
-use Rattle.ring_layout.specs.Places.{index}
-use Rattle.ring_layout.proofs.WordBytes.{length-overwritten}
-use Rattle.ring_table.specs.Staged.{StagedClaim, headed, slot_bytes}
-use Rattle.ring_table.proofs.SlotBytes.{headed_put, length_slot, small_slot}
-use Rattle.ring_table.specs.Changes.{with_body}
-use Rattle.ring_table.specs.Filling.{Takes}
-use Rattle.ring_table.specs.Passing.{placed_message}
-use Rattle.ring_table.specs.ProducerSteps.{HasClaim, with_changed}
-use Rattle.ring_table.specs.SlotSteps.{HasBody, with_out}
-use Rattle.ring_table.specs.Views.{View}
-use Rattle.ring_table.proofs.CarryLemmas.{one_claim}
-use Rattle.ring_table.proofs.PuttingLemmas.{small_put}
-use Rattle.ring_table.proofs.SlotBodies.{body_given}
+use Rattle.ring_layout.specs.{declared.message.Message.Message, Headers.committed_header, History.overwritten}
+use Rattle.ring_layout.{specs.Places.index, proofs.WordBytes.length-overwritten}
+use Rattle.ring_table.specs.{Staged.StagedClaim, Staged.headed, Staged.slot_bytes, Passing.placed_message, Views.View}
+use Rattle.ring_table.proofs.{SlotBytes.headed_put, SlotBytes.length_slot, SlotBytes.small_slot, CarryLemmas.one_claim}
+use Rattle.ring_table.specs.{Changes.with_body, Filling.Takes}
+use Rattle.ring_table.specs.{ProducerSteps.HasClaim, ProducerSteps.with_changed, SlotSteps.HasBody, SlotSteps.with_out}
+use Rattle.ring_table.proofs.{PuttingLemmas.small_put, SlotBodies.body_given}
 use Rattle.ring_table.proofs.putting.put_slots.Goals.{After-word_index-first}
 use Rattle.ring_table.proofs.putting.put_slots.Goals as goal
 

@@ -2,9 +2,7 @@ use Rattle.std.proofs.Common.{◌≡◌, ℕ, List, length, refl, slice_index, s
 use Rattle.std.specs.Slots.{slots_items}
 use Rattle.atomic_table.proofs.Lists.{at_index}
 use Rattle.ring_layout.specs.Layout.{head_index, tail_index, ring_words}
-use Rattle.ring_table.specs.Refilling.{FillsTo}
-use Rattle.ring_table.proofs.PictureWords.{read_at}
-use Rattle.ring_table.proofs.RefillLemmas.{filled_up}
+use Rattle.ring_table.{specs.Refilling.FillsTo, proofs.PictureWords.read_at, proofs.RefillLemmas.filled_up}
 use Rattle.ring_table.proofs.rescue.add_bodies.Goals as goal
 
 pub loop-at-init : goal.loop-at-init

@@ -1,9 +1,7 @@
-use Rattle.std.proofs.Common.{◌≡◌, ℕ, ◌-◌, ◌/◌, ◌≤◌, List, slice_index}
-use Rattle.std.specs.Prelude.{vec_len}
+use Rattle.std.proofs.Common.{◌≡◌, ℕ, ◌-◌, ◌/◌, ◌≤◌, List, slice_index, vec_len}
 use Rattle.std.specs.Slots.{slots_items}
 use Rattle.ring_layout.specs.Layout.{head_index}
-use Rattle.ring_table.specs.Staged.{StagedClaim, staged_end}
-use Rattle.ring_table.specs.Refilling.{FillsTo, MayFill}
+use Rattle.ring_table.specs.{Staged.StagedClaim, Staged.staged_end, Refilling.FillsTo, Refilling.MayFill}
 use Rattle.ring_table.proofs.rescue.add_bodies.Given as goal
 
 abbrev pub invariant-loop-at : goal.invariant-loop-at

@@ -1,16 +1,10 @@
-use Rattle.std.proofs.Common.{◌≡◌, ℕ, ◌+◌, ◌-◌, ◌/◌, ◌%◌, ◌^◌, ◌≤◌, ◌<◌, List, length, slice_index, sym, ap, ◌∙◌, subst, inr, arith}
-use Rattle.std.specs.Prelude.{vec_len}
-use Rattle.std.specs.Slots.{slots_items, slots_len}
-use Rattle.std.proofs.lemmas.Nat.{mod_below}
+use Rattle.std.proofs.Common.{◌≡◌, ℕ, ◌+◌, ◌-◌, ◌/◌, ◌%◌, ◌^◌, ◌≤◌, ◌<◌, List, length, slice_index, sym, ap, ◌∙◌, subst, inr, arith, vec_len}
+use Rattle.std.{specs.Slots.slots_items, specs.Slots.slots_len, proofs.lemmas.Nat.mod_below}
 use Rattle.atomic_table.proofs.Lists.{at_index}
-use Rattle.ring_layout.specs.Layout.{ring_words}
-use Rattle.ring_layout.specs.Places.{IsCapacity, index, rounded}
-use Rattle.ring_table.specs.Refilling.{FillsTo}
-use Rattle.ring_table.specs.Staged.{StagedClaim, staged_end}
-use Rattle.ring_table.specs.Walk.{IsCopied}
+use Rattle.ring_layout.specs.{Layout.ring_words, Places.IsCapacity, Places.index, Places.rounded}
+use Rattle.ring_table.specs.{Refilling.FillsTo, Staged.StagedClaim, Staged.staged_end, Walk.IsCopied}
 use Rattle.ring_table.proofs.PictureWords.{read_at}
-use Rattle.ring_table.proofs.RefillLemmas.{FillStep, fill_step}
-use Rattle.ring_table.proofs.StagedPlaces.{capacity_aligned}
+use Rattle.ring_table.proofs.{RefillLemmas.FillStep, RefillLemmas.fill_step, StagedPlaces.capacity_aligned}
 use Rattle.ring_table.proofs.rescue.add_body.Goals as goal
 use Rattle.ring_table.proofs.rescue.add_body.Goals.{then-word-lt2147483648, else-word-lt2147483648}
 

@@ -1,5 +1,4 @@
-use Rattle.std.proofs.Common.{◌≡◌, ℕ, ◌≤◌, ◌<◌, slice_index}
-use Rattle.std.specs.Prelude.{vec_len}
+use Rattle.std.proofs.Common.{◌≡◌, ℕ, ◌≤◌, ◌<◌, slice_index, vec_len}
 use Rattle.ring_table.specs.Staged.{elsewhere, shown_header}
 use Rattle.ring_table.proofs.rescue.format_headers.Given as goal
 

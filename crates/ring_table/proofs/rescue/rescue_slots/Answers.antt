@@ -1,15 +1,11 @@
 use Rattle.std.proofs.Common.{◌≡◌, ℕ, ◌/◌, ◌≤◌, ◌<◌, List, [], length, slice_index, true, sym, ◌∙◌, subst, arith}
-use mathlib.Core.Option.{Option, some}
-use lib.ListN.{get_elem?}
+use Rattle.std.proofs.Math.{Option.Option, Option.some, ListN.get_elem?}
 use Rattle.std.specs.Slots.{slots_items}
-use Rattle.ring_layout.specs.Layout.{head_index, tail_index}
-use Rattle.ring_layout.specs.Places.{IsCapacity}
-use Rattle.ring_table.specs.Marks.{AreMarked, IsDecoded, KeepsMarks, ShowsRuns}
+use Rattle.ring_layout.specs.{Layout.head_index, Layout.tail_index, Places.IsCapacity}
+use Rattle.ring_table.specs.{Marks.AreMarked, Marks.IsDecoded, Marks.KeepsMarks, Marks.ShowsRuns, Owners.OwnedHistory}
 use Rattle.ring_table.specs.Refilling.{MayFill, Filled}
-use Rattle.ring_table.specs.Owners.{OwnedHistory}
 use Rattle.ring_table.specs.Rescued.{KeptWith, Rescues, Settles, ShowsClaims}
-use Rattle.ring_table.specs.Staged.{elsewhere, in_words, shown_header, StagedClaim}
-use Rattle.ring_table.specs.Views.{View}
+use Rattle.ring_table.specs.{Staged.elsewhere, Staged.in_words, Staged.shown_header, Staged.StagedClaim, Views.View}
 use Rattle.ring_table.proofs.BlankLemmas.{all_blanked, shows_blanked}
 use Rattle.ring_table.proofs.LastMarks.{head_fits, may_decode_all, shows_decoded, shows_runs, spread_fits}
 use Rattle.ring_table.proofs.RescueLemmas.{rescues, shows_left}

@@ -1,8 +1,5 @@
 use Rattle.std.proofs.Common.{◌≡◌, ℕ, List, sym, ◌∙◌, subst}
-use Rattle.ring_table.specs.Owners.{OwnedHistory}
-use Rattle.ring_table.specs.Rescued.{KeptWith, Rescues}
-use Rattle.ring_table.specs.Rule.{Kept}
-use Rattle.ring_table.specs.Staged.{in_words}
+use Rattle.ring_table.specs.{Owners.OwnedHistory, Rescued.KeptWith, Rescued.Rescues, Rule.Kept, Staged.in_words}
 use Rattle.ring_table.proofs.RescueLemmas.{left, rescues, shows_left}
 use Rattle.ring_table.proofs.rescue.rescue_words.Goals as goal
 

@@ -1,13 +1,9 @@
 use Rattle.std.proofs.Common.{◌≡◌, refl, ℕ, ◌+◌, ◌-◌, ◌%◌, ◌^◌, ◌<◌, List, length, set, slice_index, get_or-set_other, sym, ap, ◌∙◌, subst, arith, length-set}
 use Rattle.std.proofs.lemmas.Nat.{mod_below}
 use Rattle.atomic_table.proofs.Lists.{at_index}
-use Rattle.ring_layout.specs.Layout.{tail_index, head_index, ring_words}
-use Rattle.ring_layout.specs.Places.{index, rounded}
-use Rattle.ring_table.specs.Rescued.{settled_word, ShowsClaims}
-use Rattle.ring_table.specs.Settling.{Walks}
-use Rattle.ring_table.specs.Staged.{in_words, StagedClaim}
-use Rattle.ring_table.proofs.PictureWords.{read_at}
-use Rattle.ring_table.proofs.StagedPlaces.{capacity_aligned}
+use Rattle.ring_layout.specs.{Layout.tail_index, Layout.head_index, Layout.ring_words, Places.index, Places.rounded}
+use Rattle.ring_table.specs.{Rescued.settled_word, Rescued.ShowsClaims, Staged.in_words, Staged.StagedClaim}
+use Rattle.ring_table.{specs.Settling.Walks, proofs.PictureWords.read_at, proofs.StagedPlaces.capacity_aligned}
 use Rattle.ring_table.proofs.SettleLemmas.{Steps, begins, settles, steps_on}
 use Rattle.ring_table.proofs.rescue.settle_words.Goals as goal
 use Rattle.ring_table.proofs.rescue.settle_words.Goals.{then-word-eq0, else-word-eq0+then-word-gt2147483648, else-word-eq0+else-word-gt2147483648}

@@ -1,8 +1,6 @@
-use Rattle.std.proofs.Common.{◌≡◌, ℕ, ◌-◌, ◌/◌, ◌≤◌, List, slice_index}
-use Rattle.std.specs.Prelude.{vec_len}
+use Rattle.std.proofs.Common.{◌≡◌, ℕ, ◌-◌, ◌/◌, ◌≤◌, List, slice_index, vec_len}
 use Rattle.ring_layout.specs.Layout.{head_index}
-use Rattle.ring_table.specs.Staged.{in_words, StagedClaim, staged_end}
-use Rattle.ring_table.specs.Rescued.{ShowsClaims}
+use Rattle.ring_table.specs.{Staged.in_words, Staged.StagedClaim, Staged.staged_end, Rescued.ShowsClaims}
 use Rattle.ring_table.specs.Settling.{Walks}
 use Rattle.ring_table.proofs.rescue.settle_words.Given as goal
 

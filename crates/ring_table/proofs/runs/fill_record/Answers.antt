@@ -1,7 +1,6 @@
 use Rattle.std.proofs.Common.{◌≡◌, ℕ, ◌+◌, ◌*◌, ◌/◌, ◌<◌, List, length, refl, ◌∙◌, subst, arith}
 use Rattle.std.proofs.lemmas.List.Elements.{All-from_get_or}
-use Rattle.ring_table.specs.Filling.{Filling}
-use Rattle.ring_table.proofs.FillLemmas.{word_of_slice, word_of_rest}
+use Rattle.ring_table.{specs.Filling.Filling, proofs.FillLemmas.word_of_slice, proofs.FillLemmas.word_of_rest}
 use Rattle.ring_table.proofs.RunFill.{record_head, record_next}
 use Rattle.ring_table.proofs.runs.fill_record.Goals as goal
 

@@ -1,7 +1,5 @@
 use Rattle.std.proofs.Common.{ℕ, List, ◌+◌, ◌*◌}
-use Rattle.ring_table.specs.Filling.{Filling, IsSameTable}
-use Rattle.ring_table.specs.RunBodies.{LiesAt}
-use Rattle.ring_table.specs.Staged.{headed}
+use Rattle.ring_table.specs.{Filling.Filling, Filling.IsSameTable, RunBodies.LiesAt, Staged.headed}
 use Rattle.ring_table.proofs.runs.fill_record.Given as goal
 
 abbrev pub invariant-loop-i : goal.invariant-loop-i

@@ -1,14 +1,9 @@
-use Rattle.std.proofs.Common.{◌≡◌, ℕ, ◌+◌, ◌/◌, List, get_or, length, sym, ap, ◌∙◌, subst, take, arith}
-use Rattle.std.proofs.lemmas.List.{length-replicate, take_all}
-use Rattle.std.proofs.lemmas.List.Elements.{All-get_or}
-use Rattle.ring_table.specs.Filling.{Filling}
+use Rattle.std.proofs.Common.{◌≡◌, ℕ, ◌+◌, ◌/◌, List, get_or, length, sym, ap, ◌∙◌, subst, take, arith, take_all}
+use Rattle.std.proofs.lemmas.List.{length-replicate, Elements.All-get_or}
+use Rattle.ring_table.specs.{Filling.Filling, Runs.run_bytes, Runs.run_slots, Staged.headed}
 use Rattle.ring_table.specs.RunBodies.{messages_of, IsSendable, LiesAt, Outgoing}
-use Rattle.ring_table.specs.Runs.{run_bytes, run_slots}
-use Rattle.ring_table.specs.Staged.{headed}
-use Rattle.ring_table.proofs.FillLemmas.{fill_end}
-use Rattle.ring_table.proofs.HeaderCalls.{packs_recorded}
+use Rattle.ring_table.proofs.{FillLemmas.fill_end, HeaderCalls.packs_recorded, RunSlots.length_run}
 use Rattle.ring_table.proofs.RunFill.{are_more, bytes_more, bytes_upto, lies_in, no_message}
-use Rattle.ring_table.proofs.RunSlots.{length_run}
 use Rattle.ring_table.proofs.runs.fill_run.Goals as goal
 
 pub fill_record-requires-clause-more : goal.fill_record-requires-clause-more

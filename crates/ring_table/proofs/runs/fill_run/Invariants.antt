@@ -1,7 +1,6 @@
 use Rattle.std.proofs.Common.{◌≡◌, ◌*◌, take}
-use Rattle.ring_table.specs.Filling.{Filling, IsSameTable}
+use Rattle.ring_table.specs.{Filling.Filling, Filling.IsSameTable, Runs.run_bytes, Runs.run_slots, Runs.AreMessages}
 use Rattle.ring_table.specs.RunBodies.{messages_of}
-use Rattle.ring_table.specs.Runs.{run_bytes, run_slots, AreMessages}
 use Rattle.ring_table.proofs.runs.fill_run.Given as goal
 
 abbrev pub invariant-loop-message : goal.invariant-loop-message

@@ -1,14 +1,8 @@
 use Rattle.std.proofs.Common.{◌≡◌, List, [], ◌++◌, sym, ap, ◌∙◌, subst, arith}
-use Rattle.ring_layout.specs.declared.message.Message.{Message}
-use Rattle.ring_layout.specs.Places.{index}
-use Rattle.ring_table.specs.Ranges.{numbered}
-use Rattle.ring_table.specs.RunBodies.{messages_of}
-use Rattle.ring_table.specs.Runs.{run_claims, run_slots, AreMessages}
-use Rattle.ring_table.specs.SlotSteps.{with_out, HasBody}
-use Rattle.ring_table.specs.Views.{View, with_claims}
-use Rattle.ring_table.proofs.CommitRun.{last_one}
-use Rattle.ring_table.proofs.RunClaims.{run_whole}
-use Rattle.ring_table.proofs.RunFill.{first_message}
+use Rattle.ring_layout.specs.{declared.message.Message.Message, Places.index}
+use Rattle.ring_table.specs.{Ranges.numbered, RunBodies.messages_of, Views.View, Views.with_claims}
+use Rattle.ring_table.specs.{Runs.run_claims, Runs.run_slots, Runs.AreMessages, SlotSteps.with_out, SlotSteps.HasBody}
+use Rattle.ring_table.proofs.{CommitRun.last_one, RunClaims.run_whole, RunFill.first_message}
 use Rattle.ring_table.proofs.runs.write_run.Goals as goal
 
 pub reserve_body-requires-clause-newest : goal.reserve_body-requires-clause-newest

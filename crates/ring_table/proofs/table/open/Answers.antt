@@ -1,7 +1,5 @@
 use Rattle.std.proofs.Common.{sym, subst}
-use Rattle.ring_table.specs.Staged.{in_words}
-use Rattle.ring_table.specs.Closed.{IsFresh}
-use Rattle.ring_table.proofs.OpenLemmas.{fresh_keeps}
+use Rattle.ring_table.{specs.Staged.in_words, specs.Closed.IsFresh, proofs.OpenLemmas.fresh_keeps}
 use Rattle.ring_table.proofs.table.open.Goals as goal
 
 pub of_words-requires : goal.of_words-requires

@@ -1,7 +1,5 @@
 use Rattle.std.proofs.Common.{refl, sym, subst}
-use Rattle.ring_table.specs.Closed.{IsFresh}
-use Rattle.ring_table.proofs.OpenLemmas.{fresh_shelf}
-use Rattle.ring_table.proofs.SeatMarks.{fresh_marks}
+use Rattle.ring_table.{specs.Closed.IsFresh, proofs.OpenLemmas.fresh_shelf, proofs.SeatMarks.fresh_marks}
 use Rattle.ring_table.proofs.table.open_slots.Goals as goal
 
 pub new-requires : goal.new-requires

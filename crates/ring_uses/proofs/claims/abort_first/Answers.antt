@@ -1,11 +1,8 @@
 use Rattle.std.proofs.Common.{◌∙◌, [], ◌∷◌, pos, ap, sym}
 use Rattle.ring_rings.specs.Ring.{message}
-use Rattle.ring_ends.specs.End.{received, sent}
-use Rattle.ring_ends.specs.Ending.{Last}
+use Rattle.ring_ends.specs.{End.received, End.sent, Ending.Last}
 use Rattle.ring_uses.specs.Numbers.{sum_of}
-use Rattle.ring_uses.proofs.ClaimLemmas.{commit_sends}
-use Rattle.ring_uses.proofs.ClosedLemmas.{whole_in}
-use Rattle.ring_uses.proofs.SumLemmas.{sums}
+use Rattle.ring_uses.proofs.{ClaimLemmas.commit_sends, ClosedLemmas.whole_in, SumLemmas.sums}
 use Rattle.ring_uses.proofs.claims.abort_first.Goals as goal
 
 pub returns : goal.returns

@@ -1,7 +1,6 @@
 use Rattle.std.proofs.Common.{pos, length, replicate, subst, sym}
 use Rattle.ring_words.specs.Open.{ClaimAt}
-use Rattle.ring_layout.specs.declared.message.Message.{Message}
-use Rattle.ring_layout.specs.History.{overwritten}
+use Rattle.ring_layout.specs.{declared.message.Message.Message, History.overwritten}
 use Rattle.ring_rings.specs.Ring.{message}
 use Rattle.ring_ends.specs.End.{HasMessage}
 use Rattle.ring_uses.proofs.ClaimLemmas.{all_put}

@@ -1,11 +1,7 @@
 use Rattle.std.proofs.Common.{◌≡◌, ◌∙◌, ◌+◌, ◌%◌, ◌^◌, ap, subst, sym, Ok, Option, Result}
-use Rattle.ring_board.specs.declared.board.Copied.{Copied}
-use Rattle.ring_board.specs.declared.board.CopyReceiver.{CopyReceiver}
-use Rattle.ring_board.specs.declared.fault.Lapped.{Lapped}
-use Rattle.ring_board.specs.Board.{copied, lapped_count_of, CopiesNext}
-use Rattle.ring_board.specs.Seats.{IsReceiverOf}
-use Rattle.ring_uses.specs.Laps.{messages_of, AreWithin}
-use Rattle.ring_uses.specs.Numbers.{sum_of}
+use Rattle.ring_board.specs.declared.{board.Copied.Copied, board.CopyReceiver.CopyReceiver, fault.Lapped.Lapped}
+use Rattle.ring_board.specs.{Board.copied, Board.lapped_count_of, Board.CopiesNext, Seats.IsReceiverOf}
+use Rattle.ring_uses.specs.{Laps.messages_of, Laps.AreWithin, Numbers.sum_of}
 use Rattle.ring_uses.proofs.LapLemmas.{sum_next, within_next}
 use Rattle.ring_uses.proofs.laps.receive_all.Goals as goal
 use Rattle.ring_uses.proofs.laps.receive_all.Goals.{in-Ok-Some, in-Err}

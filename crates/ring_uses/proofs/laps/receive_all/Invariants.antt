@@ -1,8 +1,6 @@
-use Rattle.std.specs.Prelude.{◌≡◌}
-use Rattle.ring_board.specs.Board.{copied, lapped_count_of}
-use Rattle.ring_board.specs.Seats.{IsReceiverOf}
-use Rattle.ring_uses.specs.Laps.{messages_of, AreWithin}
-use Rattle.ring_uses.specs.Numbers.{sum_of}
+use Rattle.std.proofs.Common.{◌≡◌}
+use Rattle.ring_board.specs.{Board.copied, Board.lapped_count_of, Seats.IsReceiverOf}
+use Rattle.ring_uses.specs.{Laps.messages_of, Laps.AreWithin, Numbers.sum_of}
 use Rattle.ring_uses.proofs.laps.receive_all.Given as goal
 
 abbrev pub invariant-loop : goal.invariant-loop

@@ -1,8 +1,6 @@
-use Rattle.std.specs.Prelude.{◌≡◌, pos}
-use Rattle.ring_board.specs.Board.{transmitted}
-use Rattle.ring_board.specs.Seats.{IsTransmitterOf}
-use Rattle.ring_uses.specs.Laps.{messages_in}
-use Rattle.ring_uses.specs.Numbers.{numbers}
+use Rattle.std.proofs.Common.{◌≡◌, pos}
+use Rattle.ring_board.specs.{Board.transmitted, Seats.IsTransmitterOf}
+use Rattle.ring_uses.specs.{Laps.messages_in, Numbers.numbers}
 use Rattle.ring_uses.proofs.laps.transmit_numbers.Given as goal
 
 abbrev pub invariant-loop-number : goal.invariant-loop-number

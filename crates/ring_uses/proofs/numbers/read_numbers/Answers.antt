@@ -1,8 +1,6 @@
 use Rattle.std.proofs.Common.{◌∙◌, length, length-append, ap, sym, arith}
-use Rattle.ring_ends.specs.End.{received}
-use Rattle.ring_ends.proofs.EndLemmas.{one_ring}
-use Rattle.ring_uses.proofs.SumLemmas.{sums}
-use Rattle.ring_uses.specs.Numbers.{sum_of}
+use Rattle.ring_ends.{specs.End.received, proofs.EndLemmas.one_ring}
+use Rattle.ring_uses.{proofs.SumLemmas.sums, specs.Numbers.sum_of}
 use Rattle.ring_uses.proofs.numbers.read_numbers.Goals as goal
 
 pub loop-preserved-then-end-eq0 : goal.loop-preserved-then-end-eq0

@@ -1,4 +1,4 @@
-use Rattle.std.specs.Prelude.{◌≡◌, ◌≤◌, length}
+use Rattle.std.proofs.Common.{◌≡◌, ◌≤◌, length}
 use Rattle.ring_ends.specs.End.{received, AreOfOneRing}
 use Rattle.ring_uses.specs.Numbers.{sum_of}
 use Rattle.ring_uses.proofs.numbers.read_numbers.Given as goal

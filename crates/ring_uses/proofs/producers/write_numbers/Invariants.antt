@@ -1,4 +1,4 @@
-use Rattle.std.specs.Prelude.{◌≡◌, ◌≤◌}
+use Rattle.std.proofs.Common.{◌≡◌, ◌≤◌}
 use Rattle.ring_ends.specs.End.{sent, AreOfOneRing}
 use Rattle.ring_uses.specs.Numbers.{numbers}
 use Rattle.ring_uses.proofs.producers.write_numbers.Given as goal

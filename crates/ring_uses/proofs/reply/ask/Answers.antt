@@ -1,25 +1,16 @@
 use Rattle.std.proofs.Common.{◌∙◌, [], ◌∷◌, ◌++◌, ap, subst, sym}
-use Rattle.ring_rings.specs.declared.ring.Consumer.{Consumer}
-use Rattle.ring_rings.specs.declared.ring.Producer.{Producer}
-use Rattle.ring_rings.specs.Reading.{messages_of}
-use Rattle.ring_rings.specs.Ring.{received, sent, IsWhole}
-use Rattle.ring_rings.specs.Seats.{taken_of}
-use Rattle.ring_board.specs.declared.board.CopyReceiver.{CopyReceiver}
-use Rattle.ring_board.specs.declared.board.Transmitter.{Transmitter}
+use Rattle.ring_rings.specs.{declared.ring.Consumer.Consumer, declared.ring.Producer.Producer, Reading.messages_of}
+use Rattle.ring_rings.specs.{Ring.received, Ring.sent, Ring.IsWhole, Seats.taken_of}
+use Rattle.ring_board.specs.declared.board.{CopyReceiver.CopyReceiver, Transmitter.Transmitter}
 use Rattle.ring_board.specs.declared.shared.view.View.{View as BoardView}
-use Rattle.ring_board.specs.Board.{copied, subscribed_at, transmitted}
-use Rattle.ring_board.specs.Runs.{AreRuns}
+use Rattle.ring_board.specs.{Board.copied, Board.subscribed_at, Board.transmitted, Runs.AreRuns}
 use Rattle.ring_counters.specs.declared.manager.CountersManager.{CountersManager}
 use Rattle.ring_counters.specs.Manager.{registry_of, writes_of}
 use Rattle.ring_service.specs.Account.{Account, account_of, messages_in, reply_message}
-use Rattle.ring_service.specs.Asking.{receiver_of}
-use Rattle.ring_service.specs.Conducting.{ledger_of, received_of, transmitter_of}
-use Rattle.ring_service.specs.Finishing.{replies_of}
-use Rattle.ring_service.specs.Fold.{at_moment}
-use Rattle.ring_service.specs.declared.conductor.Conductor.{Conductor}
+use Rattle.ring_service.specs.{Asking.receiver_of, Finishing.replies_of, declared.conductor.Conductor.Conductor}
+use Rattle.ring_service.specs.{Conducting.ledger_of, Conducting.received_of, Conducting.transmitter_of, Fold.at_moment}
 use Rattle.ring_service.proofs.AccountLemmas.{account_as}
-use Rattle.ring_uses.specs.Laps.{messages_of as copied_messages}
-use Rattle.ring_uses.specs.Reply.{replies_to, request_with}
+use Rattle.ring_uses.specs.{Laps.messages_of as copied_messages, Reply.replies_to, Reply.request_with}
 use Rattle.ring_uses.proofs.ReplyLemmas.{copied_is_transmitted, one_copy, one_reply}
 use Rattle.ring_uses.proofs.reply.ask.Goals as goal
 

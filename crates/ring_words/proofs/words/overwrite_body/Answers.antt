@@ -1,8 +1,6 @@
-use Rattle.std.proofs.Common.{◌≡◌, ℕ, ◌+◌, ◌-◌, ◌/◌, ◌<◌, List, length, take, drop, refl, arith, ap, sym, ◌∙◌, subst, get_or-set_other}
-use Rattle.std.proofs.lemmas.List.{length-drop, length-take-le}
+use Rattle.std.proofs.Common.{◌≡◌, ℕ, ◌+◌, ◌-◌, ◌/◌, ◌<◌, List, length, take, drop, refl, arith, ap, sym, ◌∙◌, subst, get_or-set_other, length-drop, length-take-le}
 use Rattle.std.proofs.Math.Seq.{take-length}
-use Rattle.ring_layout.specs.History.{overwritten}
-use Rattle.ring_layout.specs.Bytes.{HoldsBytes}
+use Rattle.ring_layout.specs.{History.overwritten, Bytes.HoldsBytes}
 use Rattle.ring_words.proofs.PutLemmas.{overwritten_none, holds_more}
 use Rattle.ring_words.proofs.words.overwrite_body.Goals as goal
 

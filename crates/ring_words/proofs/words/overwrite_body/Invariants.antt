@@ -1,6 +1,5 @@
 use Rattle.std.proofs.Common.{length, ◌-◌, ◌≡◌, ℕ, ◌+◌, ◌/◌, ◌<◌, ◌≤◌, List, All, take, slice_index}
-use Rattle.ring_layout.specs.History.{overwritten}
-use Rattle.ring_layout.specs.Bytes.{HoldsBytes}
+use Rattle.ring_layout.specs.{History.overwritten, Bytes.HoldsBytes}
 use Rattle.ring_words.proofs.words.overwrite_body.Given as goal
 
 -- the first bytes are put, and no others are changed

@@ -1,8 +1,6 @@
-use Rattle.std.proofs.Common.{◌≡◌, [], ◌∷◌, ◌++◌, ap, ◌∙◌, arith, rules}
-use Rattle.std.specs.Int.{cast_signed, cast_unsigned, w64}
-use Rattle.std.proofs.lemmas.Int.{to_z-of_z}
-use Rattle.ring_adders.specs.declared.view.AdderView.{AdderView}
-use Rattle.ring_adders.proofs.StepLemmas.{adds}
+use Rattle.std.proofs.Common.{◌≡◌, [], ◌∷◌, ◌++◌, ap, ◌∙◌, arith, rules, w64}
+use Rattle.std.{specs.Int.cast_signed, specs.Int.cast_unsigned, proofs.lemmas.Int.to_z-of_z}
+use Rattle.ring_adders.{specs.declared.view.AdderView.AdderView, proofs.StepLemmas.adds}
 use Rattle.ring_adders.proofs.seats.SharedCounter.add.Goals as goal
 
 pub fetch_add-requires : goal.fetch_add-requires

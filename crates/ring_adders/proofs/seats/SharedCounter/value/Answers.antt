@@ -1,9 +1,7 @@
-use Rattle.std.proofs.Common.{ℤ, List, sym, subst, ap, ◌∙◌, arith, rules}
-use Rattle.std.specs.Int.{cast_signed, w64}
+use Rattle.std.proofs.Common.{ℤ, List, sym, subst, ap, ◌∙◌, arith, rules, w64}
+use Rattle.std.specs.Int.{cast_signed}
 use Rattle.ring_layout.specs.Lists.{Begins}
-use Rattle.ring_adders.specs.declared.view.AdderView.{AdderView}
-use Rattle.ring_adders.specs.Sums.{sum_of}
-use Rattle.ring_adders.proofs.StepLemmas.{loads}
+use Rattle.ring_adders.{specs.declared.view.AdderView.AdderView, specs.Sums.sum_of, proofs.StepLemmas.loads}
 use Rattle.ring_adders.proofs.seats.SharedCounter.value.Goals as goal
 
 pub load-requires : goal.load-requires

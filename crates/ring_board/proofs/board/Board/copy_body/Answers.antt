@@ -1,8 +1,6 @@
 use Rattle.std.proofs.Common.{◌≡◌, ℕ, ◌+◌, ◌*◌, ◌/◌, ◌%◌, List, length, sym, ap, ◌∙◌, arith}
-use Rattle.ring_layout.specs.Places.{index}
-use Rattle.ring_layout.proofs.Laps.{index_step}
-use Rattle.ring_board.specs.Views.{Sat}
-use Rattle.ring_board.proofs.FoundLemmas.{copied_on}
+use Rattle.ring_layout.{specs.Places.index, proofs.Laps.index_step}
+use Rattle.ring_board.{specs.Views.Sat, proofs.FoundLemmas.copied_on}
 use Rattle.ring_board.proofs.board.Board.copy_body.Goals as goal
 
 pub load_word-word-requires-clause-stage : goal.load_word-word-requires-clause-stage

@@ -1,6 +1,5 @@
 use Rattle.std.proofs.Common.{◌≡◌, ℕ, []}
-use Rattle.ring_board.specs.declared.shared.view.Stage.TheVariants.{Reading}
-use Rattle.ring_board.specs.Receiving.{CopiedWords}
+use Rattle.ring_board.specs.{declared.shared.view.Stage.TheVariants.Reading, Receiving.CopiedWords}
 use Rattle.ring_board.proofs.board.Board.copy_body.Given as goal
 
 abbrev pub invariant-loop-k : goal.invariant-loop-k

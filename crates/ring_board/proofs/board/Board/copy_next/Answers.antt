@@ -1,8 +1,6 @@
-use Rattle.std.proofs.Common.{ℕ, ℤ, take, sym, subst, ◌∙◌}
-use Rattle.std.specs.Int.{w32}
+use Rattle.std.proofs.Common.{ℕ, ℤ, take, sym, subst, ◌∙◌, w32}
 use Rattle.std.proofs.lemmas.Int.{to_z-of_z}
-use Rattle.ring_board.specs.Receiving.{GotCopy}
-use Rattle.ring_board.proofs.FoundLemmas.{took_from, missed_from}
+use Rattle.ring_board.{specs.Receiving.GotCopy, proofs.FoundLemmas.took_from, proofs.FoundLemmas.missed_from}
 use Rattle.ring_board.proofs.board.Board.copy_next.Goals as goal
 
 pub returns-in-Ok-clause-got : goal.returns-in-Ok-clause-got

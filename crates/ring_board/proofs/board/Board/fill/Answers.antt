@@ -1,14 +1,9 @@
-use Rattle.std.proofs.Common.{◌≡◌, ℕ, ◌+◌, ◌%◌, sym, ap, ◌∙◌, arith}
-use Rattle.std.specs.Int.{w32, cast_signed, cast_unsigned}
-use Rattle.ring_layout.specs.History.{span}
-use Rattle.ring_layout.specs.Places.{next_place}
+use Rattle.std.proofs.Common.{◌≡◌, ℕ, ◌+◌, ◌%◌, sym, ap, ◌∙◌, arith, w32}
+use Rattle.std.specs.Int.{cast_signed, cast_unsigned}
+use Rattle.ring_layout.specs.{History.span, Places.next_place}
 use Rattle.ring_layout.proofs.PlaceLemmas.{next_aligned, span_bounds}
-use Rattle.ring_board.specs.declared.shared.view.Record.{Record}
-use Rattle.ring_board.specs.declared.shared.view.Stage.TheVariants.{Written}
-use Rattle.ring_board.specs.Records.{end}
-use Rattle.ring_board.specs.Seats.{next_record}
-use Rattle.ring_board.specs.Views.{Sat}
-use Rattle.ring_board.specs.TransmitterSteps.{record_at}
+use Rattle.ring_board.specs.declared.shared.view.{Record.Record, Stage.TheVariants.Written}
+use Rattle.ring_board.specs.{Records.end, Seats.next_record, Views.Sat, TransmitterSteps.record_at}
 use Rattle.ring_board.proofs.board.Board.fill.Goals as goal
 
 pub invariant_of-result : goal.invariant_of-result

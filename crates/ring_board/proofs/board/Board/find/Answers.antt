@@ -1,5 +1,4 @@
-use Rattle.std.proofs.Common.{ℕ, ◌+◌, ◌<◌, sym, ◌∙◌, arith}
-use Rattle.std.proofs.lemmas.Bool.{leb-false}
+use Rattle.std.proofs.Common.{ℕ, ◌+◌, ◌<◌, sym, ◌∙◌, arith, leb-false}
 use Rattle.ring_board.proofs.FoundLemmas.{unread_found}
 use Rattle.ring_board.proofs.board.Board.find.Goals as goal
 

@@ -1,8 +1,5 @@
 use Rattle.std.proofs.Common.{◌≡◌, ℕ, ◌+◌, ◌*◌, ◌/◌, ◌%◌, ◌≤◌, sym, ◌∙◌, subst, arith}
-use Rattle.ring_layout.specs.History.{span}
-use Rattle.ring_layout.specs.Places.{index}
-use Rattle.ring_layout.proofs.Laps.{index_step}
-use Rattle.ring_layout.proofs.PlaceLemmas.{span_bounds}
+use Rattle.ring_layout.{specs.History.span, specs.Places.index, proofs.Laps.index_step, proofs.PlaceLemmas.span_bounds}
 use Rattle.ring_board.specs.declared.shared.view.Taken.{Taken}
 use Rattle.ring_board.proofs.BodyLemmas.{copies_kept, loaded_on, loaded_all}
 use Rattle.ring_board.proofs.board.Board.load_answered.Goals as goal

@@ -1,7 +1,6 @@
 use Rattle.std.proofs.Common.{rules, sym, ap, ◌∙◌, arith}
 use Rattle.ring_layout.specs.Places.{index}
-use Rattle.ring_board.specs.ReceiverSteps.{header_loaded}
-use Rattle.ring_board.proofs.ReceiveLemmas.{loads_header}
+use Rattle.ring_board.{specs.ReceiverSteps.header_loaded, proofs.ReceiveLemmas.loads_header}
 use Rattle.ring_board.proofs.board.Board.load_header.Goals as goal
 
 pub load-requires : goal.load-requires

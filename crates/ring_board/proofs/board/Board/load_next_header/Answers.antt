@@ -1,5 +1,4 @@
-use Rattle.std.proofs.Common.{◌≡◌, ℕ, ◌+◌, ◌<◌, ◌≤◌, true, ap, sym, ◌∙◌, arith}
-use Rattle.std.proofs.lemmas.Bool.{leb-false}
+use Rattle.std.proofs.Common.{◌≡◌, ℕ, ◌+◌, ◌<◌, ◌≤◌, true, ap, sym, ◌∙◌, arith, leb-false}
 use Rattle.ring_board.specs.Records.{announced, is_padding}
 use Rattle.ring_layout.specs.Places.{index, max_position}
 use Rattle.ring_board.proofs.FoundLemmas.{padding_loads, padded_as, padding_seen, padding_low, near_behind, heard_sure}

@@ -1,7 +1,6 @@
 use Rattle.std.proofs.Common.{rules, ℕ, ◌+◌, ◌*◌, length, sym, ap, ◌∙◌, arith}
 use Rattle.ring_layout.specs.Places.{index}
-use Rattle.ring_board.proofs.PlaceLemmas.{index_below}
-use Rattle.ring_board.proofs.ReceiveLemmas.{loads_word}
+use Rattle.ring_board.proofs.{PlaceLemmas.index_below, ReceiveLemmas.loads_word}
 use Rattle.ring_board.proofs.board.Board.load_word.Goals as goal
 
 pub load-requires : goal.load-requires

@@ -1,8 +1,6 @@
 use Rattle.std.proofs.Common.{rules, ◌≡◌, ℕ, ◌+◌, ◌/◌, set, sym, ap, ◌∙◌, arith}
-use Rattle.ring_board.specs.declared.shared.view.Shape.{Shape}
-use Rattle.ring_board.specs.Records.{end_of}
+use Rattle.ring_board.specs.{declared.shared.view.Shape.Shape, Records.end_of, Layout.tail_index, Layout.latest_index}
 use Rattle.ring_board.specs.Views.{Sat}
-use Rattle.ring_board.specs.Layout.{tail_index, latest_index}
 use Rattle.ring_board.proofs.OpeningLemmas.{opened_as, capacity_whole, multiple}
 use Rattle.ring_board.proofs.board.Board.make.Goals as goal
 

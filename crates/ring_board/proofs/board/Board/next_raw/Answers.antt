@@ -1,6 +1,4 @@
-use Rattle.std.proofs.Common.{ℕ, ◌+◌, ◌<◌, sym, ◌∙◌, arith}
-use Rattle.std.specs.Int.{w32}
-use Rattle.std.proofs.lemmas.Bool.{leb-false}
+use Rattle.std.proofs.Common.{ℕ, ◌+◌, ◌<◌, sym, ◌∙◌, arith, w32, leb-false}
 use Rattle.std.proofs.lemmas.Int.{to_z-of_z}
 use Rattle.ring_board.proofs.FoundLemmas.{answered_as}
 use Rattle.ring_board.proofs.board.Board.next_raw.Goals as goal

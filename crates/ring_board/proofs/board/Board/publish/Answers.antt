@@ -1,8 +1,5 @@
 use Rattle.std.proofs.Common.{sym, ap, ◌∙◌}
-use Rattle.ring_board.specs.declared.shared.view.Record.{Record}
-use Rattle.ring_board.specs.Records.{end_of}
-use Rattle.ring_board.specs.Views.{Sat}
-use Rattle.ring_board.specs.TransmitterSteps.{record_at}
+use Rattle.ring_board.specs.{declared.shared.view.Record.Record, Records.end_of, Views.Sat, TransmitterSteps.record_at}
 use Rattle.ring_board.proofs.PlaceLemmas.{end_snoc}
 use Rattle.ring_board.proofs.board.Board.publish.Goals as goal
 

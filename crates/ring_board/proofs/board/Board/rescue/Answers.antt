@@ -1,7 +1,6 @@
 use Rattle.std.proofs.Common.{ℕ, refl, subst, arith}
 use Rattle.std.specs.Slots.{slots_items}
-use Rattle.ring_board.specs.Closing.{IsClosed}
-use Rattle.ring_board.proofs.PictureLemmas.{closed_as, closed_copy}
+use Rattle.ring_board.{specs.Closing.IsClosed, proofs.PictureLemmas.closed_as, proofs.PictureLemmas.closed_copy}
 use Rattle.ring_board.proofs.board.Board.rescue.Goals as goal
 
 pub returns-clause-closed : goal.returns-clause-closed

@@ -1,16 +1,9 @@
-use Rattle.std.proofs.Common.{◌≡◌, ℕ, suc, ◌+◌, ◌*◌, ◌/◌, ◌%◌, ◌<◌, List, [], ◌∷◌, ◌++◌, length, sym, ap, ◌∙◌, arith, length-append}
-use Rattle.std.specs.Int.{from_le_bytes, w64}
-use Rattle.std.proofs.lemmas.List.{take_rest}
-use Rattle.ring_layout.proofs.Laps.{index_step}
-use Rattle.ring_layout.specs.Places.{index}
-use Rattle.ring_board.specs.declared.shared.view.Draft.{Draft}
-use Rattle.ring_board.specs.declared.shared.view.Stage.{Stage}
-use Rattle.ring_board.specs.Records.{first_words}
-use Rattle.ring_board.specs.Views.{Sat, at_stage}
-use Rattle.ring_board.specs.TransmitterSteps.{after_words, with_words}
-use Rattle.ring_board.proofs.StoreLemmas.{words_long}
-use Rattle.ring_board.proofs.ByteLemmas.{first_words_snoc}
-use Rattle.ring_board.proofs.CallLemmas.{more_words}
+use Rattle.std.proofs.Common.{◌≡◌, ℕ, suc, ◌+◌, ◌*◌, ◌/◌, ◌%◌, ◌<◌, List, [], ◌∷◌, ◌++◌, length, sym, ap, ◌∙◌, arith, length-append, w64}
+use Rattle.std.{specs.Int.from_le_bytes, proofs.lemmas.List.take_rest}
+use Rattle.ring_layout.{proofs.Laps.index_step, specs.Places.index}
+use Rattle.ring_board.specs.{declared.shared.view.Draft.Draft, declared.shared.view.Stage.Stage, Records.first_words}
+use Rattle.ring_board.specs.{Views.Sat, Views.at_stage, TransmitterSteps.after_words, TransmitterSteps.with_words}
+use Rattle.ring_board.proofs.{StoreLemmas.words_long, ByteLemmas.first_words_snoc, CallLemmas.more_words}
 use Rattle.ring_board.proofs.board.Board.store_body.Goals as goal
 
 pub store_word-requires-clause-stage : goal.store_word-requires-clause-stage

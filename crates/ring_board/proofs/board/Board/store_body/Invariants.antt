@@ -1,7 +1,5 @@
 use Rattle.std.proofs.Common.{◌≡◌}
-use Rattle.ring_board.specs.Records.{first_words}
-use Rattle.ring_board.specs.Views.{at_stage}
-use Rattle.ring_board.specs.TransmitterSteps.{after_words}
+use Rattle.ring_board.specs.{Records.first_words, Views.at_stage, TransmitterSteps.after_words}
 use Rattle.ring_board.proofs.board.Board.store_body.Given as goal
 
 abbrev pub invariant-loop-k : goal.invariant-loop-k

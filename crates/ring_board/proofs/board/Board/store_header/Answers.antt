@@ -1,6 +1,5 @@
 use Rattle.std.proofs.Common.{rules, ℕ, sym, ◌∙◌, subst, arith}
-use Rattle.ring_layout.specs.History.{IsMessage}
-use Rattle.ring_layout.specs.Places.{index}
+use Rattle.ring_layout.specs.{History.IsMessage, Places.index}
 use Rattle.ring_board.proofs.TransmitterSteps.{stores_header}
 use Rattle.ring_board.proofs.board.Board.store_header.Goals as goal
 

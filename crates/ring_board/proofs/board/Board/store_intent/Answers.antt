@@ -1,7 +1,5 @@
 use Rattle.std.proofs.Common.{rules, ℕ, sym, subst, ◌∙◌, add-zero}
-use Rattle.ring_board.specs.Records.{Lies}
-use Rattle.ring_board.specs.TransmitterSteps.{place_before}
-use Rattle.ring_board.proofs.TransmitterSteps.{stores_intent}
+use Rattle.ring_board.{specs.Records.Lies, specs.TransmitterSteps.place_before, proofs.TransmitterSteps.stores_intent}
 use Rattle.ring_board.proofs.board.Board.store_intent.Goals as goal
 
 pub store-requires : goal.store-requires

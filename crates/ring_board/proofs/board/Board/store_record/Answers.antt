@@ -1,18 +1,11 @@
-use Rattle.std.proofs.Common.{ℕ, ◌+◌, ◌%◌, pos, List, [], length, refl, ap, ◌∙◌, arith}
-use Rattle.std.specs.Int.{w32}
+use Rattle.std.proofs.Common.{ℕ, ◌+◌, ◌%◌, pos, List, [], length, refl, ap, ◌∙◌, arith, w32}
 use Rattle.std.proofs.lemmas.Int.{to_z-of_z}
-use Rattle.ring_layout.specs.Headers.{header}
-use Rattle.ring_layout.specs.declared.message.Message.{Message}
-use Rattle.ring_layout.specs.History.{span}
+use Rattle.ring_layout.specs.{Headers.header, declared.message.Message.Message, History.span}
 use Rattle.ring_layout.proofs.PlaceLemmas.{next_aligned, next_within, span_bounds}
-use Rattle.ring_board.specs.declared.shared.view.Draft.{Draft}
-use Rattle.ring_board.specs.declared.shared.view.Record.{Record}
-use Rattle.ring_board.specs.declared.shared.view.Stage.TheVariants.{Written}
-use Rattle.ring_board.specs.Records.{words_of_body}
-use Rattle.ring_board.specs.Views.{Sat, at_stage}
+use Rattle.ring_board.specs.declared.shared.view.{Draft.Draft, Record.Record, Stage.TheVariants.Written}
+use Rattle.ring_board.specs.{Records.words_of_body, Views.Sat, Views.at_stage}
 use Rattle.ring_board.specs.TransmitterSteps.{draft, with_words, after_words, after_header}
-use Rattle.ring_board.proofs.TransmitLemmas.{written_as}
-use Rattle.ring_board.proofs.CallLemmas.{lawful_message}
+use Rattle.ring_board.proofs.{TransmitLemmas.written_as, CallLemmas.lawful_message}
 use Rattle.ring_board.proofs.board.Board.store_record.Goals as goal
 
 pub store_body-requires-clause-place : goal.store_body-requires-clause-place

@@ -1,7 +1,6 @@
 use Rattle.std.proofs.Common.{rules, ℕ, ◌+◌, ◌*◌, length, sym, ap, ◌∙◌, arith}
 use Rattle.ring_layout.specs.Places.{index}
-use Rattle.ring_board.proofs.PlaceLemmas.{index_below}
-use Rattle.ring_board.proofs.TransmitterSteps.{stores_word}
+use Rattle.ring_board.proofs.{PlaceLemmas.index_below, TransmitterSteps.stores_word}
 use Rattle.ring_board.proofs.board.Board.store_word.Goals as goal
 
 pub store-requires : goal.store-requires

@@ -1,18 +1,10 @@
-use Rattle.std.proofs.Common.{◌≡◌, ℕ, ℤ, ◌+◌, ◌%◌, length, sym, ap, ◌∙◌, arith}
-use Rattle.std.specs.Int.{w32, cast_signed, cast_unsigned}
-use Rattle.std.proofs.lemmas.Int.{to_z-of_z}
-use Rattle.ring_layout.specs.History.{span}
-use Rattle.ring_layout.specs.Places.{next_place}
+use Rattle.std.proofs.Common.{◌≡◌, ℕ, ℤ, ◌+◌, ◌%◌, length, sym, ap, ◌∙◌, arith, w32}
+use Rattle.std.{specs.Int.cast_signed, specs.Int.cast_unsigned, proofs.lemmas.Int.to_z-of_z}
+use Rattle.ring_layout.specs.{History.span, Places.next_place}
 use Rattle.ring_layout.proofs.PlaceLemmas.{next_aligned, span_bounds}
-use Rattle.ring_board.specs.declared.shared.view.Record.{Record}
-use Rattle.ring_board.specs.declared.shared.view.View.{View}
-use Rattle.ring_board.specs.declared.shared.view.Stage.TheVariants.{Written}
-use Rattle.ring_board.specs.Records.{end, end_of}
-use Rattle.ring_board.specs.Views.{Sat}
-use Rattle.ring_board.specs.TransmitterSteps.{sent_on}
-use Rattle.ring_board.specs.Seats.{next_record}
-use Rattle.ring_board.proofs.PlaceLemmas.{end_snoc}
-use Rattle.ring_board.proofs.CallLemmas.{lies_begun, sent_through}
+use Rattle.ring_board.specs.declared.shared.view.{Record.Record, View.View, Stage.TheVariants.Written}
+use Rattle.ring_board.specs.{Records.end, Records.end_of, Views.Sat, TransmitterSteps.sent_on, Seats.next_record}
+use Rattle.ring_board.proofs.{PlaceLemmas.end_snoc, CallLemmas.lies_begun, CallLemmas.sent_through}
 use Rattle.ring_board.proofs.board.Board.transmit.Goals as goal
 use Rattle.ring_board.proofs.board.Board.transmit.Goals.{After-show_record}
 

@@ -1,9 +1,6 @@
-use Rattle.std.proofs.Common.{ℕ, ℤ, List, take, refl, ap, sym, subst}
-use Rattle.std.specs.Prelude.{MatchOption, Option}
-use Rattle.ring_board.specs.declared.receiver.found.CopiedMessage.{CopiedMessage}
+use Rattle.std.proofs.Common.{ℕ, ℤ, List, take, refl, ap, sym, subst, MatchOption, Option}
+use Rattle.ring_board.specs.{declared.receiver.found.CopiedMessage.CopiedMessage, Seats.receiver_seat, Views.Sat}
 use Rattle.ring_board.specs.Receiving.{GotNothing, GotCopy}
-use Rattle.ring_board.specs.Seats.{receiver_seat}
-use Rattle.ring_board.specs.Views.{Sat}
 use Rattle.ring_board.proofs.board.CopyReceiver.receive.Goals as goal
 
 pub returns-in-Some : goal.returns-in-Some

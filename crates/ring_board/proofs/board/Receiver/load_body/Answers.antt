@@ -1,10 +1,7 @@
-use Rattle.std.proofs.Common.{◌≡◌, ℕ, List, ◌++◌, length, take, drop, ap, sym, ◌∙◌, subst}
-use Rattle.std.proofs.lemmas.List.{length-take-le}
+use Rattle.std.proofs.Common.{◌≡◌, ℕ, List, ◌++◌, length, take, drop, ap, sym, ◌∙◌, subst, length-take-le}
 use Rattle.std.proofs.Math.Seq.{take-append_seam}
-use Rattle.ring_board.specs.Bodies.{GaveBody}
-use Rattle.ring_board.specs.Views.{Sat}
-use Rattle.ring_board.proofs.BodyLemmas.{loaded_now}
-use Rattle.ring_board.proofs.RawLemmas.{answered_same}
+use Rattle.ring_board.specs.{Bodies.GaveBody, Views.Sat}
+use Rattle.ring_board.proofs.{BodyLemmas.loaded_now, RawLemmas.answered_same}
 use Rattle.ring_board.proofs.board.Receiver.load_body.Goals as goal
 
 pub returns-clause-gave : goal.returns-clause-gave

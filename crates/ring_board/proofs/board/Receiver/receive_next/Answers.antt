@@ -1,8 +1,6 @@
-use Rattle.std.proofs.Common.{◌<◌, ap, sym, ◌∙◌, subst}
-use Rattle.std.specs.Prelude.{MatchOption, Option}
+use Rattle.std.proofs.Common.{◌<◌, ap, sym, ◌∙◌, subst, MatchOption, Option}
 use Rattle.ring_board.specs.declared.board.RawRecord.{RawRecord}
-use Rattle.ring_board.specs.Receiving.{GotNothing, GotRecord, IsInBuffer}
-use Rattle.ring_board.specs.Views.{Sat}
+use Rattle.ring_board.specs.{Receiving.GotNothing, Receiving.GotRecord, Receiving.IsInBuffer, Views.Sat}
 use Rattle.ring_board.proofs.RawLemmas.{answered_more, answered_same, answered_last}
 use Rattle.ring_board.proofs.board.Receiver.receive_next.Goals as goal
 

@@ -1,8 +1,6 @@
-use Rattle.std.proofs.Common.{ℕ, ◌+◌, ◌<◌, ap, sym, ◌∙◌, subst, arith}
-use Rattle.std.proofs.lemmas.Bool.{leb-false, not-true}
-use Rattle.ring_board.specs.Bodies.{IsLoaded}
-use Rattle.ring_board.specs.Views.{Sat}
-use Rattle.ring_board.proofs.RawLemmas.{answered_same}
+use Rattle.std.proofs.Common.{ℕ, ◌+◌, ◌<◌, ap, sym, ◌∙◌, subst, arith, leb-false}
+use Rattle.std.proofs.lemmas.Bool.{not-true}
+use Rattle.ring_board.{specs.Bodies.IsLoaded, specs.Views.Sat, proofs.RawLemmas.answered_same}
 use Rattle.ring_board.proofs.board.Receiver.validate.Goals as goal
 
 pub returns-clause-right : goal.returns-clause-right

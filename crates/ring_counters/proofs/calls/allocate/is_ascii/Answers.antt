@@ -1,6 +1,5 @@
 use Rattle.std.proofs.Common.{◌≡◌, ℕ, ◌<◌, ◌&&◌, ◌∙◌, ap, sym, arith, inl, inr, nat_lt, bit_or, slice_index}
-use Rattle.std.proofs.lemmas.Bool.{cases_lt, lt-ltb, le-ltb}
-use Rattle.std.proofs.lemmas.Nat.{or_lt, le_or_l, le_or_r}
+use Rattle.std.proofs.lemmas.{Bool.cases_lt, Bool.lt-ltb, Bool.le-ltb, Nat.or_lt, Nat.le_or_l, Nat.le_or_r}
 use Rattle.std.proofs.lemmas.List.Folds.{list_all_more}
 use Rattle.ring_counters.proofs.calls.allocate.is_ascii.Goals as goal
 

@@ -1,8 +1,7 @@
-use Rattle.std.proofs.Common.{◌∙◌, refl, sym, ap}
-use Rattle.std.specs.Int.{cast_signed, cast_unsigned, w32}
+use Rattle.std.proofs.Common.{◌∙◌, refl, sym, ap, w32}
+use Rattle.std.specs.Int.{cast_signed, cast_unsigned}
 use Rattle.atomic_table.specs.Seated.{TableId}
-use Rattle.ring_counters.specs.Counter.{Counter}
-use Rattle.ring_counters.specs.Registry.{Registry, new_counter}
+use Rattle.ring_counters.specs.{Counter.Counter, Registry.Registry, Registry.new_counter}
 use Rattle.ring_counters.proofs.AgreeLemmas.{agree_stored, count_stored}
 use Rattle.ring_counters.proofs.manager.CountersManager.allocate_owned.Goals as goal
 

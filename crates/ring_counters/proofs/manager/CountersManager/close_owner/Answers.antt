@@ -1,6 +1,5 @@
 use Rattle.std.proofs.Common.{◌∙◌, sym, subst, ap}
-use Rattle.ring_counters.specs.Registry.{Registry, count_of}
-use Rattle.ring_counters.specs.Agree.{Agree}
+use Rattle.ring_counters.specs.{Registry.Registry, Registry.count_of, Agree.Agree}
 use Rattle.ring_counters.proofs.AgreeLemmas.{agree_closed, count_closed}
 use Rattle.ring_counters.proofs.manager.CountersManager.close_owner.Goals as goal
 

@@ -1,8 +1,7 @@
-use Rattle.std.proofs.Common.{◌∙◌, sym, refl, ap}
-use Rattle.std.specs.Int.{cast_signed, cast_unsigned, w64}
+use Rattle.std.proofs.Common.{◌∙◌, sym, refl, ap, w64}
+use Rattle.std.specs.Int.{cast_signed, cast_unsigned}
 use Rattle.atomic_table.specs.Seated.{TableId}
-use Rattle.ring_counters.specs.Counter.{Counter}
-use Rattle.ring_counters.specs.Registry.{Registry, counter_at}
+use Rattle.ring_counters.specs.{Counter.Counter, Registry.Registry, Registry.counter_at}
 use Rattle.ring_counters.proofs.AgreeLemmas.{agree_stored, count_stored, accepted_inside}
 use Rattle.ring_counters.proofs.manager.CountersManager.set.Goals as goal
 

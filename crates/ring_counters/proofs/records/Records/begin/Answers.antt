@@ -1,6 +1,5 @@
 use Rattle.std.proofs.Common.{◌≡◌, ◌∙◌, sym, ap, arith}
-use Rattle.ring_counters.specs.Counter.{Metadata, Allocated}
-use Rattle.ring_counters.specs.Registry.{allocated_in, is_allocated}
+use Rattle.ring_counters.specs.{Counter.Metadata, Counter.Allocated, Registry.allocated_in, Registry.is_allocated}
 use Rattle.ring_counters.proofs.FlagLemmas.{flags_size, flags_stored}
 use Rattle.ring_counters.proofs.ShownLemmas.{shows, begun_inside, begun_kept, begun_shown}
 use Rattle.ring_counters.proofs.records.Records.begin.Goals as goal

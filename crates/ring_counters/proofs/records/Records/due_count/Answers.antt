@@ -1,7 +1,6 @@
 use Rattle.std.proofs.Common.{ℕ, ◌+◌, ◌<◌, ◌≤◌, ◌∙◌, sym, ap, arith, length, take_all, count_by}
 use Rattle.std.proofs.lemmas.List.Sums.{count_by_more_yes, count_by_more_no}
-use Rattle.ring_counters.specs.Registry.{status_at, is_due}
-use Rattle.ring_counters.proofs.AvailableLemmas.{queue_few}
+use Rattle.ring_counters.{specs.Registry.status_at, specs.Registry.is_due, proofs.AvailableLemmas.queue_few}
 use Rattle.ring_counters.proofs.ShownLemmas.{shows, shown_queue, queued_inside, queued_due, queued_not_due}
 use Rattle.ring_counters.proofs.records.Records.due_count.Goals as goal
 use Rattle.ring_counters.proofs.records.Records.due_count.Goals.{then-deadline-now, else-deadline-now}

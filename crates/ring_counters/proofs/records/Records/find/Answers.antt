@@ -1,9 +1,6 @@
-use Rattle.std.proofs.Common.{◌≡◌, ℕ, ◌<◌, ◌∙◌, false, ap, arith, inl, inr, subst, sym}
-use Rattle.std.specs.Int.{w32}
-use Rattle.std.proofs.lemmas.Bool.{cases_lt}
-use Rattle.std.proofs.lemmas.Int.{to_z-of_z}
-use Rattle.ring_counters.specs.Counter.{unused_counter}
-use Rattle.ring_counters.specs.Registry.{counter_at, is_registered}
+use Rattle.std.proofs.Common.{◌≡◌, ℕ, ◌<◌, ◌∙◌, false, ap, arith, inl, inr, subst, sym, w32}
+use Rattle.std.proofs.lemmas.{Bool.cases_lt, Int.to_z-of_z}
+use Rattle.ring_counters.specs.{Counter.unused_counter, Registry.counter_at, Registry.is_registered}
 use Rattle.ring_counters.proofs.ShownLemmas.{NoneBefore, position_some, position_none}
 use Rattle.ring_counters.proofs.records.Records.find.Goals as goal
 

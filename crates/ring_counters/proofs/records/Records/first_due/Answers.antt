@@ -1,6 +1,5 @@
 use Rattle.std.proofs.Common.{ℕ, ◌<◌, ◌≤◌, sym, ap, arith, length, below_more}
-use Rattle.ring_counters.specs.Counter.{deadline_of}
-use Rattle.ring_counters.specs.Registry.{status_at, is_due}
+use Rattle.ring_counters.specs.{Counter.deadline_of, Registry.status_at, Registry.is_due}
 use Rattle.ring_counters.proofs.ShownLemmas.{shows, shown_queue, queued_inside, queued_due, queued_not_due, rest_not_due, position_some, position_none}
 use Rattle.ring_counters.proofs.records.Records.first_due.Goals as goal
 

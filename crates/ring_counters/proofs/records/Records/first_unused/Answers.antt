@@ -1,7 +1,6 @@
-use Rattle.std.proofs.Common.{◌∙◌, arith, sym}
-use Rattle.std.proofs.lemmas.Bool.{lt-ltb, le-ltb, cond-true, cond-false}
-use Rattle.ring_counters.specs.Registry.{count_of}
-use Rattle.ring_counters.proofs.KeptLemmas.{unused_id-kept}
+use Rattle.std.proofs.Common.{◌∙◌, arith, sym, lt-ltb, le-ltb}
+use Rattle.std.proofs.lemmas.Bool.{cond-true, cond-false}
+use Rattle.ring_counters.{specs.Registry.count_of, proofs.KeptLemmas.unused_id-kept}
 use Rattle.ring_counters.proofs.ShownLemmas.{shows, shown_size, shown_kept}
 use Rattle.ring_counters.proofs.records.Records.first_unused.Goals as goal
 

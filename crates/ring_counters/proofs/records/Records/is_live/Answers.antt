@@ -1,7 +1,6 @@
 use Rattle.std.proofs.Common.{◌<◌, ◌∙◌, ap, arith, false, length}
 use Rattle.std.proofs.lemmas.List.{get_or_default}
-use Rattle.ring_counters.specs.Counter.{Counter}
-use Rattle.ring_counters.specs.Registry.{is_allocated}
+use Rattle.ring_counters.specs.{Counter.Counter, Registry.is_allocated}
 use Rattle.ring_counters.proofs.FlagLemmas.{flags_size, flag_at}
 use Rattle.ring_counters.proofs.ShownLemmas.{shows, shown_size, shown_at}
 use Rattle.ring_counters.proofs.records.Records.is_live.Goals as goal

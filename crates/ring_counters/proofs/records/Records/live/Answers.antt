@@ -1,6 +1,5 @@
 use Rattle.std.proofs.Common.{ℕ, ◌+◌, ◌≤◌, ◌∙◌, ap, sym, subst, arith, Vec, Global}
-use Rattle.ring_counters.specs.declared.info.CounterInfo.{CounterInfo}
-use Rattle.ring_counters.specs.Infos.{AreInfos}
+use Rattle.ring_counters.specs.{declared.info.CounterInfo.CounterInfo, Infos.AreInfos}
 use Rattle.ring_counters.proofs.ListingLemmas.{live_below, listed_one_more, listed_one_less, listed_all}
 use Rattle.ring_counters.proofs.records.Records.live.Goals as goal
 use Rattle.ring_counters.proofs.records.Records.live.Goals.{then-is_live+in_ok-info+in_ok-push, else-is_live}

@@ -1,5 +1,4 @@
-use Rattle.ring_counters.specs.Infos.{AreInfos}
-use Rattle.ring_counters.proofs.ListingLemmas.{live_below}
+use Rattle.ring_counters.{specs.Infos.AreInfos, proofs.ListingLemmas.live_below}
 use Rattle.ring_counters.proofs.records.Records.live.Given as goal
 
 abbrev pub invariant-loop-id : goal.invariant-loop-id

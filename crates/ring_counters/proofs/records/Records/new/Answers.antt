@@ -1,7 +1,6 @@
 use Rattle.std.proofs.Common.{◌∙◌, sym, ap}
 use Rattle.ring_counters.specs.Kept.{live_flags}
-use Rattle.ring_counters.proofs.FlagLemmas.{flags_fresh}
-use Rattle.ring_counters.proofs.ShownLemmas.{fresh_shown, fresh_kept}
+use Rattle.ring_counters.proofs.{FlagLemmas.flags_fresh, ShownLemmas.fresh_shown, ShownLemmas.fresh_kept}
 use Rattle.ring_counters.proofs.records.Records.new.Goals as goal
 
 pub invariant_of-result : goal.invariant_of-result

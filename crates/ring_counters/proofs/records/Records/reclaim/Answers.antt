@@ -2,8 +2,7 @@ use Rattle.std.proofs.Common.{◌≡◌, ℕ, List, true, ◌+◌, ◌-◌, ◌<
 use Rattle.std.proofs.lemmas.List.{get_or_default}
 use Rattle.ring_counters.specs.Counter.{Metadata, Reclaimed, deadline_of, unused_metadata}
 use Rattle.ring_counters.specs.Registry.{is_allocated}
-use Rattle.ring_counters.proofs.FlagLemmas.{flags_size, flags_stored}
-use Rattle.ring_counters.proofs.KeptLemmas.{kept_room}
+use Rattle.ring_counters.proofs.{FlagLemmas.flags_size, FlagLemmas.flags_stored, KeptLemmas.kept_room}
 use Rattle.ring_counters.proofs.ShownLemmas.{shows, all_inside, allocated_below, room_left, reclaimed_shown, reclaimed_kept}
 use Rattle.ring_counters.proofs.records.Records.reclaim.Goals.{After-push_back_reserved}
 use Rattle.ring_counters.proofs.records.Records.reclaim.Goals as goal

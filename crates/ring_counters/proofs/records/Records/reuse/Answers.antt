@@ -1,8 +1,6 @@
 use Rattle.std.proofs.Common.{◌≡◌, ◌∙◌, sym, ap, arith, set}
-use Rattle.ring_counters.specs.Counter.{Metadata, Allocated}
-use Rattle.ring_counters.specs.Registry.{Registry, is_allocated}
-use Rattle.ring_counters.proofs.FlagLemmas.{flags_size, flags_stored}
-use Rattle.ring_counters.proofs.KeptLemmas.{kept_room}
+use Rattle.ring_counters.specs.{Counter.Metadata, Counter.Allocated, Registry.Registry, Registry.is_allocated}
+use Rattle.ring_counters.proofs.{FlagLemmas.flags_size, FlagLemmas.flags_stored, KeptLemmas.kept_room}
 use Rattle.ring_counters.proofs.ShownLemmas.{shows, shown_size, reused_inside, reused_kept, stored}
 use Rattle.ring_counters.proofs.records.Records.reuse.Goals as goal
 

@@ -1,7 +1,5 @@
-use Rattle.std.proofs.Common.{◌<◌, ◌∙◌, arith, length}
-use Rattle.std.specs.Int.{w64}
-use Rattle.std.proofs.lemmas.Int.{to_z-of_z}
-use Rattle.std.proofs.lemmas.List.{get_or_default}
+use Rattle.std.proofs.Common.{◌<◌, ◌∙◌, arith, length, w64}
+use Rattle.std.proofs.lemmas.{Int.to_z-of_z, List.get_or_default}
 use Rattle.ring_counters.specs.Counter.{unused_values}
 use Rattle.ring_counters.proofs.ShownLemmas.{shows, allocated_below, valued_shown, valued_kept}
 use Rattle.ring_counters.proofs.records.Records.set.Goals as goal

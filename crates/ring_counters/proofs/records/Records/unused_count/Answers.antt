@@ -1,6 +1,5 @@
 use Rattle.std.proofs.Common.{arith}
-use Rattle.ring_counters.proofs.AvailableLemmas.{unused_counted}
-use Rattle.ring_counters.proofs.ShownLemmas.{shows, shown_kept}
+use Rattle.ring_counters.proofs.{AvailableLemmas.unused_counted, ShownLemmas.shows, ShownLemmas.shown_kept}
 use Rattle.ring_counters.proofs.records.Records.unused_count.Goals as goal
 
 pub returns-clause-count : goal.returns-clause-count

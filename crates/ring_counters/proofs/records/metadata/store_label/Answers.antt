@@ -1,7 +1,5 @@
-use Rattle.std.proofs.Common.{◌≡◌, ℕ, zero, suc, ◌+◌, ◌*◌, ◌%◌, ◌^◌, ◌<◌, ◌∙◌, ap, arith, bit_or, length, slice_index, get_or-set_same}
-use Rattle.std.specs.Int.{from_le_bytes, w64}
-use Rattle.std.proofs.lemmas.List.{length-drop, take_rest}
-use Rattle.std.proofs.lemmas.Nat.{or_shifted}
+use Rattle.std.proofs.Common.{◌≡◌, ℕ, zero, suc, ◌+◌, ◌*◌, ◌%◌, ◌^◌, ◌<◌, ◌∙◌, ap, arith, bit_or, length, slice_index, get_or-set_same, w64, length-drop}
+use Rattle.std.{specs.Int.from_le_bytes, proofs.lemmas.List.take_rest, proofs.lemmas.Nat.or_shifted}
 use Rattle.ring_layout.specs.Bytes.{word_of_bytes}
 use Rattle.ring_counters.specs.Counter.{label_text}
 use Rattle.ring_counters.proofs.RecordLemmas.{AreSmall, first_of_text, rest_of_text}

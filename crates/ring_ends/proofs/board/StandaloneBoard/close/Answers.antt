@@ -1,13 +1,8 @@
 use Rattle.std.proofs.Common.{◌∙◌, ap, subst}
-use Rattle.ring_board.specs.declared.board.Board.{Board}
-use Rattle.ring_board.specs.declared.shared.view.View.{View}
-use Rattle.ring_board.specs.Closing.{IsClosed, closed_words}
+use Rattle.ring_board.specs.{declared.board.Board.Board, declared.shared.view.View.View, Board.transmitted}
+use Rattle.ring_board.specs.{Closing.IsClosed, Closing.closed_words, Seats.capacity_of, Seats.start_of, Seats.view_of}
 use Rattle.ring_board.specs.Runs.{AreAllRuns}
-use Rattle.ring_board.specs.Board.{transmitted}
-use Rattle.ring_board.specs.Seats.{capacity_of, start_of, view_of}
-use Rattle.ring_ends.specs.Held.{held_in}
-use Rattle.ring_ends.specs.Receivers.{all_left}
-use Rattle.ring_ends.proofs.LeavingLemmas.{sent_stays}
+use Rattle.ring_ends.{specs.Held.held_in, specs.Receivers.all_left, proofs.LeavingLemmas.sent_stays}
 use Rattle.ring_ends.proofs.board.StandaloneBoard.close.Goals as goal
 
 pub returns-clause-closed : goal.returns-clause-closed

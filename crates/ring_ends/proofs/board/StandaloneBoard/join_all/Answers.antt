@@ -1,7 +1,5 @@
 use Rattle.std.proofs.Common.{◌∙◌, arith}
-use Rattle.ring_ends.specs.Receivers.{by_number}
-use Rattle.ring_ends.proofs.HeldLemmas.{all_gone}
-use Rattle.ring_ends.proofs.LeavingLemmas.{left_on}
+use Rattle.ring_ends.{specs.Receivers.by_number, proofs.HeldLemmas.all_gone, proofs.LeavingLemmas.left_on}
 use Rattle.ring_ends.proofs.board.StandaloneBoard.join_all.Goals as goal
 
 pub loop-index-preserved : goal.loop-index-preserved

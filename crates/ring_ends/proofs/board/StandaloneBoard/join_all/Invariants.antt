@@ -1,6 +1,5 @@
 use Rattle.std.proofs.Common.{◌≡◌}
-use Rattle.ring_ends.specs.Receivers.{by_number}
-use Rattle.ring_ends.proofs.LeavingLemmas.{LeftTo}
+use Rattle.ring_ends.{specs.Receivers.by_number, proofs.LeavingLemmas.LeftTo}
 use Rattle.ring_ends.proofs.board.StandaloneBoard.join_all.Given as goal
 
 -- the first receivers have left

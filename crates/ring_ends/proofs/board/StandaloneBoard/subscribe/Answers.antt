@@ -1,8 +1,6 @@
 use Rattle.std.proofs.Common.{ap, rules, subst}
-use Rattle.ring_board.specs.declared.shared.view.View.{View}
-use Rattle.ring_board.specs.Seats.{IsReceiverOf}
-use Rattle.ring_ends.specs.Held.{Comes, held_in}
-use Rattle.ring_ends.proofs.HeldLemmas.{of_comes, sum_comes}
+use Rattle.ring_board.specs.{declared.shared.view.View.View, Seats.IsReceiverOf}
+use Rattle.ring_ends.{specs.Held.Comes, specs.Held.held_in, proofs.HeldLemmas.of_comes, proofs.HeldLemmas.sum_comes}
 use Rattle.ring_ends.proofs.board.StandaloneBoard.subscribe.Goals as goal
 
 pub invariant_of-self-in-Ok-clause-belong : goal.invariant_of-self-in-Ok-clause-belong

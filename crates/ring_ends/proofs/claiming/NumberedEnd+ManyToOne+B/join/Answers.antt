@@ -1,8 +1,6 @@
 use Rattle.std.proofs.Common.{◌∙◌, ap, subst, sym}
-use Rattle.ring_ends.specs.Claims.{claims_in}
-use Rattle.ring_ends.specs.Claiming.{AreAllOpen, NumberedClaims}
-use Rattle.ring_ends.proofs.ClaimLemmas.{all_both}
-use Rattle.ring_ends.proofs.EndLemmas.{open_of}
+use Rattle.ring_ends.specs.{Claims.claims_in, Claiming.AreAllOpen, Claiming.NumberedClaims}
+use Rattle.ring_ends.proofs.{ClaimLemmas.all_both, EndLemmas.open_of}
 use Rattle.ring_ends.proofs.claiming.NumberedEnd+ManyToOne+B.join.Goals as goal
 
 pub invariant_of-self-2 : goal.invariant_of-self-2

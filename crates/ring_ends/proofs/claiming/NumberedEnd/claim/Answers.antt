@@ -1,12 +1,8 @@
-use Rattle.std.proofs.Common.{◌∙◌, ◌++◌, ◌∷◌, [], ap, subst, sym}
-use Rattle.std.specs.Int.{w32}
+use Rattle.std.proofs.Common.{◌∙◌, ◌++◌, ◌∷◌, [], ap, subst, sym, w32}
 use Rattle.std.proofs.lemmas.Int.{to_z-of_z}
-use Rattle.ring_ends.specs.Claims.{claims_in}
+use Rattle.ring_ends.{specs.Claims.claims_in, proofs.ClaimLemmas.all_more, proofs.EndLemmas.open_of}
 use Rattle.ring_ends.specs.Claiming.{AreAllOpen, Keeps, KeepsNone, NumberedClaims}
-use Rattle.ring_ends.specs.declared.claiming.Claimed.{Claimed}
-use Rattle.ring_ends.specs.declared.claiming.ClaimRefused.TheVariants.{Refused}
-use Rattle.ring_ends.proofs.ClaimLemmas.{all_more}
-use Rattle.ring_ends.proofs.EndLemmas.{open_of}
+use Rattle.ring_ends.specs.declared.claiming.{Claimed.Claimed, ClaimRefused.TheVariants.Refused}
 use Rattle.ring_ends.proofs.claiming.NumberedEnd.claim.Goals as goal
 
 pub invariant_of-self-in-Ok-try_claim : goal.invariant_of-self-in-Ok-try_claim

@@ -1,7 +1,6 @@
 use Rattle.std.proofs.Common.{refl, subst, sym}
 use Rattle.ring_ends.specs.Claiming.{AreAllOpen}
-use Rattle.ring_ends.proofs.ClaimLemmas.{all_less, numbered_open}
-use Rattle.ring_ends.proofs.EndLemmas.{open_of}
+use Rattle.ring_ends.proofs.{ClaimLemmas.all_less, ClaimLemmas.numbered_open, EndLemmas.open_of}
 use Rattle.ring_ends.proofs.claiming.NumberedEnd.commit.Goals as goal
 
 pub commit-requires : goal.commit-requires

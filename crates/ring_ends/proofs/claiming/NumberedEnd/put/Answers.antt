@@ -1,9 +1,7 @@
 use Rattle.std.proofs.Common.{◌∙◌, ap, length, subst, sym}
 use Rattle.ring_rings.specs.Seats.{IsOpenAt}
-use Rattle.ring_ends.specs.End.{End}
-use Rattle.ring_ends.proofs.ClaimLemmas.{numbered_open, put_count}
-use Rattle.ring_ends.proofs.EndLemmas.{open_of}
-use Rattle.ring_ends.proofs.SlotLemmas.{put_back_open, put_back_same}
+use Rattle.ring_ends.{specs.End.End, proofs.ClaimLemmas.numbered_open, proofs.ClaimLemmas.put_count}
+use Rattle.ring_ends.proofs.{EndLemmas.open_of, SlotLemmas.put_back_open, SlotLemmas.put_back_same}
 use Rattle.ring_ends.proofs.claiming.NumberedEnd.put.Goals as goal
 
 pub take-requires : goal.take-requires

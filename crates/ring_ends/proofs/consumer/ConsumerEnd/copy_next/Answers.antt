@@ -1,6 +1,5 @@
 use Rattle.std.proofs.Common.{rules}
-use Rattle.ring_ends.proofs.CopyLemmas.{copied_twice}
-use Rattle.ring_ends.proofs.EndLemmas.{one_ring}
+use Rattle.ring_ends.proofs.{CopyLemmas.copied_twice, EndLemmas.one_ring}
 use Rattle.ring_ends.proofs.consumer.ConsumerEnd.copy_next.Goals as goal
 
 pub returns-then-eq-2 : goal.returns-then-eq-2

@@ -1,5 +1,4 @@
-use Rattle.ring_ends.proofs.CopyLemmas.{copied_one, same_borrow}
-use Rattle.ring_ends.proofs.StopLemmas.{reads_on}
+use Rattle.ring_ends.proofs.{CopyLemmas.copied_one, CopyLemmas.same_borrow, StopLemmas.reads_on}
 use Rattle.ring_ends.proofs.consumer.ConsumerEnd.copy_one.Goals as goal
 
 pub returns-clause-borrow : goal.returns-clause-borrow

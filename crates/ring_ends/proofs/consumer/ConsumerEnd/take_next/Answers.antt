@@ -1,6 +1,5 @@
 use Rattle.std.proofs.Common.{rules}
-use Rattle.ring_ends.proofs.EndLemmas.{one_ring}
-use Rattle.ring_ends.proofs.TakeLemmas.{received_any, taken_twice}
+use Rattle.ring_ends.proofs.{EndLemmas.one_ring, TakeLemmas.received_any, TakeLemmas.taken_twice}
 use Rattle.ring_ends.proofs.consumer.ConsumerEnd.take_next.Goals as goal
 
 pub returns-then-eq-clause-does : goal.returns-then-eq-clause-does

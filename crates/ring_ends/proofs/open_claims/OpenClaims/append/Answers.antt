@@ -1,6 +1,5 @@
 use Rattle.std.proofs.Common.{◌∙◌, ◌++◌, ap}
-use Rattle.ring_rings.specs.Holding.{in_slots}
-use Rattle.ring_rings.proofs.HoldingLemmas.{slots_append}
+use Rattle.ring_rings.{specs.Holding.in_slots, proofs.HoldingLemmas.slots_append}
 use Rattle.ring_ends.specs.Claims.{claims_in}
 use Rattle.ring_ends.proofs.open_claims.OpenClaims.append.Goals as goal
 

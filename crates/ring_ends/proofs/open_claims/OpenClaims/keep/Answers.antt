@@ -1,8 +1,7 @@
 use Rattle.std.proofs.Common.{◌∙◌, ◌++◌, ◌∷◌, [], ap, sym, subst, Some}
 use Rattle.ring_words.specs.Open.{ClaimAt}
 use Rattle.ring_rings.specs.Holding.{in_slots}
-use Rattle.ring_ends.specs.Claims.{claims_in}
-use Rattle.ring_ends.specs.Slots.{AreNoted, ClaimSlots}
+use Rattle.ring_ends.specs.{Claims.claims_in, Slots.AreNoted, Slots.ClaimSlots}
 use Rattle.ring_ends.proofs.SlotLemmas.{last_claim, noted_append}
 use Rattle.ring_ends.proofs.open_claims.OpenClaims.keep.Goals as goal
 

@@ -2,8 +2,7 @@ use Rattle.std.proofs.Common.{◌≡◌, ◌∙◌, None, List, Option, Some, ap
 use Rattle.std.proofs.lemmas.List.{get_or_default}
 use Rattle.ring_words.specs.Open.{ClaimAt}
 use Rattle.ring_rings.specs.Holding.{AreApart}
-use Rattle.ring_ends.specs.Claims.{claims_in, IsSlotOf, TakesFrom}
-use Rattle.ring_ends.specs.Slots.{ClaimSlots}
+use Rattle.ring_ends.specs.{Claims.claims_in, Claims.IsSlotOf, Claims.TakesFrom, Slots.ClaimSlots}
 use Rattle.ring_ends.proofs.SlotLemmas.{takes_from}
 use Rattle.ring_ends.proofs.open_claims.OpenClaims.take.Goals as goal
 

@@ -1,8 +1,7 @@
 use Rattle.std.proofs.Common.{◌∙◌, ap, rules}
 use Rattle.std.proofs.lemmas.Fn.{filter_same}
 use Rattle.ring_rings.specs.Holding.{in_slots}
-use Rattle.ring_ends.specs.Claims.{claims_in}
-use Rattle.ring_ends.proofs.SlotLemmas.{none_noted, slots_filtered}
+use Rattle.ring_ends.{specs.Claims.claims_in, proofs.SlotLemmas.none_noted, proofs.SlotLemmas.slots_filtered}
 use Rattle.ring_ends.proofs.open_claims.OpenClaims.tidy.Goals as goal
 
 pub returns : goal.returns

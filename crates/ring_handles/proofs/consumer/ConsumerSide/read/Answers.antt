@@ -1,8 +1,7 @@
 use Rattle.std.proofs.Common.{rules, ◌≡◌, w32, to_z, of_z}
 use Rattle.ring_ends.specs.Next.{ReceivesNext}
-use Rattle.ring_handles.specs.Consuming.{next_code}
+use Rattle.ring_handles.{specs.Consuming.next_code, proofs.ConsumerLemmas.received_out}
 use Rattle.ring_handles.specs.contracts.consumer.ConsumerSide.{the_view}
-use Rattle.ring_handles.proofs.ConsumerLemmas.{received_out}
 use Rattle.ring_handles.proofs.consumer.ConsumerSide.read.Goals.{in-Many, in-One}
 use Rattle.ring_handles.proofs.consumer.ConsumerSide.read.Goals as goal
 

@@ -1,8 +1,6 @@
-use Rattle.std.proofs.Common.{ℤ, refl, sym, ap, ◌∙◌, inl, inr, rules}
-use Rattle.std.specs.Int.{w32}
+use Rattle.std.proofs.Common.{ℤ, refl, sym, ap, ◌∙◌, inl, inr, rules, w32}
 use Rattle.std.proofs.lemmas.Int.{to_z-of_z}
-use Rattle.ring_counters.specs.Manager.{registry_of}
-use Rattle.ring_counters.specs.Registry.{allocated_in, new_counter}
+use Rattle.ring_counters.specs.{Manager.registry_of, Registry.allocated_in, Registry.new_counter}
 use Rattle.ring_handles.proofs.CountingLemmas.{same_side}
 use Rattle.ring_handles.proofs.counters.CountersSide.allocate.Goals as goal
 

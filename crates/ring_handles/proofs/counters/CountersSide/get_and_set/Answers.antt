@@ -1,5 +1,4 @@
-use Rattle.std.proofs.Common.{refl, sym, ◌∙◌, inl, inr, rules}
-use Rattle.std.specs.Int.{w64}
+use Rattle.std.proofs.Common.{refl, sym, ◌∙◌, inl, inr, rules, w64}
 use Rattle.std.proofs.lemmas.Int.{to_z-of_z}
 use Rattle.ring_handles.proofs.CountingLemmas.{answered, same_side, stored}
 use Rattle.ring_handles.proofs.counters.CountersSide.get_and_set.Goals as goal

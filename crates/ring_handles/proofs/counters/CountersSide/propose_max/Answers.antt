@@ -1,8 +1,6 @@
-use Rattle.std.proofs.Common.{refl, sym, ap, ◌∙◌, inl, inr, rules}
-use Rattle.std.specs.Int.{w64}
+use Rattle.std.proofs.Common.{refl, sym, ap, ◌∙◌, inl, inr, rules, w64}
 use Rattle.std.proofs.lemmas.Int.{to_z-of_z}
-use Rattle.ring_counters.specs.Manager.{registry_of}
-use Rattle.ring_counters.specs.Registry.{is_raised_by}
+use Rattle.ring_counters.specs.{Manager.registry_of, Registry.is_raised_by}
 use Rattle.ring_handles.proofs.CountingLemmas.{answered, refused, same_side, stored}
 use Rattle.ring_handles.proofs.counters.CountersSide.propose_max.Goals as goal
 

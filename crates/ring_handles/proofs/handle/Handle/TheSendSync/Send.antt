@@ -6,13 +6,10 @@ use denote.Memory.{lone}
 use denote.RawPtr.{Ptr, block_ptr, null_ptr}
 use denote.Builtin.{RawPtr}
 use denote.Param.Send.{IsSend, part_keyless, owning_send, struct_send, sendable}
-use denote.Struct.Struct.{exits_of}
-use denote.Struct.Owning.{shape, fields, to}
+use denote.Struct.{Struct.exits_of, Owning.shape, Owning.fields, Owning.to}
 use Rattle.std_alloc.proofs.SendSync.{quiet}
-use Rattle.std.specs.declared.option.Option.{Option}
-use Rattle.std.specs.declared.alloc.Global.{Global}
+use Rattle.std.{specs.declared.option.Option.Option, specs.declared.alloc.Global.Global, proofs.Crossing.frees}
 use Rattle.std.proofs.alloc.Global.TheSendSync as heap
-use Rattle.std.proofs.Crossing.{frees}
 use Rattle.ring_handles.specs.Owned.{boxed, handle_owns}
 use Rattle.ring_handles.specs.contracts.held.Held.{the_row as R}
 use Rattle.ring_handles.proofs.held.Held.TheSendSync as held

@@ -16,17 +16,15 @@ use denote.Signature.{types_at, plain}
 use denote.RawPtr.{null_ptr, ptr_val}
 use denote.Steps.{nothing}
 use denote.Param.{layout}
-use denote.Triple.Entry.{alive}
-use denote.Triple.Walked.{Stays, stay_dropped, walk_of, Goes-dropped}
+use denote.Triple.{Entry.alive, Walked.Stays, Walked.stay_dropped, Walked.walk_of, Walked.Goes-dropped}
 use Rattle.core.proofs.cell.Inside.{one}
 use Rattle.std.proofs.alloc.Global.TheLaws as heap_laws
 use Rattle.std.proofs.raw_atomic.Walks.{proved_at, leaves}
 use Rattle.std.specs.declared.option.Option.TheVariants.{None}
-use Rattle.ring_handles.proofs.Values.{both}
+use Rattle.ring_handles.proofs.{Values.both, handle.Handle.empty.Statement.statement}
 use Rattle.ring_handles.proofs.HandleValues.{Z, handle_good, handle_in, none_in}
 use Rattle.ring_handles.specs.contracts.handle.Handle.empty.{ended, clauses}
 use Rattle.ring_handles.specs.contracts.handle.Handle.empty.Key.{name as #self}
-use Rattle.ring_handles.proofs.handle.Handle.empty.Statement.{statement}
 use Rattle.ring_handles.proofs.handle.Handle.empty.Code as code
 
 pub empty_spec : {M : Type 1} → statement M

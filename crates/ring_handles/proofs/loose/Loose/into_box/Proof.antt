@@ -18,21 +18,14 @@ use denote.RattleType.{RattleType, owns}
 use denote.Signature.{types_at, plain}
 use denote.RawPtr.{block_ptr}
 use denote.Steps.{nothing, only}
-use denote.Param.{param, layout, bounded}
-use denote.Param.Laws.{param_laws}
-use denote.Triple.Clauses.{Lasts, lasts}
+use denote.Param.{param, layout, bounded, Laws.param_laws}
+use denote.Triple.{Clauses.Lasts, Clauses.lasts, Call.calls_at_last, Walked.Stays, Walked.stay_dropped, Walked.walk_of}
 use denote.Triple.Spec.{triple_of}
-use denote.Triple.Call.{calls_at_last}
-use denote.Triple.Walked.{Stays, stay_dropped, walk_of}
-use Rattle.core.proofs.alloc.Calls.{Goes-blank}
-use Rattle.core.proofs.alloc.Shapes.{after}
-use Rattle.core.proofs.atomic.Steps.{fm}
-use Rattle.core.proofs.cell.Inside.{Good}
+use Rattle.core.proofs.{alloc.Calls.Goes-blank, alloc.Shapes.after, atomic.Steps.fm, cell.Inside.Good}
 use Rattle.std_alloc.proofs.BoxSteps.Form as box
-use Rattle.std_alloc.proofs.BoxSteps.Steps.{box_out, box_in}
+use Rattle.std_alloc.proofs.{BoxSteps.Steps.box_out, BoxSteps.Steps.box_in, boxed.Box.from_raw.Met.met}
 use Rattle.std.proofs.raw_atomic.Walks.{proved_at, leaves}
 use Rattle.std_alloc.specs.contracts.boxed.Box.from_raw as callee
-use Rattle.std_alloc.proofs.boxed.Box.from_raw.Met.{met}
 use Rattle.ring_handles.proofs.Values.{both, Loose, loose_good, loose_out}
 use Rattle.ring_handles.specs.contracts.loose.Loose.into_box.{ended, clauses}
 use Rattle.ring_handles.specs.contracts.loose.Loose.into_box.Key.{name as #self}

@@ -20,19 +20,14 @@ use denote.Signature.{types_at, plain}
 use denote.Builtin.{RawPtr}
 use denote.RawPtr.{Ptr, block_ptr, null_ptr, ptr_val, in_a_block}
 use denote.Steps.{nothing, only, heard}
-use denote.Param.{param, layout, bounded}
-use denote.Param.Laws.{param_laws}
+use denote.Param.{param, layout, bounded, Laws.param_laws}
 use denote.Struct.Tuple.{Tuple}
-use denote.Triple.Spec.{triple_of}
-use denote.Triple.Call.{calls_at}
-use denote.Triple.Walked.{Stays, stay_dropped, walk_of}
-use Rattle.core.proofs.alloc.Calls.{Goes-blank, handle_tells}
-use Rattle.core.proofs.atomic.Steps.{fm}
+use denote.Triple.{Spec.triple_of, Call.calls_at, Walked.Stays, Walked.stay_dropped, Walked.walk_of}
+use Rattle.core.proofs.{alloc.Calls.Goes-blank, alloc.Calls.handle_tells, atomic.Steps.fm}
 use Rattle.std_alloc.proofs.BoxSteps.Form as box
-use Rattle.std_alloc.proofs.BoxSteps.Steps.{box_out, box_in}
+use Rattle.std_alloc.proofs.{BoxSteps.Steps.box_out, BoxSteps.Steps.box_in, boxed.Box.into_raw_with_allocator.Met.met}
 use Rattle.std.proofs.raw_atomic.Walks.{proved_at, leaves}
 use Rattle.std_alloc.specs.contracts.boxed.Box.into_raw_with_allocator as callee
-use Rattle.std_alloc.proofs.boxed.Box.into_raw_with_allocator.Met.{met}
 use Rattle.ring_handles.proofs.Values.{both, loose_good, loose_in, owned}
 use Rattle.ring_handles.specs.contracts.loose.Loose.of.{ended, clauses}
 use Rattle.ring_handles.specs.contracts.loose.Loose.of.Key.{name as #self}

@@ -1,6 +1,5 @@
 use Rattle.std.proofs.Common.{rules, ◌∙◌, ap, subst, sym}
-use Rattle.ring_handles.specs.Side.{side, side_in, Side}
-use Rattle.ring_handles.specs.WritingBatch.{WroteBatch}
+use Rattle.ring_handles.specs.{Side.side, Side.side_in, Side.Side, WritingBatch.WroteBatch}
 use Rattle.ring_handles.proofs.producer.ProducerSide.write_batch.Goals as goal
 
 pub returns-in-Many : goal.returns-in-Many

@@ -1,7 +1,6 @@
 use Rattle.std.proofs.Common.{ℕ, List, length, get_or, sym, subst, ◌∙◌}
 use Rattle.std.proofs.lemmas.Bool.{MatchBool-at_true, MatchBool-at_false}
-use Rattle.ring_judge.specs.declared.broadcast.BroadcastLine.{BroadcastLine}
-use Rattle.ring_judge.specs.declared.broadcast.BroadcastLine.TheVariants.{Transmitted}
+use Rattle.ring_judge.specs.declared.broadcast.BroadcastLine.{BroadcastLine, TheVariants.Transmitted}
 use Rattle.ring_judge.specs.Broadcast.{transmitted_in, AnswersLine, AreWithin}
 use Rattle.ring_judge.proofs.ReadLemmas.{none_read, one_more, explained_all, first_unexplained}
 use Rattle.ring_judge.proofs.broadcast.judge.judge_broadcast.Goals as goal

@@ -1,8 +1,7 @@
 use Rattle.std.proofs.Common.{◌<◌, ◌≡◌, ◌∙◌, length, arith, subst}
 use Rattle.std.proofs.lemmas.List.{get_or_default}
-use Rattle.ring_judge.specs.declared.broadcast.place.Place.{Place}
+use Rattle.ring_judge.{specs.declared.broadcast.place.Place.Place, proofs.PlaceLemmas.event_answered}
 use Rattle.ring_judge.specs.Broadcast.{AnswersEvent, anywhere, place_of}
-use Rattle.ring_judge.proofs.PlaceLemmas.{event_answered}
 use Rattle.ring_judge.proofs.broadcast.places.answer_event.Goals as goal
 
 pub returns-clause-answer : goal.returns-clause-answer

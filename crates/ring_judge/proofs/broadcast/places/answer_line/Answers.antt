@@ -1,6 +1,5 @@
 use Rattle.std.proofs.Common.{sym, subst}
-use Rattle.ring_judge.specs.declared.broadcast.BroadcastLine.{BroadcastLine}
-use Rattle.ring_judge.specs.Broadcast.{AnswersLine}
+use Rattle.ring_judge.specs.{declared.broadcast.BroadcastLine.BroadcastLine, Broadcast.AnswersLine}
 use Rattle.ring_judge.proofs.broadcast.places.answer_line.Goals as goal
 
 pub returns-in-Receiver-clause-answer : goal.returns-in-Receiver-clause-answer

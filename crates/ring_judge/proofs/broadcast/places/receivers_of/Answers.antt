@@ -1,7 +1,6 @@
 use Rattle.std.proofs.Common.{◌≤◌, arith, take}
 use Rattle.std.proofs.lemmas.List.Elements.{All-more, All-weaker}
-use Rattle.ring_judge.specs.Broadcast.{IsOfReceiverBelow}
-use Rattle.ring_judge.proofs.PlaceLemmas.{IsOfReceiverBelow-larger}
+use Rattle.ring_judge.{specs.Broadcast.IsOfReceiverBelow, proofs.PlaceLemmas.IsOfReceiverBelow-larger}
 use Rattle.ring_judge.proofs.broadcast.places.receivers_of.Goals as goal
 
 pub loop-line-preserved : goal.loop-line-preserved

@@ -1,6 +1,5 @@
 use Rattle.std.proofs.Common.{◌++◌, ◌∷◌, [], List, ℕ, get_or, sym, ◌∙◌, ap}
-use Rattle.ring_judge.specs.declared.broadcast.BroadcastLine.TheVariants.{Transmitted}
-use Rattle.ring_judge.specs.Broadcast.{transmitted_in}
+use Rattle.ring_judge.specs.{declared.broadcast.BroadcastLine.TheVariants.Transmitted, Broadcast.transmitted_in}
 use Rattle.ring_judge.proofs.PlaceLemmas.{transmitted_more}
 use Rattle.ring_judge.proofs.broadcast.sent.bodies_of.Goals as goal
 

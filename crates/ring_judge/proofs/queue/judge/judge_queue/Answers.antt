@@ -1,8 +1,6 @@
 use Rattle.std.proofs.Common.{Vec, Global, sym, subst, ◌∙◌}
 use Rattle.std.proofs.lemmas.Bool.{MatchBool-at_true, MatchBool-at_false}
-use Rattle.ring_judge.specs.declared.message.Message.{Message}
-use Rattle.ring_judge.specs.Lists.{lists_of}
-use Rattle.ring_judge.specs.Queue.{AreWaiting}
+use Rattle.ring_judge.specs.{declared.message.Message.Message, Lists.lists_of, Queue.AreWaiting}
 use Rattle.ring_judge.proofs.FollowLemmas.{one_more, explained_all, first_unexplained}
 use Rattle.ring_judge.proofs.queue.judge.judge_queue.Goals as goal
 

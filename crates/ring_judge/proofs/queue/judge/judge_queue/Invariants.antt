@@ -1,7 +1,5 @@
 use Rattle.std.proofs.Common.{◌≡◌, List, vec_len}
-use Rattle.ring_judge.specs.declared.message.Message.{Message}
-use Rattle.ring_judge.specs.Queue.{AreWaiting}
-use Rattle.ring_judge.specs.Lists.{lists_of}
+use Rattle.ring_judge.specs.{declared.message.Message.Message, Queue.AreWaiting, Lists.lists_of}
 use Rattle.ring_judge.proofs.FollowLemmas.{AreLeft}
 use Rattle.ring_judge.proofs.queue.judge.judge_queue.Given as goal
 

@@ -1,7 +1,6 @@
 use Rattle.std.proofs.Common.{◌≤◌, arith, take}
 use Rattle.std.proofs.lemmas.List.Elements.{All-more, All-weaker}
-use Rattle.ring_judge.specs.Queue.{IsBelow}
-use Rattle.ring_judge.proofs.SentLemmas.{IsBelow-larger}
+use Rattle.ring_judge.{specs.Queue.IsBelow, proofs.SentLemmas.IsBelow-larger}
 use Rattle.ring_judge.proofs.queue.sent.producers_of.Goals as goal
 
 pub loop-line-preserved : goal.loop-line-preserved

@@ -1,5 +1,4 @@
-use Rattle.std.proofs.Common.{take}
-use Rattle.std.specs.List.{All}
+use Rattle.std.proofs.Common.{take, All}
 use Rattle.ring_judge.specs.Queue.{IsBelow}
 use Rattle.ring_judge.proofs.queue.sent.producers_of.Given as goal
 

@@ -1,6 +1,5 @@
 use Rattle.std.proofs.Common.{◌++◌, ◌∷◌, [], get_or, arith, sym, ◌∙◌, ap}
-use Rattle.ring_judge.proofs.SentLemmas.{part_more, past}
-use Rattle.ring_judge.specs.Queue.{part_of, sent_in}
+use Rattle.ring_judge.{proofs.SentLemmas.part_more, proofs.SentLemmas.past, specs.Queue.part_of, specs.Queue.sent_in}
 use Rattle.ring_judge.proofs.queue.sent.sent_lists.Goals as goal
 
 pub loop-line-preserved : goal.loop-line-preserved

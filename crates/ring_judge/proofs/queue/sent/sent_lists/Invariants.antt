@@ -1,6 +1,5 @@
 use Rattle.std.proofs.Common.{◌≡◌, ◌<◌, ℕ, [], take, get_or, vec_len}
-use Rattle.ring_judge.specs.Queue.{part_of, sent_in}
-use Rattle.ring_judge.specs.Lists.{lists_of}
+use Rattle.ring_judge.specs.{Queue.part_of, Queue.sent_in, Lists.lists_of}
 use Rattle.ring_judge.proofs.queue.sent.sent_lists.Given as goal
 
 abbrev pub invariant-loop-line : goal.invariant-loop-line

@@ -1,7 +1,5 @@
-use Rattle.std.proofs.Common.{◌≡◌, ◌∙◌, sym, length, arith, subst, false}
-use Rattle.std.proofs.lemmas.Bool.{ltb-false}
-use Rattle.ring_judge.specs.Ring.{is_open}
-use Rattle.ring_judge.specs.Judged.{IsBehind, IsLeastHead}
+use Rattle.std.proofs.Common.{◌≡◌, ◌∙◌, sym, length, arith, subst, false, ltb-false}
+use Rattle.ring_judge.specs.{Ring.is_open, Judged.IsBehind, Judged.IsLeastHead}
 use Rattle.ring_judge.proofs.HeadLemmas.{first_kept, not_behind, least_at_start, least_at_place, least_at_end, none_at_end, none_at_open}
 use Rattle.ring_judge.proofs.ring.heads.least_head.Goals as goal
 

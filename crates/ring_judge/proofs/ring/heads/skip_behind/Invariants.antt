@@ -1,5 +1,4 @@
-use Rattle.std.proofs.Common.{◌≤◌, ◌-◌, take, length}
-use Rattle.std.specs.List.{All}
+use Rattle.std.proofs.Common.{◌≤◌, ◌-◌, take, length, All}
 use Rattle.ring_judge.specs.Judged.{IsBehind}
 use Rattle.ring_judge.proofs.ring.heads.skip_behind.Given as goal
 

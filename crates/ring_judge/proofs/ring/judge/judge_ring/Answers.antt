@@ -1,7 +1,6 @@
 use Rattle.std.proofs.Common.{ℕ, ap, get_or, sym, subst, ◌∙◌, ◌+◌}
 use Rattle.std.proofs.lemmas.Bool.{MatchBool-at_true, MatchBool-at_false}
-use Rattle.ring_judge.specs.Ring.{Allows, after}
-use Rattle.ring_judge.specs.Judged.{state_of}
+use Rattle.ring_judge.specs.{Ring.Allows, Ring.after, Judged.state_of}
 use Rattle.ring_judge.proofs.StepLemmas.{AreRecorded, one_more, first_refused, past}
 use Rattle.ring_judge.proofs.ring.judge.judge_ring.Goals as goal
 

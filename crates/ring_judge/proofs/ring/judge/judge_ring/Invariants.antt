@@ -1,6 +1,5 @@
 use Rattle.std.proofs.Common.{◌≡◌}
-use Rattle.ring_judge.specs.Judged.{IsJudged, state_of}
-use Rattle.ring_judge.proofs.StepLemmas.{AreRecorded}
+use Rattle.ring_judge.{specs.Judged.IsJudged, specs.Judged.state_of, proofs.StepLemmas.AreRecorded}
 use Rattle.ring_judge.proofs.ring.judge.judge_ring.Given as goal
 
 abbrev pub invariant-loop-at : goal.invariant-loop-at

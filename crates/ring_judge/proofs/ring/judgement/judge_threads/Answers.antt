@@ -1,7 +1,5 @@
 use Rattle.std.proofs.Common.{ap, subst, ◌∙◌}
-use Rattle.ring_judge.specs.Ring.{JudgesRing}
-use Rattle.ring_judge.specs.Histories.{calls}
-use Rattle.ring_judge.proofs.OrderLemmas.{judges_threads}
+use Rattle.ring_judge.{specs.Ring.JudgesRing, specs.Histories.calls, proofs.OrderLemmas.judges_threads}
 use Rattle.ring_judge.proofs.ring.judgement.judge_threads.Goals as goal
 
 pub returns : goal.returns

@@ -1,8 +1,6 @@
 use Rattle.std.proofs.Common.{◌<◌, ◌≤◌, ⊎_elim, inl, inr, arith}
-use Rattle.std.proofs.lemmas.Bool.{cases_eq}
-use Rattle.std.proofs.lemmas.List.{length-map}
-use Rattle.ring_judge.specs.Lists.{lists_of}
-use Rattle.ring_judge.proofs.MergeLemmas.{last_taken, takes_rest}
+use Rattle.std.proofs.lemmas.{Bool.cases_eq, List.length-map}
+use Rattle.ring_judge.{specs.Lists.lists_of, proofs.MergeLemmas.last_taken, proofs.MergeLemmas.takes_rest}
 use Rattle.ring_judge.proofs.ring.merged.merged.Goals as goal
 
 pub loop-thread-preserved : goal.loop-thread-preserved

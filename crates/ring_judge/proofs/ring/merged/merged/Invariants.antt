@@ -1,7 +1,5 @@
-use Rattle.std.proofs.Common.{◌+◌, ◌<◌, ◌≤◌}
-use Rattle.std.specs.BinaryHeap.{heap_len}
-use Rattle.ring_judge.specs.Lists.{lists_of}
-use Rattle.ring_judge.specs.Merged.{IsMerging, left_in}
+use Rattle.std.proofs.Common.{◌+◌, ◌<◌, ◌≤◌, heap_len}
+use Rattle.ring_judge.specs.{Lists.lists_of, Merged.IsMerging, Merged.left_in}
 use Rattle.ring_judge.proofs.MergeLemmas.{IsRestTaken}
 use Rattle.ring_judge.proofs.ring.merged.merged.Given as goal
 

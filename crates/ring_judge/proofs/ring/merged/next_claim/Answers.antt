@@ -1,6 +1,5 @@
 use Rattle.std.proofs.Common.{arith}
-use Rattle.ring_judge.proofs.FirstLemmas.{not_claim}
-use Rattle.ring_judge.proofs.MergeLemmas.{none_more, one_found}
+use Rattle.ring_judge.proofs.{FirstLemmas.not_claim, MergeLemmas.none_more, MergeLemmas.one_found}
 use Rattle.ring_judge.proofs.ring.merged.next_claim.Goals as goal
 
 pub loop-at-preserved : goal.loop-at-preserved

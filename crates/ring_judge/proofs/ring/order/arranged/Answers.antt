@@ -1,13 +1,9 @@
-use Rattle.std.proofs.Common.{◌≡◌, ℕ, List, [], Vec, Global, get_or, sym, subst, ◌∙◌, ap}
-use Rattle.std.specs.List.{All}
+use Rattle.std.proofs.Common.{◌≡◌, ℕ, List, [], Vec, Global, get_or, sym, subst, ◌∙◌, ap, All}
 use Rattle.std.proofs.lemmas.Result.{IfOk-weaker}
-use Rattle.ring_judge.specs.declared.ring.order.NumberedLine.{NumberedLine}
-use Rattle.ring_judge.specs.Lists.{lists_of}
+use Rattle.ring_judge.specs.{declared.ring.order.NumberedLine.NumberedLine, Histories.EndsLate, Histories.IsBest}
+use Rattle.ring_judge.specs.{Lists.lists_of, Merged.IsArranged}
 use Rattle.ring_judge.specs.Threads.{KeepsThreads, lines_of, numbered, thread_of}
-use Rattle.ring_judge.specs.Histories.{EndsLate, IsBest}
-use Rattle.ring_judge.specs.Merged.{IsArranged}
-use Rattle.ring_judge.proofs.OrderLemmas.{arranged_ends, arranged_is_best}
-use Rattle.ring_judge.proofs.ThreadLemmas.{are_of_thread}
+use Rattle.ring_judge.proofs.{OrderLemmas.arranged_ends, OrderLemmas.arranged_is_best, ThreadLemmas.are_of_thread}
 use Rattle.ring_judge.proofs.ring.order.arranged.Goals as goal
 
 pub merged-requires-clause-lists : goal.merged-requires-clause-lists

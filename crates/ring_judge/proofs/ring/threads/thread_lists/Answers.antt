@@ -1,10 +1,7 @@
 use Rattle.std.proofs.Common.{◌<◌, ◌∙◌, ◌∷◌, ◌++◌, [], List, Vec, Global, ap, get_or, set, length, arith}
 use Rattle.std.proofs.lemmas.List.{length-map}
-use Rattle.ring_judge.specs.declared.ring.order.NumberedLine.{NumberedLine}
-use Rattle.ring_judge.specs.Lists.{lists_of}
-use Rattle.ring_judge.specs.Threads.{thread_of}
-use Rattle.ring_judge.proofs.StepLemmas.{past}
-use Rattle.ring_judge.proofs.ThreadLemmas.{list_more}
+use Rattle.ring_judge.specs.{declared.ring.order.NumberedLine.NumberedLine, Lists.lists_of, Threads.thread_of}
+use Rattle.ring_judge.proofs.{StepLemmas.past, ThreadLemmas.list_more}
 use Rattle.ring_judge.proofs.ring.threads.thread_lists.Goals as goal
 
 pub loop-at-preserved : goal.loop-at-preserved

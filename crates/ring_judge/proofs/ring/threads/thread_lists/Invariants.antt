@@ -1,6 +1,5 @@
 use Rattle.std.proofs.Common.{◌≡◌, ℕ, [], take, get_or, vec_len}
-use Rattle.ring_judge.specs.Lists.{lists_of}
-use Rattle.ring_judge.specs.Threads.{lines_of, numbered}
+use Rattle.ring_judge.specs.{Lists.lists_of, Threads.lines_of, Threads.numbered}
 use Rattle.ring_judge.proofs.ring.threads.thread_lists.Given as goal
 
 abbrev pub invariant-loop-at : goal.invariant-loop-at

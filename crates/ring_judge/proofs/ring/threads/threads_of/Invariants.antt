@@ -1,5 +1,4 @@
-use Rattle.std.proofs.Common.{◌<◌, ◌≤◌, take}
-use Rattle.std.specs.List.{All}
+use Rattle.std.proofs.Common.{◌<◌, ◌≤◌, take, All}
 use Rattle.ring_judge.specs.Threads.{thread_of}
 use Rattle.ring_judge.proofs.ring.threads.threads_of.Given as goal
 

@@ -1,7 +1,5 @@
 use Rattle.std.proofs.Common.{◌+◌, ◌/◌, ◌≤◌, sym, get_or, arith, subst}
-use Rattle.std.proofs.lemmas.Bool.{iff_false}
-use Rattle.std.proofs.lemmas.List.{drop_more}
-use Rattle.std.proofs.lemmas.List.Elements.{All-get_or}
+use Rattle.std.proofs.lemmas.{Bool.iff_false, List.drop_more, List.Elements.All-get_or}
 use Rattle.ring_judge.proofs.RefusalLemmas.{nowhere}
 use Rattle.ring_judge.proofs.WordLemmas.{ArePassed, all_passed, none_passed, not_clear, one_passed, stopped}
 use Rattle.ring_judge.proofs.ring.words.clear_to.Goals as goal

@@ -1,10 +1,7 @@
 use Rattle.std.proofs.Common.{◌≡◌, ◌≢◌, ◌∷◌, IfErr, rules, subst}
 use Rattle.std.proofs.lemmas.Result.{IfErr-weaker}
-use Rattle.ring_lines.specs.declared.fault.LineFault.TheVariants.{OutOfMemory}
-use Rattle.ring_lines.specs.Lines.{AsksFor, AsksForNone}
-use Rattle.ring_lines.specs.Taking.{words_in}
-use Rattle.ring_lines.specs.Text.{words_of}
-use Rattle.ring_lines.specs.Forms.{spelled}
+use Rattle.ring_lines.specs.{declared.fault.LineFault.TheVariants.OutOfMemory, Lines.AsksFor, Lines.AsksForNone}
+use Rattle.ring_lines.specs.{Taking.words_in, Text.words_of, Forms.spelled}
 use Rattle.ring_lines.proofs.NameLemmas.{no_call, no_name}
 use Rattle.ring_lines.proofs.call.Line.of_words.Goals as goal
 

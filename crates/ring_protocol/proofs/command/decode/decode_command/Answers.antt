@@ -1,8 +1,7 @@
 use Rattle.std.proofs.Common.{◌∙◌, ap, w32, arith}
 use Rattle.std.proofs.lemmas.Int.{to_z-of_z}
 use Rattle.ring_protocol.specs.Reading.{command_of}
-use Rattle.ring_protocol.proofs.ReadCommands.{found, only, bad_is}
-use Rattle.ring_protocol.proofs.Written.{are_bytes}
+use Rattle.ring_protocol.proofs.{ReadCommands.found, ReadCommands.only, ReadCommands.bad_is, Written.are_bytes}
 use Rattle.ring_protocol.proofs.command.decode.decode_command.Goals as goal
 
 pub returns-clause-found : goal.returns-clause-found

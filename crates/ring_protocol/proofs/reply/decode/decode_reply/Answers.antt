@@ -1,8 +1,7 @@
 use Rattle.std.proofs.Common.{◌∙◌, ap, w32, arith}
 use Rattle.std.proofs.lemmas.Int.{to_z-of_z}
 use Rattle.ring_protocol.specs.Reading.{reply_of}
-use Rattle.ring_protocol.proofs.ReadReplies.{found, bad_is, spelled_again}
-use Rattle.ring_protocol.proofs.Written.{are_bytes}
+use Rattle.ring_protocol.proofs.{ReadReplies.found, ReadReplies.bad_is, ReadReplies.spelled_again, Written.are_bytes}
 use Rattle.ring_protocol.proofs.reply.decode.decode_reply.Goals as goal
 
 pub returns-clause-found : goal.returns-clause-found

@@ -2,8 +2,7 @@ use Rattle.std.proofs.Common.{true, ap, inl, inr, subst, sym, ◌∙◌, rules}
 use Rattle.std.proofs.lemmas.Result.{err_from_is_err_and}
 use Rattle.ring_table.specs.declared.view.View.{View}
 use Rattle.ring_rings.specs.Making.{FindsRoom, FindsShortage}
-use Rattle.ring_rings.proofs.LookLemmas.{contended, refuses_short}
-use Rattle.ring_rings.proofs.RefusalLemmas.{refusal_is}
+use Rattle.ring_rings.proofs.{LookLemmas.contended, LookLemmas.refuses_short, RefusalLemmas.refusal_is}
 use Rattle.ring_rings.proofs.kind.ManyToOneKind.move_from.Goals as goal
 
 pub returns-in_err-admission-clause-told : goal.returns-in_err-admission-clause-told

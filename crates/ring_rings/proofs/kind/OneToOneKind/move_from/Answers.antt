@@ -1,11 +1,9 @@
 use Rattle.std.proofs.Common.{◌≡◌, false, inl, inr, subst, sym, ◌∙◌, rules}
 use Rattle.std.proofs.lemmas.Result.{err_from_is_err_and}
 use Rattle.ring_table.specs.declared.view.View.{View}
-use Rattle.ring_rings.specs.Making.{FindsRoom, FindsShortage}
+use Rattle.ring_rings.{specs.Making.FindsRoom, specs.Making.FindsShortage, proofs.MoveLemmas.moves_alone}
 use Rattle.ring_layout.specs.Refusals.{all_shares}
-use Rattle.ring_rings.proofs.LookLemmas.{looked_none, refuses_short}
-use Rattle.ring_rings.proofs.MoveLemmas.{moves_alone}
-use Rattle.ring_rings.proofs.RefusalLemmas.{refusal_is}
+use Rattle.ring_rings.proofs.{LookLemmas.looked_none, LookLemmas.refuses_short, RefusalLemmas.refusal_is}
 use Rattle.ring_rings.proofs.kind.OneToOneKind.move_from.Goals as goal
 
 pub returns-in_err-admission-clause-told : goal.returns-in_err-admission-clause-told

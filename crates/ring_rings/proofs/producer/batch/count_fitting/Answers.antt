@@ -1,6 +1,5 @@
 use Rattle.std.proofs.Common.{ℕ, ◌+◌, List, ap, arith}
-use Rattle.ring_table.specs.declared.runs.Outgoing.{Outgoing}
-use Rattle.ring_table.proofs.RunFill.{bytes_more}
+use Rattle.ring_table.{specs.declared.runs.Outgoing.Outgoing, proofs.RunFill.bytes_more}
 use Rattle.ring_rings.proofs.producer.batch.count_fitting.Goals as goal
 
 pub loop-message-preserved : goal.loop-message-preserved

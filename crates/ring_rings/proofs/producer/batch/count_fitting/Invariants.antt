@@ -1,6 +1,5 @@
 use Rattle.std.proofs.Common.{◌≡◌, ◌≤◌, take}
-use Rattle.ring_table.specs.RunBodies.{messages_of}
-use Rattle.ring_table.specs.Runs.{run_bytes}
+use Rattle.ring_table.specs.{RunBodies.messages_of, Runs.run_bytes}
 use Rattle.ring_rings.proofs.producer.batch.count_fitting.Given as goal
 
 abbrev pub invariant-loop-message : goal.invariant-loop-message

@@ -1,15 +1,9 @@
-use Rattle.std.proofs.Common.{rules, ◌≡◌, ◌+◌, ◌≤◌, ℕ, List, [], ◌∷◌, All, FitsSigned, ap, take, get_or, length, subst, sym, ◌∙◌, arith}
-use Rattle.std.proofs.lemmas.List.{take_all, take_more}
-use Rattle.std.proofs.lemmas.List.Elements.{All-append, All-cons, All-nil}
+use Rattle.std.proofs.Common.{rules, ◌≡◌, ◌+◌, ◌≤◌, ℕ, List, [], ◌∷◌, All, FitsSigned, ap, take, get_or, length, subst, sym, ◌∙◌, arith, take_all, w32, None}
+use Rattle.std.proofs.lemmas.List.{take_more, Elements.All-append, Elements.All-cons, Elements.All-nil}
 use Rattle.std.proofs.lemmas.Int.{to_z-of_z}
-use Rattle.std.specs.Int.{w32}
-use Rattle.std.specs.Prelude.{None}
-use Rattle.ring_table.specs.RunBodies.{IsSendable}
-use Rattle.ring_table.specs.declared.runs.Outgoing.{Outgoing}
-use Rattle.ring_table.proofs.RunFill.{no_message}
+use Rattle.ring_table.{specs.RunBodies.IsSendable, specs.declared.runs.Outgoing.Outgoing, proofs.RunFill.no_message}
 use Rattle.ring_rings.specs.Claiming.{request_refusal_of}
-use Rattle.ring_rings.proofs.BatchLemmas.{batch_on, sendable}
-use Rattle.ring_rings.proofs.RefusalLemmas.{admission_is}
+use Rattle.ring_rings.proofs.{BatchLemmas.batch_on, BatchLemmas.sendable, RefusalLemmas.admission_is}
 use Rattle.ring_rings.proofs.producer.batch.test_batch.Goals as goal
 
 pub loop-message-preserved : goal.loop-message-preserved

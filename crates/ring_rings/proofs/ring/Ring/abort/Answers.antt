@@ -1,8 +1,6 @@
 use Rattle.std.proofs.Common.{ap, refl}
 use Rattle.ring_layout.specs.declared.message.ClaimState.TheVariants.{Aborted}
-use Rattle.ring_table.specs.declared.claim.Stage.TheVariants.{Stored}
-use Rattle.ring_table.specs.declared.view.View.{View}
-use Rattle.ring_table.specs.Changes.{staged}
+use Rattle.ring_table.specs.{declared.claim.Stage.TheVariants.Stored, declared.view.View.View, Changes.staged}
 use Rattle.ring_rings.proofs.SentLemmas.{change_sends_none}
 use Rattle.ring_rings.proofs.ring.Ring.abort.Goals as goal
 

@@ -1,6 +1,5 @@
 use Rattle.ring_rings.specs.Seats.{consumer_view}
-use Rattle.ring_rings.proofs.ReadingHeeds.{controls_heard}
-use Rattle.ring_rings.proofs.ReceivedLemmas.{controls_receive}
+use Rattle.ring_rings.proofs.{ReadingHeeds.controls_heard, ReceivedLemmas.controls_receive}
 use Rattle.ring_rings.proofs.ring.Ring.controlled_read.Goals as goal
 
 pub returns-clause-controls : goal.returns-clause-controls

@@ -1,7 +1,5 @@
 use Rattle.std.proofs.Common.{refl, ap, ◌∙◌, arith}
-use Rattle.ring_table.specs.declared.view.View.{View}
-use Rattle.ring_table.specs.ProducerSteps.{Mine}
-use Rattle.ring_table.proofs.StagedPlaces.{start_aligned}
+use Rattle.ring_table.{specs.declared.view.View.View, specs.ProducerSteps.Mine, proofs.StagedPlaces.start_aligned}
 use Rattle.ring_rings.proofs.ring.Ring.make.Goals as goal
 
 pub invariant_of-producer : goal.invariant_of-producer

@@ -1,22 +1,13 @@
 use Rattle.std.proofs.Common.{◌≡◌, refl, sym, ap, ◌∙◌, subst, arith}
-use Rattle.ring_layout.specs.declared.message.Message.{Message}
-use Rattle.ring_layout.specs.History.{overwritten}
+use Rattle.ring_layout.specs.{declared.message.Message.Message, History.overwritten}
 use Rattle.ring_layout.proofs.WordBytes.{length-overwritten}
-use Rattle.ring_table.specs.declared.claim.StagedClaim.{StagedClaim}
-use Rattle.ring_table.specs.declared.view.View.{View}
-use Rattle.ring_table.specs.ProducerSteps.{HasClaimAt, IsStagedOpen}
-use Rattle.ring_table.specs.OpenClaims.{open_count}
-use Rattle.ring_table.specs.Staged.{AreRising, AreStored}
-use Rattle.ring_rings.specs.Bodies.{loaded, put_at}
+use Rattle.ring_table.specs.{declared.claim.StagedClaim.StagedClaim, declared.view.View.View, OpenClaims.open_count}
+use Rattle.ring_table.specs.{ProducerSteps.HasClaimAt, ProducerSteps.IsStagedOpen, Staged.AreRising, Staged.AreStored}
+use Rattle.ring_rings.specs.{Bodies.loaded, Bodies.put_at, Reading.messages_of, Ring.message}
 use Rattle.ring_rings.proofs.MadeLemmas.{still_open}
-use Rattle.ring_rings.proofs.CountLemmas.{count_kept, stored_kept}
-use Rattle.ring_rings.proofs.RisingLemmas.{rising_kept}
-use Rattle.ring_rings.proofs.PutLemmas.{has_changed, has_other}
-use Rattle.ring_table.specs.Changes.{changed}
-use Rattle.ring_table.specs.Passing.{placed_message, shown_at}
-use Rattle.ring_rings.specs.Reading.{messages_of}
-use Rattle.ring_rings.specs.Ring.{message}
-use Rattle.ring_rings.proofs.SentLemmas.{change_sends_none}
+use Rattle.ring_rings.proofs.{CountLemmas.count_kept, CountLemmas.stored_kept, SentLemmas.change_sends_none}
+use Rattle.ring_rings.proofs.{RisingLemmas.rising_kept, PutLemmas.has_changed, PutLemmas.has_other}
+use Rattle.ring_table.specs.{Changes.changed, Passing.placed_message, Passing.shown_at}
 use Rattle.ring_rings.proofs.ring.Ring.put.Goals as goal
 
 pub put_bytes-requires-clause-place : goal.put_bytes-requires-clause-place

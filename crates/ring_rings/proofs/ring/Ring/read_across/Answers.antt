@@ -1,8 +1,6 @@
 use Rattle.std.proofs.Common.{ap, arith}
 use Rattle.ring_table.specs.declared.view.View.{View}
-use Rattle.ring_rings.specs.Seats.{consumer_view}
-use Rattle.ring_rings.proofs.AcrossLemmas.{blocked_on}
-use Rattle.ring_rings.proofs.ReceivedLemmas.{receives_both}
+use Rattle.ring_rings.{specs.Seats.consumer_view, proofs.AcrossLemmas.blocked_on, proofs.ReceivedLemmas.receives_both}
 use Rattle.ring_rings.proofs.ring.Ring.read_across.Goals as goal
 
 pub returns-clause-ends : goal.returns-clause-ends

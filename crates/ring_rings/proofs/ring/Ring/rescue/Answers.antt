@@ -1,5 +1,4 @@
-use Rattle.ring_rings.specs.Seats.{start_of}
-use Rattle.ring_rings.proofs.RescueLemmas.{is_rescued, rescued_ring}
+use Rattle.ring_rings.{specs.Seats.start_of, proofs.RescueLemmas.is_rescued, proofs.RescueLemmas.rescued_ring}
 use Rattle.ring_rings.proofs.ring.Ring.rescue.Goals as goal
 
 pub from_words-requires-clause-ring : goal.from_words-requires-clause-ring

@@ -1,6 +1,5 @@
 use Rattle.std.proofs.Common.{subst}
-use Rattle.ring_rings.specs.Rescuing.{IsRescued}
-use Rattle.ring_rings.specs.Seats.{start_of}
+use Rattle.ring_rings.specs.{Rescuing.IsRescued, Seats.start_of}
 use Rattle.ring_rings.proofs.RescueLemmas.{is_rescued, rescued_ring}
 use Rattle.ring_rings.proofs.ring.Ring.rescue_with.Goals as goal
 

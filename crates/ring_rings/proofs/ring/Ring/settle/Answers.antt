@@ -1,10 +1,7 @@
 use Rattle.std.proofs.Common.{ap, ◌∙◌, arith}
-use Rattle.ring_table.specs.declared.view.View.{View}
-use Rattle.ring_table.specs.declared.claim.Stage.TheVariants.{Stored}
-use Rattle.ring_table.specs.Changes.{staged}
+use Rattle.ring_table.specs.{declared.view.View.View, declared.claim.Stage.TheVariants.Stored, Changes.staged}
 use Rattle.ring_table.specs.ProducerSteps.{IsStagedOpen}
-use Rattle.ring_rings.proofs.MadeLemmas.{still_open}
-use Rattle.ring_rings.proofs.PutLemmas.{has_other}
+use Rattle.ring_rings.proofs.{MadeLemmas.still_open, PutLemmas.has_other}
 use Rattle.ring_rings.proofs.CountLemmas.{none_open, settles_one, matches_settled}
 use Rattle.ring_rings.proofs.ring.Ring.settle.Goals as goal
 

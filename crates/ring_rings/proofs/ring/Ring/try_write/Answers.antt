@@ -1,8 +1,6 @@
 use Rattle.std.proofs.Common.{◌≡◌, ℕ, ◌%◌, length, refl, ap, ◌∙◌, arith, rules}
-use Rattle.ring_layout.specs.History.{span}
-use Rattle.ring_layout.specs.Places.{next_place}
-use Rattle.ring_layout.proofs.CapacityLemmas.{capacity_blocks}
-use Rattle.ring_layout.proofs.PlaceLemmas.{next_within, span_bounds}
+use Rattle.ring_layout.specs.{History.span, Places.next_place}
+use Rattle.ring_layout.proofs.{CapacityLemmas.capacity_blocks, PlaceLemmas.next_within, PlaceLemmas.span_bounds}
 use Rattle.std.proofs.lemmas.List.{length-replicate}
 use Rattle.ring_rings.proofs.MadeLemmas.{keeps_claims, moved_made, moved_newest, moved_padded, moved_written, written_claims, written_leaves, written_seat, written_view}
 use Rattle.ring_rings.proofs.SentLemmas.{write_sends}

@@ -1,11 +1,7 @@
 use Rattle.std.proofs.Common.{List, ap, sym, arith}
-use Rattle.ring_table.specs.declared.claim.PlacedMessage.{PlacedMessage}
-use Rattle.ring_table.specs.declared.view.Run.{Run}
-use Rattle.ring_table.specs.Views.{with_run}
-use Rattle.ring_rings.specs.ReadingSteps.{FindsOne, IsAt}
-use Rattle.ring_rings.specs.Seats.{seat_view}
-use Rattle.ring_words.specs.Controlled.{heard}
-use Rattle.ring_words.specs.declared.read.action.Action.TheVariants.{Continue}
+use Rattle.ring_table.specs.{declared.claim.PlacedMessage.PlacedMessage, declared.view.Run.Run, Views.with_run}
+use Rattle.ring_rings.specs.{ReadingSteps.FindsOne, ReadingSteps.IsAt, Seats.seat_view}
+use Rattle.ring_words.specs.{Controlled.heard, declared.read.action.Action.TheVariants.Continue}
 use Rattle.ring_rings.proofs.ReadingFinds.{at_in_run}
 use Rattle.ring_rings.proofs.ReadingShown.{found_body, found_few, found_here, found_last, found_type, shown_run, shows_one}
 use Rattle.ring_rings.proofs.ring.Ring.turn.Given.{Over}

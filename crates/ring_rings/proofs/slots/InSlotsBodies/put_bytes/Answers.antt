@@ -1,12 +1,8 @@
-use Rattle.std.proofs.Common.{ℕ, List, [], refl, sym, ap, ◌∙◌}
-use Rattle.std.proofs.lemmas.List.{append-nil}
+use Rattle.std.proofs.Common.{ℕ, List, [], refl, sym, ap, ◌∙◌, append-nil}
 use Rattle.ring_layout.specs.History.{overwritten}
-use Rattle.ring_table.specs.declared.claim.StagedClaim.{StagedClaim}
-use Rattle.ring_table.specs.declared.view.View.{View}
+use Rattle.ring_table.specs.{declared.claim.StagedClaim.StagedClaim, declared.view.View.View, Views.with_claims}
 use Rattle.ring_table.specs.Changes.{changed, with_body}
-use Rattle.ring_table.specs.Views.{with_claims}
-use Rattle.ring_rings.specs.Bodies.{put_at}
-use Rattle.ring_rings.proofs.PutLemmas.{changed_alike}
+use Rattle.ring_rings.{specs.Bodies.put_at, proofs.PutLemmas.changed_alike}
 use Rattle.ring_rings.proofs.slots.InSlotsBodies.put_bytes.Goals as goal
 
 pub returns-clause-put : goal.returns-clause-put

@@ -1,7 +1,5 @@
 use Rattle.std.proofs.Common.{List, ap, ◌∙◌, arith}
-use Rattle.ring_table.specs.declared.claim.StagedClaim.{StagedClaim}
-use Rattle.ring_table.specs.Changes.{recorded}
-use Rattle.ring_table.specs.Views.{with_claims}
+use Rattle.ring_table.specs.{declared.claim.StagedClaim.StagedClaim, Changes.recorded, Views.with_claims}
 use Rattle.ring_rings.proofs.NewestLemmas.{changes_last}
 use Rattle.ring_rings.proofs.slots.InSlotsBodies.store_record.Goals as goal
 

@@ -2,8 +2,7 @@ use Rattle.std.proofs.Common.{ℕ, ◌+◌, ◌*◌, ◌<◌, length, subst, ari
 use Rattle.ring_layout.proofs.CapacityLemmas.{capacity_blocks}
 use Rattle.ring_table.specs.declared.view.View.{View}
 use Rattle.ring_rings.specs.ReadingSteps.{CopiesWords}
-use Rattle.ring_rings.proofs.ReadingCopies.{copies_all}
-use Rattle.ring_rings.proofs.ReadingSeats.{loads_more, same_more}
+use Rattle.ring_rings.proofs.{ReadingCopies.copies_all, ReadingSeats.loads_more, ReadingSeats.same_more}
 use Rattle.ring_rings.proofs.words.InWordsBodies.load_body.Goals as goal
 
 pub load_word-requires-in-loop-k-3-clause-room : goal.load_word-requires-in-loop-k-3-clause-room

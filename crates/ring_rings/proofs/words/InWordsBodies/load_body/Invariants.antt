@@ -1,6 +1,5 @@
 use Rattle.std.proofs.Common.{◌≡◌, ◌*◌, length}
-use Rattle.ring_table.specs.declared.claim.PlacedMessage.{PlacedMessage}
-use Rattle.ring_table.specs.Seats.{IsSameSeat}
+use Rattle.ring_table.specs.{declared.claim.PlacedMessage.PlacedMessage, Seats.IsSameSeat}
 use Rattle.ring_rings.specs.ReadingSteps.{CopiesWords, HasGotLast, OnlyLoads}
 use Rattle.ring_rings.proofs.words.InWordsBodies.load_body.Given as goal
 

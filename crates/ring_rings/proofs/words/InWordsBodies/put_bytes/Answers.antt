@@ -1,15 +1,10 @@
-use Rattle.std.proofs.Common.{◌≡◌, ℕ, ◌+◌, ◌-◌, ◌*◌, ◌/◌, ◌%◌, ◌≤◌, List, [], ◌++◌, length, take, drop, refl, sym, ap, ◌∙◌, append_assoc, arith}
-use Rattle.std.proofs.lemmas.List.{append-nil, length-drop, length-take-le}
-use Rattle.ring_table.specs.declared.claim.StagedClaim.{StagedClaim}
-use Rattle.ring_table.specs.declared.view.View.{View}
-use Rattle.ring_table.specs.Changes.{changed, with_body_word}
+use Rattle.std.proofs.Common.{◌≡◌, ℕ, ◌+◌, ◌-◌, ◌*◌, ◌/◌, ◌%◌, ◌≤◌, List, [], ◌++◌, length, take, drop, refl, sym, ap, ◌∙◌, append_assoc, arith, append-nil, length-drop, length-take-le}
+use Rattle.ring_table.specs.{declared.claim.StagedClaim.StagedClaim, declared.view.View.View, Views.with_claims}
+use Rattle.ring_table.specs.{Changes.changed, Changes.with_body_word, Staged.AreRising}
 use Rattle.ring_table.specs.ProducerSteps.{HasClaimAt, IsWordOfBody, with_changed}
-use Rattle.ring_table.specs.Staged.{AreRising}
-use Rattle.ring_table.specs.Views.{with_claims}
 use Rattle.ring_rings.specs.Bodies.{loaded, put_at}
 use Rattle.ring_rings.proofs.BodyLemmas.{turn_stores, turn_takes}
-use Rattle.ring_rings.proofs.MergeLemmas.{merged, overwritten_nothing}
-use Rattle.ring_rings.proofs.PutLemmas.{changed_same}
+use Rattle.ring_rings.proofs.{MergeLemmas.merged, MergeLemmas.overwritten_nothing, PutLemmas.changed_same}
 use Rattle.ring_rings.proofs.words.InWordsBodies.put_bytes.Goals.{After-merged_word-word}
 use Rattle.ring_rings.proofs.words.InWordsBodies.put_bytes.Goals as goal
 

@@ -1,7 +1,5 @@
 use Rattle.std.proofs.Common.{◌≡◌, ℕ, ◌-◌, ◌≤◌, List, length, take}
-use Rattle.ring_table.specs.Changes.{changed}
-use Rattle.ring_table.specs.Seats.{IsSameSeat}
-use Rattle.ring_table.specs.Views.{with_claims}
+use Rattle.ring_table.specs.{Changes.changed, Seats.IsSameSeat, Views.with_claims}
 use Rattle.ring_rings.specs.Bodies.{loaded, put_at}
 use Rattle.ring_rings.proofs.words.InWordsBodies.put_bytes.Given as goal
 

@@ -1,8 +1,6 @@
 use Rattle.std.proofs.Common.{List, ℕ, sym, ◌∙◌, subst}
-use Rattle.ring_table.specs.Closed.{IsClosed}
-use Rattle.ring_table.specs.Staged.{in_words}
+use Rattle.ring_table.{specs.Closed.IsClosed, specs.Staged.in_words, proofs.LawLemmas.none_open}
 use Rattle.ring_table.proofs.CloseLemmas.{closed_words, closes, leaves_rest}
-use Rattle.ring_table.proofs.LawLemmas.{none_open}
 use Rattle.ring_rings.proofs.words.InWordsBodies.show.Goals as goal
 
 pub returns : goal.returns

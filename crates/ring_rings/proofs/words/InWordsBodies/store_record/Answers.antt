@@ -1,15 +1,11 @@
 use Rattle.std.proofs.Common.{◌≡◌, ℕ, ℤ, List, [], ◌∷◌, ◌++◌, length, replicate, refl, sym, ap, ◌∙◌, arith}
 use Rattle.std.proofs.lemmas.List.{length-replicate}
 use Rattle.ring_layout.specs.declared.message.ClaimState.TheVariants.{Committed}
-use Rattle.ring_table.specs.declared.claim.StagedClaim.{StagedClaim}
-use Rattle.ring_table.specs.declared.claim.Stage.TheVariants.{Stored}
-use Rattle.ring_table.specs.declared.view.View.{View}
-use Rattle.ring_table.specs.Changes.{recorded, staged, with_header}
-use Rattle.ring_table.specs.Views.{with_claims}
+use Rattle.ring_table.specs.declared.{claim.StagedClaim.StagedClaim, claim.Stage.TheVariants.Stored, view.View.View}
+use Rattle.ring_table.specs.{Changes.recorded, Changes.staged, Changes.with_header, Views.with_claims}
 use Rattle.ring_table.specs.ProducerSteps.{IsStagedOpen, NeedsHeader, with_changed}
 use Rattle.ring_rings.specs.Bodies.{put_at, IsFreshClaim, IsPaddedLast}
-use Rattle.ring_rings.proofs.BodyLemmas.{overwritten_all}
-use Rattle.ring_rings.proofs.NewestLemmas.{changes_last, has_last}
+use Rattle.ring_rings.proofs.{BodyLemmas.overwritten_all, NewestLemmas.changes_last, NewestLemmas.has_last}
 use Rattle.ring_rings.proofs.words.InWordsBodies.store_record.Goals as goal
 
 module _ (place : ℕ) (type_id : ℤ) (len : ℕ) (body : List ℕ) (same : length body ≡ len) (cs : List StagedClaim)

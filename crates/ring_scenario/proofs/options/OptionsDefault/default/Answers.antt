@@ -1,4 +1,4 @@
-use Rattle.std.specs.Prelude.{refl}
+use Rattle.std.proofs.Common.{refl}
 use Rattle.ring_scenario.proofs.options.OptionsDefault.default.Goals as goal
 
 pub returns : goal.returns

@@ -1,11 +1,8 @@
 use Rattle.std.proofs.Common.{subst}
 use Rattle.ring_table.proofs.LawLemmas.{none_open}
 use Rattle.ring_rings.specs.Closing.{HandsOut}
-use Rattle.ring_ends.specs.Claiming.{aborted_view}
-use Rattle.ring_ends.specs.End.{End}
-use Rattle.ring_ends.specs.Ending.{Last}
-use Rattle.ring_scenario.specs.Closing.{TakesAllBut}
-use Rattle.ring_scenario.proofs.EndLemmas.{takes_all_but}
+use Rattle.ring_ends.specs.{Claiming.aborted_view, End.End, Ending.Last}
+use Rattle.ring_scenario.{specs.Closing.TakesAllBut, proofs.EndLemmas.takes_all_but}
 use Rattle.ring_scenario.proofs.ring.RunRing.close.Goals as goal
 
 pub returns-in-Ok-finish : goal.returns-in-Ok-finish

@@ -1,6 +1,5 @@
 use Rattle.std.proofs.Common.{w32}
-use Rattle.std.proofs.lemmas.Int.{to_z-of_z}
-use Rattle.std.proofs.lemmas.Result.{IfOk-weaker}
+use Rattle.std.proofs.lemmas.{Int.to_z-of_z, Result.IfOk-weaker}
 use Rattle.ring_scenario.proofs.runner.Runner.claim.Goals as goal
 
 pub returns-clause-line : goal.returns-clause-line

@@ -1,7 +1,6 @@
 use Rattle.std.proofs.Common.{◌∙◌, ap, codes}
 use Rattle.std.proofs.lemmas.Result.{IfOk-weaker}
-use Rattle.ring_scenario.specs.RefusalTexts.{id_refused}
-use Rattle.ring_scenario.specs.Texts.{answer_text, number_text}
+use Rattle.ring_scenario.specs.{RefusalTexts.id_refused, Texts.answer_text, Texts.number_text}
 use Rattle.ring_scenario.proofs.runner.Runner.owner.Goals as goal
 
 pub returns : goal.returns

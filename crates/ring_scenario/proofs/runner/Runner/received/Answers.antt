@@ -1,7 +1,5 @@
 use Rattle.std.proofs.Common.{◌∙◌, ◌++◌, ℕ, ℤ, FitsSigned, List, ap, codes, decimal, rules, string_bytes, w32}
-use Rattle.std.specs.Fmt.{signed_decimal}
-use Rattle.std.proofs.lemmas.Int.{to_z-of_z}
-use Rattle.std.proofs.lemmas.Result.{IfOk-weaker}
+use Rattle.std.{specs.Fmt.signed_decimal, proofs.lemmas.Int.to_z-of_z, proofs.lemmas.Result.IfOk-weaker}
 use Rattle.ring_scenario.proofs.runner.Runner.received.Goals as goal
 
 abbrev copied : ℕ → ℤ → List ℕ → List ℕ

@@ -1,6 +1,5 @@
 use Rattle.std.proofs.Common.{◌∙◌, ◌++◌, ℕ, List, ap, codes, decimal}
-use Rattle.std.specs.Fmt.{signed_decimal}
-use Rattle.std.proofs.lemmas.Result.{IfOk-weaker}
+use Rattle.std.{specs.Fmt.signed_decimal, proofs.lemmas.Result.IfOk-weaker}
 use Rattle.ring_scenario.specs.Texts.{hex_text}
 use Rattle.ring_scenario.proofs.runner.serving.counter_text.Goals as goal
 

@@ -1,7 +1,6 @@
 use Rattle.std.proofs.Common.{◌∙◌, ◌+◌, ◌<◌, ℕ, length, arith}
 use Rattle.ring_service.specs.Conducting.{transmitter_of}
-use Rattle.ring_ends.specs.Receivers.{LeavesAt, by_number}
-use Rattle.ring_ends.specs.Held.{held_in}
+use Rattle.ring_ends.specs.{Receivers.LeavesAt, Receivers.by_number, Held.held_in}
 use Rattle.ring_ends.proofs.HeldLemmas.{all_back, given_up}
 use Rattle.ring_scenario.proofs.service.CommandService.join_listeners.Goals as goal
 

@@ -1,7 +1,6 @@
 use Rattle.std.proofs.Common.{◌∙◌, ◌+◌, ◌<◌, ℕ, length, arith}
 use Rattle.ring_scenario.specs.Watchers.{Unwatches}
-use Rattle.ring_ends.specs.Held.{held_in}
-use Rattle.ring_ends.proofs.HeldLemmas.{all_back, given_up}
+use Rattle.ring_ends.{specs.Held.held_in, proofs.HeldLemmas.all_back, proofs.HeldLemmas.given_up}
 use Rattle.ring_scenario.proofs.service.CommandService.join_watchers.Goals as goal
 
 pub loop-index-preserved : goal.loop-index-preserved

@@ -1,7 +1,6 @@
 use Rattle.std.proofs.Common.{◌∙◌, ◌+◌, ap}
 use Rattle.ring_rings.specs.Reading.{messages_of}
-use Rattle.ring_service.specs.Conducting.{ledger_of}
-use Rattle.ring_service.specs.Fold.{Ledger}
+use Rattle.ring_service.specs.{Conducting.ledger_of, Fold.Ledger}
 use Rattle.ring_ends.specs.Held.{held_count, held_in}
 use Rattle.ring_scenario.proofs.ServiceLemmas.{shares-fold}
 use Rattle.ring_scenario.proofs.service.CommandService.work.Goals as goal

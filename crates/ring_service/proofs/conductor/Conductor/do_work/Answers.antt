@@ -2,9 +2,8 @@ use Rattle.std.proofs.Common.{sym, subst}
 use Rattle.std.proofs.Math.Logic.{∥∥₁_map}
 use Rattle.ring_board.specs.Seats.{IsTransmitterOf}
 use Rattle.ring_counters.specs.Manager.{IsManagerOf}
-use Rattle.ring_service.proofs.WorkLemmas.{took, took_room}
+use Rattle.ring_service.proofs.{WorkLemmas.took, WorkLemmas.took_room, ServiceLemmas.works_serve}
 use Rattle.ring_service.proofs.AccountLemmas.{works_on, works_grow, works_heard}
-use Rattle.ring_service.proofs.ServiceLemmas.{works_serve}
 use Rattle.ring_service.proofs.conductor.Conductor.do_work.Goals as goal
 
 pub shape_of-self : goal.shape_of-self

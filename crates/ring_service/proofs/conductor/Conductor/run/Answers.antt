@@ -1,7 +1,6 @@
 use Rattle.std.proofs.Common.{◌∙◌}
-use Rattle.ring_service.specs.Conducting.{ledger_of, ring_view}
+use Rattle.ring_service.{specs.Conducting.ledger_of, specs.Conducting.ring_view, proofs.WorkLemmas.took_room}
 use Rattle.ring_service.proofs.RunLemmas.{grows_out, grows_stopped, heard_out, heard_stopped, leads_next, runs_out}
-use Rattle.ring_service.proofs.WorkLemmas.{took_room}
 use Rattle.ring_service.proofs.conductor.Conductor.run.Goals as goal
 
 pub loop-cycle-preserved : goal.loop-cycle-preserved

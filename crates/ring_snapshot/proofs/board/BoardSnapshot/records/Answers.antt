@@ -1,5 +1,5 @@
-use Rattle.std.proofs.Common.{rules, ◌≡◌, ℕ, ◌+◌, ◌-◌, ◌/◌, ◌%◌, sym, ap, ◌∙◌, arith}
-use Rattle.std.proofs.lemmas.Bool.{le-leb, cond-true, cond-false}
+use Rattle.std.proofs.Common.{rules, ◌≡◌, ℕ, ◌+◌, ◌-◌, ◌/◌, ◌%◌, sym, ap, ◌∙◌, arith, le-leb}
+use Rattle.std.proofs.lemmas.Bool.{cond-true, cond-false}
 use Rattle.ring_snapshot.specs.BoardRecords.{intent_in, latest_in, lap_of, first_whole, listing, listed_from}
 use Rattle.ring_snapshot.proofs.ClosedLemmas.{never_refused, closed_listing, at_rest, lap_near, lap_begins}
 use Rattle.ring_board.proofs.OpeningLemmas.{capacity_whole}

@@ -1,5 +1,4 @@
-use Rattle.std.proofs.Common.{◌≡◌, ◌-◌, ◌/◌, ap, sym, ◌∙◌, ⊎_elim, arith, true, false, eq-eqb}
-use Rattle.std.proofs.lemmas.Bool.{le-leb}
+use Rattle.std.proofs.Common.{◌≡◌, ◌-◌, ◌/◌, ap, sym, ◌∙◌, ⊎_elim, arith, true, false, eq-eqb, le-leb}
 use Rattle.ring_snapshot.specs.BoardRecords.{intent_in, latest_in, listing}
 use Rattle.ring_snapshot.proofs.ClosedLemmas.{never_refused, closed_listing, begins_whole, begins_low, at_rest}
 use Rattle.ring_snapshot.proofs.board.BoardSnapshot.records_from.Goals as goal

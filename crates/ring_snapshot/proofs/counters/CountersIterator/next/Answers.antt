@@ -1,6 +1,5 @@
 use Rattle.std.proofs.Common.{◌+◌, ◌-◌, length, ap, sym, ◌∙◌, arith}
-use Rattle.ring_snapshot.specs.CounterRecords.{or_none, entries}
-use Rattle.ring_snapshot.proofs.CounterLemmas.{entries_here}
+use Rattle.ring_snapshot.{specs.CounterRecords.or_none, specs.CounterRecords.entries, proofs.CounterLemmas.entries_here}
 use Rattle.ring_snapshot.proofs.counters.CountersIterator.next.Goals as goal
 
 pub returns-in-Some-clause-steps : goal.returns-in-Some-clause-steps

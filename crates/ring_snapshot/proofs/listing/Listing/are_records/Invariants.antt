@@ -1,6 +1,5 @@
 use Rattle.std.proofs.Common.{◌≡◌}
-use Rattle.ring_snapshot.specs.Listing.{left_of}
-use Rattle.ring_snapshot.specs.Search.{all_ok}
+use Rattle.ring_snapshot.specs.{Listing.left_of, Search.all_ok}
 use Rattle.ring_snapshot.proofs.listing.Listing.are_records.Given as goal
 
 -- no entry so far was a finding

@@ -1,6 +1,5 @@
 use Rattle.std.proofs.Common.{rules, ◌<◌, ◌∷◌, length, ap, sym, ◌∙◌, arith}
-use Rattle.ring_snapshot.specs.Listing.{left_of}
-use Rattle.ring_snapshot.proofs.StepLemmas.{next_ok, next_err}
+use Rattle.ring_snapshot.{specs.Listing.left_of, proofs.StepLemmas.next_ok, proofs.StepLemmas.next_err}
 use Rattle.ring_snapshot.proofs.listing.ListingIterator.next.Goals as goal
 use Rattle.ring_snapshot.proofs.listing.ListingIterator.next.Goals.{in-Ok, in-Err}
 

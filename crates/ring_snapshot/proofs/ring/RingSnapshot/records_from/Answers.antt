@@ -1,6 +1,5 @@
 use Rattle.std.proofs.Common.{rules, ◌≡◌, ◌+◌, ◌-◌, ◌*◌, ◌/◌, ◌%◌, ◌≤◌, arith, ap, ◌∙◌}
-use Rattle.ring_snapshot.specs.RingRecords.{tail_in, listing}
-use Rattle.ring_snapshot.proofs.ListingLemmas.{exact}
+use Rattle.ring_snapshot.{specs.RingRecords.tail_in, specs.RingRecords.listing, proofs.ListingLemmas.exact}
 use Rattle.ring_snapshot.proofs.ring.RingSnapshot.records_from.Goals as goal
 
 pub returns-clause-listed : goal.returns-clause-listed

@@ -1,7 +1,5 @@
 use Rattle.std.proofs.Common.{rules, arith, ◌≡◌, ◌∙◌}
-use Rattle.ring_snapshot.specs.Marks.{header_with}
-use Rattle.ring_snapshot.proofs.JoinLemmas.{index_inside}
-use Rattle.ring_snapshot.proofs.MarkLemmas.{shows_claim}
+use Rattle.ring_snapshot.{specs.Marks.header_with, proofs.JoinLemmas.index_inside, proofs.MarkLemmas.shows_claim}
 use Rattle.ring_snapshot.proofs.ring.mark.header_with.Goals as goal
 
 pub bounds-slots-word_index : goal.bounds-slots-word_index

@@ -1,12 +1,9 @@
-use Rattle.std.specs.Prelude.{is_none}
-use Rattle.std.proofs.Common.{rules, ◌≡◌, ◌+◌, ◌-◌, ◌/◌, length, slice_index, ap, sym, subst, ◌∙◌, false, true}
+use Rattle.std.proofs.Common.{rules, ◌≡◌, ◌+◌, ◌-◌, ◌/◌, length, slice_index, ap, sym, subst, ◌∙◌, false, true, is_none}
 use Rattle.ring_layout.specs.Layout.{head_index, tail_index}
 use Rattle.ring_snapshot.specs.PlainWords.{joined, joined_between, joined_from, with_zeros}
-use Rattle.ring_snapshot.specs.RingRecords.{positions_finding}
+use Rattle.ring_snapshot.specs.{RingRecords.positions_finding, PlainRecords.LiesBetween}
 use Rattle.std.proofs.lemmas.Bool.{cond-false, cond-true}
-use Rattle.ring_snapshot.specs.PlainRecords.{LiesBetween}
-use Rattle.ring_snapshot.proofs.JoinLemmas.{same_capacity}
-use Rattle.ring_snapshot.proofs.PlainLemmas.{joined_lies}
+use Rattle.ring_snapshot.proofs.{JoinLemmas.same_capacity, PlainLemmas.joined_lies}
 use Rattle.ring_snapshot.proofs.ring.plain.join_bodies.Goals as goal
 
 pub returns-then-is_ordered-clause-joined : goal.returns-then-is_ordered-clause-joined

@@ -1,12 +1,9 @@
 use Rattle.std.proofs.Common.{◌∙◌, ◌+◌, [], ◌∷◌, ◌++◌, length, ap, arith}
 use Rattle.ring_table.specs.Owners.{interleaved}
 use Rattle.ring_rings.specs.Seats.{claims_of, open_claims_of, shares_of, taken_of}
-use Rattle.ring_board.specs.Seats.{receiver_view}
-use Rattle.ring_board.specs.Views.{as_joined}
-use Rattle.ring_service.specs.Finishing.{joined_by}
-use Rattle.ring_storm.specs.Storming.{sent_by}
-use Rattle.ring_service.specs.Asking.{service_of, services_of}
-use Rattle.ring_storm.proofs.SeatLemmas.{joins_service}
+use Rattle.ring_board.specs.{Seats.receiver_view, Views.as_joined}
+use Rattle.ring_service.specs.{Finishing.joined_by, Asking.service_of, Asking.services_of}
+use Rattle.ring_storm.{specs.Storming.sent_by, proofs.SeatLemmas.joins_service}
 use Rattle.ring_service.proofs.GatheringLemmas.{gathered}
 use Rattle.ring_storm.proofs.shared.Shared.join_client.Goals as goal
 

@@ -1,7 +1,6 @@
 use Rattle.std.proofs.Common.{◌≡◌, ◌+◌, ◌<◌, ◌≤◌, length}
 use Rattle.ring_service.specs.Asking.{producer_of}
-use Rattle.ring_storm.specs.Storming.{IsClientOf, history_of, sent_by}
-use Rattle.ring_storm.specs.Turns.{AreTurns, draws_by}
+use Rattle.ring_storm.specs.{Storming.IsClientOf, Storming.history_of, Storming.sent_by, Turns.AreTurns, Turns.draws_by}
 use Rattle.ring_storm.proofs.shared.Shared.run_client.Given as goal
 
 abbrev pub invariant-loop-number : goal.invariant-loop-number

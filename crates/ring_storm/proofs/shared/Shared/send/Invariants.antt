@@ -1,7 +1,6 @@
 use Rattle.std.proofs.Common.{◌≡◌, ℕ, ◌%◌, ◌^◌, [], ◌∷◌, ◌++◌}
 use Rattle.ring_service.specs.Asking.{producer_of, receiver_of}
-use Rattle.ring_storm.specs.Storming.{IsClientSeat}
-use Rattle.ring_storm.specs.Turns.{claims_by, draws_by}
+use Rattle.ring_storm.specs.{Storming.IsClientSeat, Turns.claims_by, Turns.draws_by}
 use Rattle.ring_storm.proofs.shared.Shared.send.Given as goal
 
 abbrev pub invariant-loop : goal.invariant-loop

@@ -1,8 +1,6 @@
-use Rattle.ring_table.specs.Staged.{in_words}
+use Rattle.ring_table.{specs.Staged.in_words, specs.ConsumerSteps.ClearsWord, proofs.ClearLemmas.clears_word}
 use Rattle.std.proofs.Common.{◌≡◌, arith, refl}
-use Rattle.ring_table.specs.ConsumerSteps.{ClearsWord}
 use Rattle.ring_table.proofs.Calls.{same_seat, record_step, leaves_words, of_as}
-use Rattle.ring_table.proofs.ClearLemmas.{clears_word}
 use Rattle.ring_table.proofs.steps.consumer.clear_word.Goals as goal
 
 pub store-requires : goal.store-requires

@@ -1,8 +1,6 @@
 use Rattle.std.proofs.Common.{◌≡◌, refl, subst}
-use Rattle.ring_table.specs.Views.{logged}
-use Rattle.ring_table.specs.ConsumerSteps.{LoadsBody}
+use Rattle.ring_table.{specs.Views.logged, specs.ConsumerSteps.LoadsBody, proofs.ConsumeLemmas.loads_body}
 use Rattle.ring_table.proofs.Calls.{same_seat, record_step, leaves_words, of_as}
-use Rattle.ring_table.proofs.ConsumeLemmas.{loads_body}
 use Rattle.ring_table.proofs.steps.consumer.load_body_word.Goals as goal
 
 pub load-requires : goal.load-requires

@@ -1,10 +1,7 @@
 use Rattle.ring_table.specs.Staged.{in_words}
 use Rattle.std.proofs.Common.{◌≡◌, ℕ, sym, ◌∙◌, subst}
-use Rattle.ring_table.specs.Views.{Logs, no_run, with_run}
-use Rattle.ring_table.specs.ProducerSteps.{Mine}
-use Rattle.ring_table.specs.ConsumerSteps.{LoadsHeader}
-use Rattle.ring_table.proofs.Calls.{same_seat, record_step, leaves_at}
-use Rattle.ring_table.proofs.ConsumeLemmas.{loads_first}
+use Rattle.ring_table.specs.{Views.Logs, Views.no_run, Views.with_run, ProducerSteps.Mine, ConsumerSteps.LoadsHeader}
+use Rattle.ring_table.proofs.{Calls.same_seat, Calls.record_step, Calls.leaves_at, ConsumeLemmas.loads_first}
 use Rattle.ring_table.proofs.steps.consumer.load_first_word.Goals as goal
 
 pub load-requires : goal.load-requires

@@ -1,10 +1,7 @@
-use Rattle.ring_table.specs.Staged.{in_words}
+use Rattle.ring_table.{specs.Staged.in_words, specs.ConsumerSteps.LoadsPassed, proofs.ClearLemmas.loads_passed}
 use Rattle.std.proofs.Common.{◌≡◌, arith, refl}
-use mathlib.Core.Logic.{dite}
-use native.Mathlib.Decide.{ℕ_discrete}
-use Rattle.ring_table.specs.ConsumerSteps.{LoadsPassed}
+use Rattle.std.proofs.Math.{Logic.dite, Decide.ℕ_discrete}
 use Rattle.ring_table.proofs.Calls.{same_seat, record_step, leaves_words, of_as}
-use Rattle.ring_table.proofs.ClearLemmas.{loads_passed}
 use Rattle.ring_table.proofs.steps.consumer.load_passed_word.Goals as goal
 
 pub load-requires : goal.load-requires

@@ -1,8 +1,6 @@
 use Rattle.std.proofs.Common.{◌≡◌, arith, refl}
-use Rattle.ring_table.specs.Staged.{in_words}
-use Rattle.ring_table.specs.ConsumerSteps.{StoresHead}
+use Rattle.ring_table.{specs.Staged.in_words, specs.ConsumerSteps.StoresHead, proofs.ClearLemmas.stores_head}
 use Rattle.ring_table.proofs.Calls.{same_seat, trailer_step, leaves_words, of_as}
-use Rattle.ring_table.proofs.ClearLemmas.{stores_head}
 use Rattle.ring_table.proofs.steps.consumer.store_head.Goals as goal
 
 pub store-requires : goal.store-requires

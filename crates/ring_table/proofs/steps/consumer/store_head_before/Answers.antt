@@ -1,6 +1,5 @@
 use Rattle.std.proofs.Common.{◌≡◌, arith, refl}
-use Rattle.ring_table.specs.Staged.{in_words}
-use Rattle.ring_table.specs.ConsumerSteps.{StoresHeadBefore}
+use Rattle.ring_table.specs.{Staged.in_words, ConsumerSteps.StoresHeadBefore}
 use Rattle.ring_table.proofs.Calls.{same_seat, trailer_step, leaves_words, of_as}
 use Rattle.ring_table.proofs.ClearLemmas.{stores_head_before}
 use Rattle.ring_table.proofs.steps.consumer.store_head_before.Goals as goal

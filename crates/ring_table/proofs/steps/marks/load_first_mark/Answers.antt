@@ -1,7 +1,5 @@
 use Rattle.std.proofs.Common.{ℕ, sym, ◌∙◌, subst}
-use Rattle.ring_table.specs.Marks.{LoadsMark}
-use Rattle.ring_table.proofs.ReadMarks.{reads_first}
-use Rattle.ring_table.proofs.SlotCalls.{mark_step}
+use Rattle.ring_table.{specs.Marks.LoadsMark, proofs.ReadMarks.reads_first, proofs.SlotCalls.mark_step}
 use Rattle.ring_table.proofs.steps.marks.load_first_mark.Goals.{After-load-mark}
 use Rattle.ring_table.proofs.steps.marks.load_first_mark.Goals as goal
 

@@ -1,10 +1,6 @@
 use Rattle.std.proofs.Common.{◌≡◌, ℕ, refl, sym, ap, ◌∙◌, subst, arith}
-use Rattle.ring_table.specs.ConsumerSteps.{LoadsHeader}
-use Rattle.ring_table.specs.Marks.{LoadsInRun}
-use Rattle.ring_table.specs.SlotSteps.{with_out}
-use Rattle.ring_table.specs.Views.{Run, View, with_run}
-use Rattle.ring_table.proofs.ReadMarks.{reads_inner}
-use Rattle.ring_table.proofs.SlotCalls.{mark_step}
+use Rattle.ring_table.specs.{ConsumerSteps.LoadsHeader, SlotSteps.with_out, Views.Run, Views.View, Views.with_run}
+use Rattle.ring_table.{specs.Marks.LoadsInRun, proofs.ReadMarks.reads_inner, proofs.SlotCalls.mark_step}
 use Rattle.ring_table.proofs.steps.marks.load_in_run.Goals.{After-load}
 use Rattle.ring_table.proofs.steps.marks.load_in_run.Goals as goal
 

@@ -1,7 +1,5 @@
 use Rattle.std.proofs.Common.{◌≡◌, ℕ, ◌-◌, ◌%◌, sym, ap, ◌∙◌, subst, arith}
-use Rattle.ring_table.specs.ConsumerSteps.{LoadsHeader}
-use Rattle.ring_table.specs.SlotSteps.{with_out}
-use Rattle.ring_table.specs.Views.{Run, View, with_run}
+use Rattle.ring_table.specs.{ConsumerSteps.LoadsHeader, SlotSteps.with_out, Views.Run, Views.View, Views.with_run}
 use Rattle.ring_table.proofs.steps.marks.read_mark.Goals as goal
 
 pub returns-clause-told : goal.returns-clause-told

@@ -1,8 +1,6 @@
 use Rattle.std.proofs.Common.{◌≡◌, refl}
 use Rattle.ring_table.specs.Marks.{SplitsAtScan}
-use Rattle.ring_table.proofs.Calls.{same_seat, of_as}
-use Rattle.ring_table.proofs.SplitMarks.{splits_at_scan}
-use Rattle.ring_table.proofs.SlotCalls.{mark_step}
+use Rattle.ring_table.proofs.{Calls.same_seat, Calls.of_as, SplitMarks.splits_at_scan, SlotCalls.mark_step}
 use Rattle.ring_table.proofs.steps.marks.split_at_scan.Goals as goal
 
 pub store-requires : goal.store-requires

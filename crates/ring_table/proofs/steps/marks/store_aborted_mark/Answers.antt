@@ -1,12 +1,7 @@
 use Rattle.std.proofs.Common.{◌≡◌, ◌+◌, ◌%◌, ◌^◌, ◌∙◌, sym, refl}
-use Rattle.ring_layout.specs.Marks.{aborted_kind}
-use Rattle.ring_layout.specs.declared.message.ClaimState.TheVariants.{Aborted}
-use Rattle.ring_layout.specs.History.{span}
-use Rattle.ring_table.specs.Staged.{AreRising}
-use Rattle.ring_table.specs.ProducerSteps.{StoresSettled}
-use Rattle.ring_table.proofs.Calls.{same_seat, settled_view, of_as}
-use Rattle.ring_table.proofs.SettleMarks.{settled_mark}
-use Rattle.ring_table.proofs.SlotCalls.{mark_step}
+use Rattle.ring_layout.specs.{Marks.aborted_kind, declared.message.ClaimState.TheVariants.Aborted, History.span}
+use Rattle.ring_table.{specs.Staged.AreRising, specs.ProducerSteps.StoresSettled, proofs.SlotCalls.mark_step}
+use Rattle.ring_table.proofs.{Calls.same_seat, Calls.settled_view, Calls.of_as, SettleMarks.settled_mark}
 use Rattle.ring_table.proofs.steps.marks.store_aborted_mark.Goals as goal
 
 pub store-requires : goal.store-requires

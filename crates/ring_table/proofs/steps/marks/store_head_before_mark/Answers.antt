@@ -1,8 +1,6 @@
 use Rattle.std.proofs.Common.{◌≡◌, refl}
 use Rattle.ring_table.specs.ConsumerSteps.{StoresHeadBefore}
-use Rattle.ring_table.proofs.Calls.{same_seat, of_as}
-use Rattle.ring_table.proofs.ClearMarks.{raises_head_before}
-use Rattle.ring_table.proofs.SlotCalls.{head_step}
+use Rattle.ring_table.proofs.{Calls.same_seat, Calls.of_as, ClearMarks.raises_head_before, SlotCalls.head_step}
 use Rattle.ring_table.proofs.steps.marks.store_head_before_mark.Goals as goal
 
 pub store-requires : goal.store-requires

@@ -1,8 +1,6 @@
 use Rattle.std.proofs.Common.{◌≡◌, refl}
 use Rattle.ring_table.specs.ConsumerSteps.{StoresHead}
-use Rattle.ring_table.proofs.Calls.{same_seat, of_as}
-use Rattle.ring_table.proofs.ClearMarks.{raises_head}
-use Rattle.ring_table.proofs.SlotCalls.{head_step}
+use Rattle.ring_table.proofs.{Calls.same_seat, Calls.of_as, ClearMarks.raises_head, SlotCalls.head_step}
 use Rattle.ring_table.proofs.steps.marks.store_head_past_marks.Goals as goal
 
 pub store-requires : goal.store-requires

@@ -1,10 +1,7 @@
 use Rattle.std.proofs.Common.{◌≡◌, ℕ, ◌+◌, ◌%◌, ◌^◌, ◌<◌, sym, ap, ◌∙◌, subst, refl}
 use Rattle.ring_layout.specs.Places.{index}
-use Rattle.ring_table.specs.Staged.{Moved, Padded, AreRising}
-use Rattle.ring_table.specs.Changes.{staged}
-use Rattle.ring_table.specs.ProducerSteps.{StoresPadding}
-use Rattle.ring_table.proofs.Calls.{same_seat, after_change, of_as}
-use Rattle.ring_table.proofs.SettleMarks.{padding_stored}
+use Rattle.ring_table.specs.{Staged.Moved, Staged.Padded, Staged.AreRising, Changes.staged, ProducerSteps.StoresPadding}
+use Rattle.ring_table.proofs.{Calls.same_seat, Calls.after_change, Calls.of_as, SettleMarks.padding_stored}
 use Rattle.ring_table.proofs.SlotCalls.{mark_step}
 use Rattle.ring_table.proofs.steps.marks.store_padding_mark.Goals as goal
 

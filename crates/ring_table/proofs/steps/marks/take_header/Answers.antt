@@ -1,11 +1,7 @@
 use Rattle.std.proofs.Common.{◌≡◌, [], ◌∷◌, ℕ, ◌≤◌, sym, ap, ◌∙◌, subst, length, arith}
-use Rattle.ring_layout.specs.Headers.{committed_header}
-use Rattle.ring_layout.specs.Places.{index}
-use Rattle.ring_table.specs.ProducerSteps.{Mine}
-use Rattle.ring_table.specs.SlotSteps.{with_out, HasBody, IsLent}
-use Rattle.ring_table.specs.Staged.{slot_bytes}
-use Rattle.ring_table.specs.Views.{View}
-use Rattle.ring_table.proofs.ReadMarks.{lent_front}
+use Rattle.ring_layout.specs.{Headers.committed_header, Places.index}
+use Rattle.ring_table.specs.{ProducerSteps.Mine, SlotSteps.with_out, SlotSteps.HasBody, SlotSteps.IsLent, Views.View}
+use Rattle.ring_table.{specs.Staged.slot_bytes, proofs.ReadMarks.lent_front}
 use Rattle.ring_table.proofs.steps.marks.take_header.Goals as goal
 
 pub peek_slot-header-requires-clause-front : goal.peek_slot-header-requires-clause-front

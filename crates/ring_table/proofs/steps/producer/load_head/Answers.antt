@@ -1,9 +1,7 @@
 use Rattle.std.proofs.Common.{◌≡◌, arith, refl}
-use Rattle.ring_table.specs.Views.{Logs}
-use Rattle.ring_table.specs.ProducerSteps.{LoadsHead}
-use Rattle.ring_table.proofs.MarkSteps.{same_reader}
+use Rattle.ring_table.specs.{Views.Logs, ProducerSteps.LoadsHead}
+use Rattle.ring_table.proofs.{MarkSteps.same_reader, LoadLemmas.loads_head}
 use Rattle.ring_table.proofs.Calls.{same_seat, trailer_step, leaves_same, of_as}
-use Rattle.ring_table.proofs.LoadLemmas.{loads_head}
 use Rattle.ring_table.proofs.steps.producer.load_head.Goals as goal
 
 pub load-requires : goal.load-requires

@@ -1,9 +1,6 @@
 use Rattle.std.proofs.Common.{◌≡◌, refl, subst}
-use Rattle.ring_table.specs.Staged.{AreRising}
-use Rattle.ring_table.specs.Views.{logged}
-use Rattle.ring_table.specs.ProducerSteps.{LoadsOwn}
-use Rattle.ring_table.proofs.Calls.{same_seat, record_step, leaves_words, of_as}
-use Rattle.ring_table.proofs.LoadLemmas.{loads_own}
+use Rattle.ring_table.specs.{Staged.AreRising, Views.logged, ProducerSteps.LoadsOwn}
+use Rattle.ring_table.proofs.{Calls.same_seat, Calls.record_step, Calls.leaves_words, Calls.of_as, LoadLemmas.loads_own}
 use Rattle.ring_table.proofs.steps.producer.load_own_word.Goals as goal
 
 pub load-requires : goal.load-requires

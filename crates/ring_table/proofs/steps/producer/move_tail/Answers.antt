@@ -1,19 +1,11 @@
-use Rattle.std.proofs.Common.{◌≡◌, ◌≢◌, ◌+◌, ◌/◌, ◌^◌, ◌<◌, ◌≤◌, ℕ, FitsSigned, refl, ap, eqb, arith, subst, length, ◌∙◌, ℤ}
-use mir.Val.{to_z, of_z}
-use Rattle.std.proofs.lemmas.Int.{to_z-of_z}
-use mathlib.Core.Logic.{dite}
-use mathlib.Core.Option.{some}
-use native.Mathlib.Decide.{ℕ_discrete}
+use Rattle.std.proofs.Common.{◌≡◌, ◌≢◌, ◌+◌, ◌/◌, ◌^◌, ◌<◌, ◌≤◌, ℕ, FitsSigned, refl, ap, eqb, arith, subst, length, ◌∙◌, ℤ, to_z, of_z, w32}
+use Rattle.std.proofs.lemmas.{Int.to_z-of_z, List.length-replicate}
+use Rattle.std.proofs.Math.{Logic.dite, Option.some, Decide.ℕ_discrete}
 use prog.Atomic.{either}
-use Rattle.std.specs.Int.{w32}
-use Rattle.std.proofs.lemmas.List.{length-replicate}
 use Rattle.ring_layout.specs.Headers.{open_header}
-use Rattle.ring_table.specs.Changes.{blank}
-use Rattle.ring_table.specs.Views.{Logs, Wanted}
-use Rattle.ring_table.specs.ProducerSteps.{MovesTail}
-use Rattle.ring_table.proofs.MarkSteps.{same_reader}
+use Rattle.ring_table.specs.{Changes.blank, Views.Logs, Views.Wanted, ProducerSteps.MovesTail}
+use Rattle.ring_table.proofs.{MarkSteps.same_reader, ClaimLemmas.moves_tail}
 use Rattle.ring_table.proofs.Calls.{same_seat, trailer_step, leaves_claim, leaves_same, of_as}
-use Rattle.ring_table.proofs.ClaimLemmas.{moves_tail}
 use Rattle.ring_table.proofs.steps.producer.move_tail.Goals as goal
 
 header_is : (type_id : ℤ) (len x : ℕ) → FitsSigned w32 type_id → x ≡ open_header (to_z w32 (of_z w32 type_id)) len → x ≡ open_header type_id len

@@ -1,11 +1,8 @@
 use Rattle.std.proofs.Common.{◌≡◌, ◌+◌, sym, ap, ◌∙◌, arith, refl}
 use Rattle.ring_layout.specs.Places.{index}
-use Rattle.ring_table.specs.Staged.{AreRising}
-use Rattle.ring_table.specs.Changes.{changed, with_body_word}
-use Rattle.ring_table.specs.Views.{View, with_claims}
+use Rattle.ring_table.specs.{Staged.AreRising, Changes.changed, Changes.with_body_word, Views.View, Views.with_claims}
 use Rattle.ring_table.specs.ProducerSteps.{StoresBody}
-use Rattle.ring_table.proofs.Calls.{same_seat, record_step, of_as, leaves_words}
-use Rattle.ring_table.proofs.StoreBodies.{puts}
+use Rattle.ring_table.proofs.{Calls.same_seat, Calls.record_step, Calls.of_as, Calls.leaves_words, StoreBodies.puts}
 use Rattle.ring_table.proofs.steps.producer.store_body_word.Goals as goal
 
 pub store-requires : goal.store-requires

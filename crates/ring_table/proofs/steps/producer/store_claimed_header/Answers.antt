@@ -1,13 +1,9 @@
-use Rattle.ring_table.specs.Staged.{in_words}
+use Rattle.ring_table.specs.{Staged.in_words, Staged.Padded, Staged.AreRising, ProducerSteps.StoresClaimed}
 use Rattle.std.proofs.Common.{◌≡◌, ℕ, ◌+◌, ◌^◌, ◌<◌, sym, ap, ◌∙◌, arith, refl}
 use Rattle.std.proofs.lemmas.List.{length-replicate}
 use Rattle.ring_layout.specs.Places.{index}
-use Rattle.ring_table.specs.Staged.{Padded, AreRising}
-use Rattle.ring_table.specs.Changes.{with_header}
-use Rattle.ring_table.specs.ProducerSteps.{StoresClaimed}
+use Rattle.ring_table.{specs.Changes.with_header, proofs.HeaderCalls.packs_open, proofs.StoreLemmas.opens}
 use Rattle.ring_table.proofs.Calls.{same_seat, record_step, after_change, of_as, leaves_words}
-use Rattle.ring_table.proofs.HeaderCalls.{packs_open}
-use Rattle.ring_table.proofs.StoreLemmas.{opens}
 use Rattle.ring_table.proofs.steps.producer.store_claimed_header.Goals as goal
 
 pub store-requires : goal.store-requires

@@ -1,10 +1,7 @@
-use Rattle.ring_table.specs.Staged.{in_words}
+use Rattle.ring_table.specs.Staged.{in_words, Moved, Padded, AreRising, padding_word}
 use Rattle.std.proofs.Common.{◌≡◌, ℕ, ◌-◌, ◌<◌, sym, ap, ◌∙◌, subst, refl}
 use Rattle.ring_layout.specs.Places.{index}
-use Rattle.ring_table.specs.Staged.{Moved, Padded, AreRising, padding_word}
-use Rattle.ring_table.specs.Changes.{staged}
-use Rattle.ring_table.specs.Views.{View}
-use Rattle.ring_table.specs.ProducerSteps.{StoresPadding}
+use Rattle.ring_table.specs.{Changes.staged, Views.View, ProducerSteps.StoresPadding}
 use Rattle.ring_table.proofs.Calls.{same_seat, record_step, after_change, leaves_words, of_as}
 use Rattle.ring_table.proofs.StoreLemmas.{pads}
 use Rattle.ring_table.proofs.steps.producer.store_padding_word.Goals as goal

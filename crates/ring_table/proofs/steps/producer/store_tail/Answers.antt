@@ -1,7 +1,6 @@
 use Rattle.std.proofs.Common.{◌≡◌, arith, refl}
-use Rattle.ring_table.specs.ProducerSteps.{MovesOwnTail}
+use Rattle.ring_table.{specs.ProducerSteps.MovesOwnTail, proofs.ClaimLemmas.moves_own_tail}
 use Rattle.ring_table.proofs.Calls.{same_seat, trailer_step, leaves_claim, of_as}
-use Rattle.ring_table.proofs.ClaimLemmas.{moves_own_tail}
 use Rattle.ring_table.proofs.steps.producer.store_tail.Goals as goal
 
 pub store-requires : goal.store-requires

@@ -1,7 +1,5 @@
 use Rattle.std.proofs.Common.{refl}
-use Rattle.ring_table.proofs.Calls.{reseated_as}
-use Rattle.ring_table.proofs.SeatMarks.{obeys_consumer_join}
-use Rattle.ring_table.proofs.SplitLemmas.{joins_consumer}
+use Rattle.ring_table.proofs.{Calls.reseated_as, SeatMarks.obeys_consumer_join, SplitLemmas.joins_consumer}
 use Rattle.ring_table.proofs.steps.seats.join_consumer.Goals as goal
 
 pub join_seat-requires : goal.join_seat-requires

@@ -1,7 +1,5 @@
 use Rattle.std.proofs.Common.{refl}
-use Rattle.ring_table.proofs.Calls.{reseated_as}
-use Rattle.ring_table.proofs.SeatMarks.{obeys_producer_join}
-use Rattle.ring_table.proofs.SplitLemmas.{joins_producer}
+use Rattle.ring_table.proofs.{Calls.reseated_as, SeatMarks.obeys_producer_join, SplitLemmas.joins_producer}
 use Rattle.ring_table.proofs.steps.seats.join_producer.Goals as goal
 
 pub join_seat-requires : goal.join_seat-requires

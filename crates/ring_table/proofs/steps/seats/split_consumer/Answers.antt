@@ -1,7 +1,5 @@
 use Rattle.std.proofs.Common.{refl}
-use Rattle.ring_table.proofs.Calls.{reseated_as}
-use Rattle.ring_table.proofs.SeatMarks.{obeys_consumer_split}
-use Rattle.ring_table.proofs.SplitLemmas.{splits_consumer}
+use Rattle.ring_table.proofs.{Calls.reseated_as, SeatMarks.obeys_consumer_split, SplitLemmas.splits_consumer}
 use Rattle.ring_table.proofs.steps.seats.split_consumer.Goals as goal
 
 pub split_seat-requires : goal.split_seat-requires

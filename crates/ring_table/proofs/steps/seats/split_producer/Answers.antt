@@ -1,7 +1,5 @@
 use Rattle.std.proofs.Common.{refl}
-use Rattle.ring_table.proofs.Calls.{reseated_as}
-use Rattle.ring_table.proofs.SeatMarks.{obeys_producer_split}
-use Rattle.ring_table.proofs.SplitLemmas.{splits_producer}
+use Rattle.ring_table.proofs.{Calls.reseated_as, SeatMarks.obeys_producer_split, SplitLemmas.splits_producer}
 use Rattle.ring_table.proofs.steps.seats.split_producer.Goals as goal
 
 pub split_seat-requires : goal.split_seat-requires

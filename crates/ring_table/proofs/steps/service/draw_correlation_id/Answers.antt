@@ -1,8 +1,6 @@
 use Rattle.std.proofs.Common.{◌≡◌, ◌+◌, ◌%◌, ◌^◌, arith, refl}
-use Rattle.ring_table.specs.ServiceSteps.{DrawsId}
-use Rattle.ring_table.proofs.MarkSteps.{same_reader}
-use Rattle.ring_table.proofs.Calls.{same_seat, trailer_step, leaves_same, of_as}
-use Rattle.ring_table.proofs.ServeLemmas.{draws_id}
+use Rattle.ring_table.{specs.ServiceSteps.DrawsId, proofs.MarkSteps.same_reader}
+use Rattle.ring_table.proofs.{Calls.same_seat, Calls.trailer_step, Calls.leaves_same, Calls.of_as, ServeLemmas.draws_id}
 use Rattle.ring_table.proofs.steps.service.draw_correlation_id.Goals as goal
 
 pub fetch_add-requires : goal.fetch_add-requires

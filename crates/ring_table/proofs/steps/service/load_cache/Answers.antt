@@ -1,9 +1,7 @@
 use Rattle.std.proofs.Common.{◌≡◌, arith, refl}
-use Rattle.ring_table.specs.Views.{Logs}
-use Rattle.ring_table.specs.ServiceSteps.{LoadsCache}
-use Rattle.ring_table.proofs.MarkSteps.{same_reader}
+use Rattle.ring_table.specs.{Views.Logs, ServiceSteps.LoadsCache}
+use Rattle.ring_table.proofs.{MarkSteps.same_reader, ServeLemmas.loads_cache}
 use Rattle.ring_table.proofs.Calls.{same_seat, trailer_step, leaves_same, of_as}
-use Rattle.ring_table.proofs.ServeLemmas.{loads_cache}
 use Rattle.ring_table.proofs.steps.service.load_cache.Goals as goal
 
 pub load-requires : goal.load-requires

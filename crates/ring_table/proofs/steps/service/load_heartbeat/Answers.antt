@@ -1,9 +1,7 @@
 use Rattle.std.proofs.Common.{◌≡◌, arith, refl}
-use Rattle.ring_table.specs.Views.{Logs}
-use Rattle.ring_table.specs.ServiceSteps.{LoadsHeartbeat}
-use Rattle.ring_table.proofs.MarkSteps.{same_reader}
+use Rattle.ring_table.specs.{Views.Logs, ServiceSteps.LoadsHeartbeat}
+use Rattle.ring_table.proofs.{MarkSteps.same_reader, ServeLemmas.loads_heartbeat}
 use Rattle.ring_table.proofs.Calls.{same_seat, trailer_step, leaves_same, of_as}
-use Rattle.ring_table.proofs.ServeLemmas.{loads_heartbeat}
 use Rattle.ring_table.proofs.steps.service.load_heartbeat.Goals as goal
 
 pub load-requires : goal.load-requires

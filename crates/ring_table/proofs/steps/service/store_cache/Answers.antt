@@ -1,7 +1,6 @@
 use Rattle.std.proofs.Common.{◌≡◌, arith, refl}
-use Rattle.ring_table.proofs.MarkSteps.{same_reader}
+use Rattle.ring_table.proofs.{MarkSteps.same_reader, ServeLemmas.stores_cache}
 use Rattle.ring_table.proofs.Calls.{same_seat, trailer_step, leaves_same, of_as}
-use Rattle.ring_table.proofs.ServeLemmas.{stores_cache}
 use Rattle.ring_table.proofs.steps.service.store_cache.Goals as goal
 
 pub store-requires : goal.store-requires

@@ -1,20 +1,11 @@
 use Rattle.std.proofs.Common.{◌≡◌, ℕ, ◌+◌, ◌%◌, ◌^◌, ◌<◌, List, length, ap, ◌∙◌, sym, subst, refl, arith}
 use Rattle.std.proofs.lemmas.List.{length-replicate}
-use Rattle.ring_layout.specs.Marks.{committed_kind}
-use Rattle.ring_layout.specs.declared.message.ClaimState.TheVariants.{Committed}
-use Rattle.ring_layout.specs.declared.message.Message.{Message}
-use Rattle.ring_layout.specs.Headers.{header_of}
-use Rattle.ring_layout.specs.History.{IsMessage, span}
-use Rattle.ring_layout.specs.Places.{index}
-use Rattle.ring_table.specs.Staged.{AreRising, slot_bytes}
-use Rattle.ring_table.specs.Changes.{blank}
-use Rattle.ring_table.specs.Passing.{IsSettled}
-use Rattle.ring_table.specs.SlotSteps.{StoresRecord, HasBody}
-use Rattle.ring_table.specs.Views.{View}
-use Rattle.ring_table.proofs.MarkSteps.{lift_mark, rests_as}
-use Rattle.ring_table.proofs.MarkWords.{Shows, shows_claim}
-use Rattle.ring_table.proofs.SlotCalls.{lies_ahead, mark_step, holder}
-use Rattle.ring_table.proofs.HomeLemmas.{stores_record}
+use Rattle.ring_layout.specs.{Marks.committed_kind, Headers.header_of, History.IsMessage, History.span, Places.index}
+use Rattle.ring_layout.specs.declared.message.{ClaimState.TheVariants.Committed, Message.Message}
+use Rattle.ring_table.specs.{Staged.AreRising, Staged.slot_bytes, SlotSteps.StoresRecord, SlotSteps.HasBody, Views.View}
+use Rattle.ring_table.specs.{Changes.blank, Passing.IsSettled}
+use Rattle.ring_table.proofs.{MarkSteps.lift_mark, MarkSteps.rests_as, MarkWords.Shows, MarkWords.shows_claim}
+use Rattle.ring_table.proofs.{SlotCalls.lies_ahead, SlotCalls.mark_step, SlotCalls.holder, HomeLemmas.stores_record}
 use Rattle.ring_table.proofs.steps.slots.commit_record.Goals as goal
 
 pub store-requires : goal.store-requires

@@ -1,15 +1,9 @@
 use Rattle.std.proofs.Common.{ℕ, List, ap, sym, ◌∙◌, subst}
-use Rattle.ring_layout.specs.declared.message.Message.{Message}
-use Rattle.ring_layout.specs.Places.{index}
-use Rattle.ring_table.specs.Runs.{run_bytes, run_slots, AreMessages, StoresRun}
-use Rattle.ring_table.specs.SlotSteps.{HasBody}
+use Rattle.ring_layout.specs.{declared.message.Message.Message, Places.index}
+use Rattle.ring_table.specs.{Runs.run_bytes, Runs.run_slots, Runs.AreMessages, Runs.StoresRun, ProducerSteps.Mine}
+use Rattle.ring_table.specs.{SlotSteps.HasBody, Staged.AreRising, Views.View}
 use Rattle.atomic_table.specs.Table.{Allows}
-use Rattle.ring_table.specs.ProducerSteps.{Mine}
-use Rattle.ring_table.specs.Staged.{AreRising}
-use Rattle.ring_table.proofs.MarkSteps.{Marked}
-use Rattle.ring_table.specs.Views.{View}
-use Rattle.ring_table.proofs.CommitRun.{commits_run}
-use Rattle.ring_table.proofs.SlotCalls.{holder, mark_step}
+use Rattle.ring_table.proofs.{MarkSteps.Marked, CommitRun.commits_run, SlotCalls.holder, SlotCalls.mark_step}
 use Rattle.ring_table.proofs.steps.slots.commit_run.Goals as goal
 
 pub store-requires : goal.store-requires

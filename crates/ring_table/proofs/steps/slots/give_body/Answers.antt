@@ -1,11 +1,7 @@
 use Rattle.std.proofs.Common.{ap, ◌∙◌, sym, subst, refl}
 use Rattle.ring_layout.specs.Places.{index}
-use Rattle.ring_table.specs.Staged.{AreRising, slot_bytes}
-use Rattle.ring_table.specs.SlotSteps.{GivesBody, HasBody}
-use Rattle.ring_table.specs.Views.{View}
-use Rattle.ring_table.proofs.SlotCalls.{slot_load, holder}
-use Rattle.ring_table.proofs.MarkSteps.{rests_as}
-use Rattle.ring_table.proofs.HomeLemmas.{gives_it}
+use Rattle.ring_table.specs.{Staged.AreRising, Staged.slot_bytes, SlotSteps.GivesBody, SlotSteps.HasBody, Views.View}
+use Rattle.ring_table.proofs.{SlotCalls.slot_load, SlotCalls.holder, MarkSteps.rests_as, HomeLemmas.gives_it}
 use Rattle.ring_table.proofs.steps.slots.give_body.Goals as goal
 
 pub load-requires : goal.load-requires

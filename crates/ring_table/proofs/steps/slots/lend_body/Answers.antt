@@ -1,9 +1,6 @@
 use Rattle.std.proofs.Common.{ap, sym, refl}
-use Rattle.ring_table.specs.SlotSteps.{LendsBody}
-use Rattle.ring_table.specs.Views.{View}
-use Rattle.ring_table.proofs.SlotCalls.{slot_load, holder}
-use Rattle.ring_table.proofs.MarkSteps.{rests_as}
-use Rattle.ring_table.proofs.OutLemmas.{lends_body}
+use Rattle.ring_table.specs.{SlotSteps.LendsBody, Views.View}
+use Rattle.ring_table.proofs.{SlotCalls.slot_load, SlotCalls.holder, MarkSteps.rests_as, OutLemmas.lends_body}
 use Rattle.ring_table.proofs.steps.slots.lend_body.Goals as goal
 
 pub load-requires : goal.load-requires

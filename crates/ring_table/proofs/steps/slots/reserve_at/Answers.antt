@@ -1,11 +1,7 @@
 use Rattle.std.proofs.Common.{ap, ◌∙◌, sym, refl}
 use Rattle.ring_layout.specs.Places.{index}
-use Rattle.ring_table.specs.Staged.{AreRising}
-use Rattle.ring_table.specs.SlotSteps.{ReservesAt}
-use Rattle.ring_table.specs.Views.{View}
-use Rattle.ring_table.proofs.SlotCalls.{slot_load, holder}
-use Rattle.ring_table.proofs.MarkSteps.{rests_as}
-use Rattle.ring_table.proofs.OutLemmas.{reserves_at}
+use Rattle.ring_table.specs.{Staged.AreRising, SlotSteps.ReservesAt, Views.View}
+use Rattle.ring_table.proofs.{SlotCalls.slot_load, SlotCalls.holder, MarkSteps.rests_as, OutLemmas.reserves_at}
 use Rattle.ring_table.proofs.steps.slots.reserve_at.Goals as goal
 
 pub load-requires : goal.load-requires

@@ -1,10 +1,7 @@
 use Rattle.std.proofs.Common.{ap, arith, refl}
-use Rattle.ring_table.specs.Staged.{AreRising}
-use Rattle.ring_table.specs.SlotSteps.{ReservesBody}
-use Rattle.ring_table.specs.Views.{View}
-use Rattle.ring_table.proofs.SlotCalls.{slot_load_anywhere, holder}
+use Rattle.ring_table.specs.{Staged.AreRising, SlotSteps.ReservesBody, Views.View}
+use Rattle.ring_table.proofs.{SlotCalls.slot_load_anywhere, SlotCalls.holder, OutLemmas.reserves_body}
 use Rattle.ring_table.proofs.MarkSteps.{rests_as}
-use Rattle.ring_table.proofs.OutLemmas.{reserves_body}
 use Rattle.ring_table.proofs.steps.slots.reserve_body.Goals as goal
 
 pub load-requires : goal.load-requires

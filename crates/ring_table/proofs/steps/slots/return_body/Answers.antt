@@ -1,11 +1,7 @@
 use Rattle.std.proofs.Common.{ap, sym, subst, refl}
 use Rattle.ring_layout.specs.Places.{index}
-use Rattle.ring_table.specs.SlotSteps.{HasBody, ReturnsBody}
-use Rattle.ring_table.specs.Staged.{slot_bytes}
-use Rattle.ring_table.specs.Views.{View}
-use Rattle.ring_table.proofs.SlotCalls.{slot_load, holder}
-use Rattle.ring_table.proofs.MarkSteps.{rests_as}
-use Rattle.ring_table.proofs.HomeLemmas.{returns_body}
+use Rattle.ring_table.specs.{SlotSteps.HasBody, SlotSteps.ReturnsBody, Staged.slot_bytes, Views.View}
+use Rattle.ring_table.proofs.{SlotCalls.slot_load, SlotCalls.holder, MarkSteps.rests_as, HomeLemmas.returns_body}
 use Rattle.ring_table.proofs.steps.slots.return_body.Goals as goal
 
 pub load-requires : goal.load-requires

@@ -1,11 +1,7 @@
 use Rattle.std.proofs.Common.{ap, ◌∙◌, sym, refl}
 use Rattle.ring_layout.specs.Places.{index}
-use Rattle.ring_table.specs.Staged.{AreRising}
-use Rattle.ring_table.specs.SlotSteps.{TakesBody}
-use Rattle.ring_table.specs.Views.{View}
-use Rattle.ring_table.proofs.SlotCalls.{slot_load, holder}
-use Rattle.ring_table.proofs.MarkSteps.{rests_as}
-use Rattle.ring_table.proofs.OutLemmas.{takes_body}
+use Rattle.ring_table.specs.{Staged.AreRising, SlotSteps.TakesBody, Views.View}
+use Rattle.ring_table.proofs.{SlotCalls.slot_load, SlotCalls.holder, MarkSteps.rests_as, OutLemmas.takes_body}
 use Rattle.ring_table.proofs.steps.slots.take_body.Goals as goal
 
 pub load-requires : goal.load-requires

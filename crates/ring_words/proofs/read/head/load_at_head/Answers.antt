@@ -1,5 +1,4 @@
-use Rattle.ring_words.specs.Ring.{ring}
-use Rattle.ring_words.proofs.BodyLemmas.{body_is}
+use Rattle.ring_words.{specs.Ring.ring, proofs.BodyLemmas.body_is}
 use Rattle.ring_words.proofs.read.head.load_at_head.Goals as goal
 
 pub returns : goal.returns

@@ -1,5 +1,4 @@
-use Rattle.std.proofs.Common.{rules, ◌≡◌, pos, FitsSigned, to_z, of_z, ◌∙◌}
-use Rattle.std.specs.Int.{w32}
+use Rattle.std.proofs.Common.{rules, ◌≡◌, pos, FitsSigned, to_z, of_z, ◌∙◌, w32}
 use Rattle.std.proofs.lemmas.Int.{to_z-of_z}
 use Rattle.ring_words.specs.Ring.{Ring, ring}
 use Rattle.ring_words.proofs.HeadLemmas.{sees_some, sees_blocked, len_at, type_at, signed_above, signed_not_above}

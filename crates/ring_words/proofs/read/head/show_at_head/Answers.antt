@@ -1,10 +1,6 @@
-use Rattle.std.proofs.Common.{rules, ◌≡◌, ◌-◌, length, FitsSigned, to_z, of_z, arith, sym, ◌∙◌}
-use Rattle.std.specs.Int.{w32}
+use Rattle.std.proofs.Common.{rules, ◌≡◌, ◌-◌, length, FitsSigned, to_z, of_z, arith, sym, ◌∙◌, w32, length-take-le}
 use Rattle.std.proofs.lemmas.Int.{to_z-of_z}
-use Rattle.std.proofs.lemmas.List.{length-take-le}
-use Rattle.ring_words.specs.Ring.{ring}
-use Rattle.ring_words.proofs.TakeLemmas.{message_of}
-use Rattle.ring_words.proofs.BodyLemmas.{message_ext}
+use Rattle.ring_words.{specs.Ring.ring, proofs.TakeLemmas.message_of, proofs.BodyLemmas.message_ext}
 use Rattle.ring_words.proofs.read.head.show_at_head.Goals as goal
 
 pub slice_bounds-body-end : goal.slice_bounds-body-end

@@ -1,10 +1,7 @@
-use Rattle.std.proofs.Common.{rules, ◌≡◌, ◌∙◌, ℕ, List, arith, ap, sym, subst}
-use Rattle.std.specs.Int.{w32}
-use Rattle.std.proofs.lemmas.Int.{to_z-of_z}
-use Rattle.std.proofs.lemmas.List.{with_items_is}
-use Rattle.ring_words.specs.Ring.{Ring, ring, IsRing}
+use Rattle.std.proofs.Common.{rules, ◌≡◌, ◌∙◌, ℕ, List, arith, ap, sym, subst, w32}
+use Rattle.std.proofs.lemmas.{Int.to_z-of_z, List.with_items_is}
+use Rattle.ring_words.specs.{Ring.Ring, Ring.ring, Ring.IsRing, Change.AppendsClaim, Change.opened}
 use Rattle.ring_words.specs.Open.{ClaimAt, fresh_claim}
-use Rattle.ring_words.specs.Change.{AppendsClaim, opened}
 use Rattle.ring_words.proofs.OpenLemmas.{appended_keeps, appended_is_open, appended_apart}
 use Rattle.ring_words.proofs.ring.SoloRing.claim.Goals as goal
 

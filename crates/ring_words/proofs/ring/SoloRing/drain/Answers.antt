@@ -1,6 +1,5 @@
 use Rattle.std.proofs.Common.{subst, arith}
-use Rattle.ring_words.specs.Ring.{Ring, IsRing}
-use Rattle.ring_words.proofs.DrainLemmas.{drained, drained_whole}
+use Rattle.ring_words.{specs.Ring.Ring, specs.Ring.IsRing, proofs.DrainLemmas.drained, proofs.DrainLemmas.drained_whole}
 use Rattle.ring_words.proofs.ring.SoloRing.drain.Goals as goal
 
 pub returns-clause-drained : goal.returns-clause-drained

@@ -1,6 +1,5 @@
 use Rattle.std.proofs.Common.{subst}
-use Rattle.ring_words.specs.Ring.{Ring, IsRing}
-use Rattle.ring_words.proofs.UniqueLemmas.{alike, open_in_each}
+use Rattle.ring_words.{specs.Ring.Ring, specs.Ring.IsRing, proofs.UniqueLemmas.alike, proofs.UniqueLemmas.open_in_each}
 use Rattle.ring_words.proofs.ring.SoloRing.history_law.Goals as goal
 
 pub returns : goal.returns

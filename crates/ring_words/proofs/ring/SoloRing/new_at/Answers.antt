@@ -1,7 +1,6 @@
 use Rattle.std.proofs.Common.{rules, ◌≡◌, ℕ, ◌/◌, ◌+◌, List, slice_set, replicate, subst, sym}
-use Rattle.ring_words.specs.Ring.{ring, IsRing}
+use Rattle.ring_words.{specs.Ring.ring, specs.Ring.IsRing, proofs.FreshLemmas.is_ring_fresh}
 use Rattle.ring_layout.specs.Layout.{tail_index, head_cache_index, head_index}
-use Rattle.ring_words.proofs.FreshLemmas.{is_ring_fresh}
 use Rattle.ring_words.proofs.ring.SoloRing.new_at.Goals as goal
 
 pub invariant_of-result : goal.invariant_of-result

@@ -1,8 +1,7 @@
 use Rattle.std.proofs.Common.{◌≡◌, ℕ, List, Some, arith, sym, ap, subst, ◌∙◌}
 use Rattle.std.proofs.lemmas.List.{with_items_is}
-use Rattle.ring_words.specs.Ring.{Ring, ring, Has}
+use Rattle.ring_words.specs.{Ring.Ring, Ring.ring, Ring.Has, Reading.Sees, Reading.Leaves}
 use Rattle.ring_layout.specs.declared.message.Claim.{Claim}
-use Rattle.ring_words.specs.Reading.{Sees, Leaves}
 use Rattle.ring_words.proofs.ring.SoloRing.pass.Goals as goal
 
 pub take_at_head-requires-clause-seen : goal.take_at_head-requires-clause-seen

@@ -1,7 +1,6 @@
 use Rattle.std.proofs.Common.{◌≡◌, ℕ, List, arith, sym, subst, ap, ◌∙◌}
 use Rattle.std.proofs.lemmas.List.{with_items_is}
-use Rattle.ring_words.specs.Ring.{Ring, ring}
-use Rattle.ring_words.specs.Open.{IsOpen}
+use Rattle.ring_words.specs.{Ring.Ring, Ring.ring, Open.IsOpen}
 use Rattle.ring_words.proofs.ring.SoloRing.put.Goals as goal
 
 pub returns-clause-claims : goal.returns-clause-claims

@@ -1,13 +1,8 @@
-use Rattle.std.proofs.Common.{rules, ◌<◌, List, Some, FitsSigned, arith, sym, subst, inl, inr}
-use Rattle.std.specs.Int.{w32}
+use Rattle.std.proofs.Common.{rules, ◌<◌, List, Some, FitsSigned, arith, sym, subst, inl, inr, w32}
 use Rattle.ring_layout.specs.declared.message.Claim.{Claim}
-use Rattle.ring_words.specs.Ring.{Ring, head_of, Has}
-use Rattle.ring_words.specs.Open.{IsOpen}
-use Rattle.ring_words.specs.Controlled.{GoesOn, heeded}
-use Rattle.ring_words.specs.Read.{Broke}
-use Rattle.ring_words.specs.Reading.{Sees}
+use Rattle.ring_words.specs.{Ring.Ring, Ring.head_of, Ring.Has, Controlled.GoesOn, Controlled.heeded, Reading.Sees}
+use Rattle.ring_words.{specs.Open.IsOpen, specs.Read.Broke, proofs.ReadBranches.padding_from}
 use Rattle.ring_words.proofs.ReadLemmas.{reads_keeps, reads_on_none, went_on}
-use Rattle.ring_words.proofs.ReadBranches.{padding_from}
 use Rattle.ring_words.proofs.ReadTurns.{breaks, goes_on_past, goes_past, goes_to, leaves_it}
 use Rattle.ring_words.proofs.ring.SoloRing.run.Given.{Over}
 use Rattle.ring_words.proofs.ring.SoloRing.run.Goals.{After-read_end-in-Break}

@@ -1,8 +1,6 @@
 use Rattle.std.proofs.Common.{◌-◌, ◌≡◌, ◌+◌, ◌≤◌}
 use Rattle.ring_layout.specs.Places.{room}
-use Rattle.ring_words.specs.Controlled.{heeded}
-use Rattle.ring_words.specs.Ring.{head_of}
-use Rattle.ring_words.proofs.ReadLemmas.{ReadsOn}
+use Rattle.ring_words.{specs.Controlled.heeded, specs.Ring.head_of, proofs.ReadLemmas.ReadsOn}
 use Rattle.ring_words.proofs.ring.SoloRing.run.Given as goal
 
 -- what was read so far

@@ -1,7 +1,6 @@
 use Rattle.std.proofs.Common.{◌≡◌, List, ◌∷◌, ap, ◌∙◌, subst}
-use Rattle.ring_words.specs.Ring.{Ring, ring, Has}
+use Rattle.ring_words.specs.{Ring.Ring, Ring.ring, Ring.Has, Reading.SeesCommitted}
 use Rattle.ring_layout.specs.declared.message.Claim.{Claim}
-use Rattle.ring_words.specs.Reading.{SeesCommitted}
 use Rattle.ring_words.proofs.ring.SoloRing.show.Goals as goal
 
 pub returns-clause-shown : goal.returns-clause-shown

@@ -1,9 +1,6 @@
-use Rattle.std.proofs.Common.{ℕ, List, arith, sym, subst}
-use Rattle.std.specs.Int.{w32}
-use Rattle.std.proofs.lemmas.Int.{to_z-of_z}
-use Rattle.std.proofs.lemmas.List.{with_items_is}
-use Rattle.ring_words.specs.Ring.{Ring, ring}
-use Rattle.ring_words.specs.Change.{AppendsClaim, written}
+use Rattle.std.proofs.Common.{ℕ, List, arith, sym, subst, w32}
+use Rattle.std.proofs.lemmas.{Int.to_z-of_z, List.with_items_is}
+use Rattle.ring_words.specs.{Ring.Ring, Ring.ring, Change.AppendsClaim, Change.written}
 use Rattle.ring_words.proofs.OpenLemmas.{appended_keeps}
 use Rattle.ring_words.proofs.ring.SoloRing.write.Goals as goal
 

@@ -1,8 +1,6 @@
 use Rattle.std.proofs.Common.{◌≡◌, ℕ, List, slice_set, subst, sym, ◌∙◌}
-use Rattle.ring_layout.specs.Headers.{header_of}
-use Rattle.ring_layout.specs.Layout.{tail_index}
-use Rattle.ring_words.specs.Ring.{Ring, ring, IsRing}
-use Rattle.ring_words.specs.Change.{AppendsClaim, opened}
+use Rattle.ring_layout.specs.{Headers.header_of, Layout.tail_index}
+use Rattle.ring_words.specs.{Ring.Ring, Ring.ring, Ring.IsRing, Change.AppendsClaim, Change.opened}
 use Rattle.ring_words.proofs.AppendLemmas.{appended_empty, headed_is, opened_lawful, opened_header, length-opened, tail_first, zero_words}
 use Rattle.ring_words.proofs.write.append.append_claim.Goals as goal
 

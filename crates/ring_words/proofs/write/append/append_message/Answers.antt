@@ -1,9 +1,7 @@
-use Rattle.std.proofs.Common.{◌≡◌, length, arith, ap, ◌∙◌}
-use Rattle.std.specs.Int.{w32}
+use Rattle.std.proofs.Common.{◌≡◌, length, arith, ap, ◌∙◌, w32}
 use Rattle.std.proofs.lemmas.Int.{to_z-of_z}
 use Rattle.ring_layout.specs.Headers.{committed_header, header_of}
-use Rattle.ring_words.specs.Ring.{ring}
-use Rattle.ring_words.specs.Change.{written}
+use Rattle.ring_words.specs.{Ring.ring, Change.written}
 use Rattle.ring_words.proofs.AppendLemmas.{appended_with, headed_is, inside, tail_first, written_lawful}
 use Rattle.ring_words.proofs.write.append.append_message.Goals as goal
 

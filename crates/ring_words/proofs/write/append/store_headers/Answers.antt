@@ -1,7 +1,6 @@
 use Rattle.std.proofs.Common.{◌<◌, ◌≤◌, ◌≡◌, ◌/◌, ℕ, length, arith}
 use Rattle.std.proofs.lemmas.Nat.{mod_below}
-use Rattle.ring_layout.specs.Places.{IsCapacity, index}
-use Rattle.ring_layout.proofs.CapacityLemmas.{capacity_blocks}
+use Rattle.ring_layout.{specs.Places.IsCapacity, specs.Places.index, proofs.CapacityLemmas.capacity_blocks}
 use Rattle.ring_words.proofs.write.append.store_headers.Goals as goal
 
 inside : (C i p n : ℕ) → IsCapacity C → i ≡ index C p → C / 8 ≤ n → i < n

@@ -1,9 +1,7 @@
 use Rattle.std.proofs.Common.{◌≡◌, ℕ, ◌+◌, ◌/◌, ◌<◌, List, All, arith}
 use Rattle.std.proofs.lemmas.List.Elements.{All-from_get_or}
 use Rattle.ring_layout.specs.Places.{index}
-use Rattle.ring_words.specs.Ring.{Ring, ring}
-use Rattle.ring_words.specs.Open.{ClaimAt}
-use Rattle.ring_words.specs.Change.{put_into}
+use Rattle.ring_words.specs.{Ring.Ring, Ring.ring, Open.ClaimAt, Change.put_into}
 use Rattle.ring_words.proofs.MiddleLemmas.{open_lies, changes, is_ring_changed, stays}
 use Rattle.ring_words.proofs.SettleLemmas.{put_rewrites, put_stays}
 use Rattle.ring_words.proofs.write.settle.put_bytes.Goals as goal

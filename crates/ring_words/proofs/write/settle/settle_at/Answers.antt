@@ -1,8 +1,7 @@
 use Rattle.std.proofs.Common.{◌≡◌, ◌-◌, ◌/◌, List, ℕ, slice_set, subst, sym, ap, arith}
 use Rattle.ring_layout.specs.Places.{index}
-use Rattle.ring_words.specs.Ring.{Ring, ring, IsRing}
+use Rattle.ring_words.specs.{Ring.Ring, Ring.ring, Ring.IsRing, Change.ChangesClaim, Change.settled_as}
 use Rattle.ring_words.specs.Open.{ClaimAt, IsOpen}
-use Rattle.ring_words.specs.Change.{ChangesClaim, settled_as}
 use Rattle.ring_words.proofs.MiddleLemmas.{open_lies, changes, is_ring_changed, stays}
 use Rattle.ring_words.proofs.SettleLemmas.{settle_rewrites, settled_stays}
 use Rattle.ring_words.proofs.write.settle.settle_at.Goals as goal

@@ -1,8 +1,6 @@
-use Rattle.std.proofs.Common.{◌∙◌, ap, refl, pos, arith}
-use Rattle.std.specs.Int.{w32}
+use Rattle.std.proofs.Common.{◌∙◌, ap, refl, pos, arith, w32}
 use Rattle.std.proofs.lemmas.Int.{to_z-of_z}
-use Rattle.ring_counters.specs.Counter.{Allocated, state_word, zero_padded}
-use Rattle.ring_counters.specs.Records.{IsMetadata}
+use Rattle.ring_counters.specs.{Counter.Allocated, Counter.state_word, Counter.zero_padded, Records.IsMetadata}
 use Rattle.ring_counters.proofs.RecordLemmas.{AreSmall, metadata_decoded, allocated_shown}
 use Rattle.ring_counters.proofs.records.metadata.MetadataRecord.allocate.Goals.{After-store_label}
 use Rattle.ring_counters.proofs.records.metadata.MetadataRecord.allocate.Goals as goal

@@ -1,5 +1,4 @@
-use Rattle.std.proofs.Common.{◌∙◌, arith}
-use Rattle.std.proofs.lemmas.List.{ext_get_or}
+use Rattle.std.proofs.Common.{◌∙◌, arith, ext_get_or}
 use Rattle.ring_counters.proofs.RecordLemmas.{metadata_known, key_byte}
 use Rattle.ring_counters.proofs.records.metadata.MetadataRecord.key_into.Goals as goal
 

@@ -1,6 +1,5 @@
-use Rattle.std.proofs.Common.{◌∙◌, ℕ, ◌-◌, arith, length, replicate}
-use Rattle.std.proofs.lemmas.List.{ext_get_or, length-append, length-replicate}
-use Rattle.std.proofs.lemmas.Nat.{and_mask}
+use Rattle.std.proofs.Common.{◌∙◌, ℕ, ◌-◌, arith, length, replicate, ext_get_or, length-append}
+use Rattle.std.proofs.lemmas.{List.length-replicate, Nat.and_mask}
 use Rattle.ring_counters.proofs.RecordLemmas.{metadata_known, label_byte, length_decoded, slice_index-padded}
 use Rattle.ring_counters.proofs.records.metadata.MetadataRecord.label_into.Goals as goal
 

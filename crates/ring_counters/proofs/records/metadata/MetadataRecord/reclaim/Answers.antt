@@ -1,5 +1,4 @@
-use Rattle.std.proofs.Common.{◌∙◌, ap, negsuc}
-use Rattle.std.specs.Int.{w32}
+use Rattle.std.proofs.Common.{◌∙◌, ap, negsuc, w32}
 use Rattle.ring_counters.specs.Counter.{state_word}
 use Rattle.ring_counters.proofs.RecordLemmas.{metadata_known, metadata_decoded, reclaimed_shown, signed}
 use Rattle.ring_counters.proofs.records.metadata.MetadataRecord.reclaim.Goals as goal

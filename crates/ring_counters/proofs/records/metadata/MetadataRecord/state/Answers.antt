@@ -1,6 +1,5 @@
-use Rattle.std.proofs.Common.{◌∙◌, ap}
-use Rattle.std.specs.Int.{cast_signed, w32}
-use Rattle.std.proofs.lemmas.Nat.{and_mask}
+use Rattle.std.proofs.Common.{◌∙◌, ap, w32}
+use Rattle.std.{specs.Int.cast_signed, proofs.lemmas.Nat.and_mask}
 use Rattle.ring_counters.proofs.RecordLemmas.{metadata_known, state_decoded, state_fits, signed}
 use Rattle.ring_counters.proofs.records.metadata.MetadataRecord.state.Goals as goal
 

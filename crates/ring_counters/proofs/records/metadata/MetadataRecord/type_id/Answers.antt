@@ -1,5 +1,4 @@
-use Rattle.std.proofs.Common.{◌∙◌}
-use Rattle.std.specs.Int.{w32}
+use Rattle.std.proofs.Common.{◌∙◌, w32}
 use Rattle.ring_counters.proofs.RecordLemmas.{metadata_known, type_decoded, signed}
 use Rattle.ring_counters.proofs.records.metadata.MetadataRecord.type_id.Goals as goal
 

@@ -1,8 +1,6 @@
 use Rattle.std.proofs.Common.{◌∙◌, ℕ, List, [], ◌∷◌, true, sym, subst}
 use Rattle.ring_layout.specs.Refusals.{all_shares}
-use Rattle.ring_counters.specs.Views.{values_view}
-use Rattle.ring_counters.specs.ValuesRule.{ValuesRule}
-use Rattle.ring_counters.proofs.ValueSteps.{begins}
+use Rattle.ring_counters.{specs.Views.values_view, specs.ValuesRule.ValuesRule, proofs.ValueSteps.begins}
 use Rattle.ring_counters.proofs.values.seats.CounterValues.new.Goals as goal
 
 pub of_words-requires : goal.of_words-requires

@@ -1,6 +1,5 @@
 use Rattle.std.proofs.Common.{sym, subst}
-use Rattle.ring_judge.specs.declared.broadcast.ReceiverEvent.{ReceiverEvent}
-use Rattle.ring_judge.specs.Broadcast.{AnswersEvent}
+use Rattle.ring_judge.specs.{declared.broadcast.ReceiverEvent.ReceiverEvent, Broadcast.AnswersEvent}
 use Rattle.ring_judge.proofs.broadcast.place.Place.answer.Goals as goal
 
 pub returns-in-Copied-clause-answer : goal.returns-in-Copied-clause-answer

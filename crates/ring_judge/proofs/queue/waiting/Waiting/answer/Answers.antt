@@ -1,7 +1,5 @@
 use Rattle.std.proofs.Common.{sym, subst}
-use Rattle.ring_judge.specs.declared.queue.QueueLine.{QueueLine}
-use Rattle.ring_judge.specs.Lists.{lists_of}
-use Rattle.ring_judge.specs.Queue.{AnswersLine}
+use Rattle.ring_judge.specs.{declared.queue.QueueLine.QueueLine, Lists.lists_of, Queue.AnswersLine}
 use Rattle.ring_judge.proofs.WaitingLemmas.{answers_empty}
 use Rattle.ring_judge.proofs.queue.waiting.Waiting.answer.Goals as goal
 

@@ -1,9 +1,6 @@
 use Rattle.std.proofs.Common.{◌<◌, ◌+◌, ◌-◌, ℕ, List, ◌∙◌, sym, subst, arith, set, length}
-use Rattle.std.proofs.lemmas.Bool.{iff_false}
-use Rattle.std.proofs.lemmas.Option.{slice_get_within}
-use Rattle.ring_judge.specs.declared.message.Message.{Message}
-use Rattle.ring_judge.specs.declared.queue.QueueLine.TheVariants.{Got}
-use Rattle.ring_judge.specs.Lists.{lists_of}
+use Rattle.std.proofs.lemmas.{Bool.iff_false, Option.slice_get_within}
+use Rattle.ring_judge.specs.{declared.message.Message.Message, declared.queue.QueueLine.TheVariants.Got, Lists.lists_of}
 use Rattle.ring_judge.specs.Queue.{AreWaiting, Follows}
 use Rattle.ring_judge.proofs.WaitingLemmas.{read_next, read_number, refuses_other, takes_next, some_waits}
 use Rattle.ring_judge.proofs.queue.waiting.Waiting.take.Goals as goal

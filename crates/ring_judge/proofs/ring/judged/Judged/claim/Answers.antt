@@ -1,16 +1,9 @@
-use Rattle.std.proofs.Common.{◌/◌, ◌≡◌, ◌≤◌, ◌∙◌, ◌∷◌, ◌++◌, [], List, ℕ, Option, ap, refl, sym, arith, take, drop, length, subst}
-use Rattle.std.proofs.lemmas.List.{drop-append-le, length-append}
-use Rattle.std.specs.List.{All}
-use Rattle.std.specs.Option.{MatchOption}
-use Rattle.std.proofs.lemmas.List.Elements.{All-push}
-use Rattle.ring_judge.specs.declared.ring.RingClaim.{RingClaim}
-use Rattle.ring_judge.specs.Ring.{first_open, end_of_claim, end_of_claims}
+use Rattle.std.proofs.Common.{◌/◌, ◌≡◌, ◌≤◌, ◌∙◌, ◌∷◌, ◌++◌, [], List, ℕ, Option, ap, refl, sym, arith, take, drop, length, subst, length-append, All, MatchOption}
+use Rattle.std.proofs.lemmas.List.{drop-append-le, Elements.All-push}
+use Rattle.ring_judge.specs.{declared.ring.RingClaim.RingClaim, Ring.first_open, Ring.end_of_claim, Ring.end_of_claims}
 use Rattle.ring_judge.specs.Judged.{AreInOrder, AreLeastHeads, AreWithin, FindsHead, IsBehind}
-use Rattle.ring_layout.specs.Lists.{or_else}
-use Rattle.ring_layout.specs.History.{span}
-use Rattle.ring_layout.specs.Places.{max_position, next_place}
-use Rattle.ring_judge.proofs.HeadLemmas.{end_append, next_in_order}
-use Rattle.ring_judge.proofs.RefusalLemmas.{heads_more}
+use Rattle.ring_layout.specs.{Lists.or_else, History.span, Places.max_position, Places.next_place}
+use Rattle.ring_judge.proofs.{HeadLemmas.end_append, HeadLemmas.next_in_order, RefusalLemmas.heads_more}
 use Rattle.ring_judge.proofs.ClaimLemmas.{cursor_at_head, first_open-append, first_within}
 use Rattle.ring_judge.proofs.ring.judged.Judged.claim.Goals as goal
 

@@ -1,10 +1,8 @@
 use Rattle.std.proofs.Common.{◌≡◌, ◌≤◌, ◌<◌, ◌+◌, ◌-◌, ◌∙◌, ℕ, Option, Some, None, ap, sym, get_or, take, length, arith, subst}
-use Rattle.std.proofs.lemmas.List.{get_or_default}
-use Rattle.std.proofs.lemmas.List.Elements.{All-take}
+use Rattle.std.proofs.lemmas.List.{get_or_default, Elements.All-take}
 use Rattle.ring_layout.specs.Places.{max_position}
-use Rattle.ring_judge.specs.declared.ring.judged.Judged.{Judged}
+use Rattle.ring_judge.specs.{declared.ring.judged.Judged.Judged, Judged.FindsHead, Judged.IsJudged, Judged.IsLeastHead}
 use Rattle.ring_judge.specs.Ring.{IsFull, end_of_claim, end_of_claims}
-use Rattle.ring_judge.specs.Judged.{FindsHead, IsJudged, IsLeastHead}
 use Rattle.ring_judge.proofs.HeadLemmas.{reach_within}
 use Rattle.ring_judge.proofs.RefusalLemmas.{full_when_empty, full_at_least, end_of_first}
 use Rattle.ring_judge.proofs.ring.judged.Judged.is_full.Goals as goal

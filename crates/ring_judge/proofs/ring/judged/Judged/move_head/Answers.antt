@@ -1,8 +1,7 @@
 use Rattle.std.proofs.Common.{◌≤◌, ◌∙◌, List, ap, refl, sym, drop, subst}
 use Rattle.std.proofs.lemmas.List.Elements.{All-drop}
 use Rattle.ring_layout.specs.Places.{max_position}
-use Rattle.ring_judge.specs.declared.ring.RingClaim.{RingClaim}
-use Rattle.ring_judge.specs.Ring.{end_of_claims, end_of_claim, first_open}
+use Rattle.ring_judge.specs.{declared.ring.RingClaim.RingClaim, Ring.end_of_claims, Ring.end_of_claim, Ring.first_open}
 use Rattle.ring_judge.specs.Judged.{AreInOrder, IsMove}
 use Rattle.ring_judge.proofs.ClaimLemmas.{cursor_at_head, end-claims_from, order-claims_from, first_open-claims_from, head_within}
 use Rattle.ring_judge.proofs.ring.judged.Judged.move_head.Goals as goal

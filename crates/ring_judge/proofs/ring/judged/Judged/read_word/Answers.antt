@@ -1,8 +1,6 @@
 use Rattle.std.proofs.Common.{◌≡◌, ◌≤◌, ◌+◌, ◌%◌, ℕ, List, ap, arith, drop, subst}
 use Rattle.std.proofs.lemmas.Bool.{MatchBool-at_true}
-use Rattle.ring_judge.specs.declared.ring.RingClaim.{RingClaim}
-use Rattle.ring_judge.specs.declared.ring.judged.Judged.{Judged}
-use Rattle.ring_judge.specs.declared.ring.RingLine.TheVariants.{Word}
+use Rattle.ring_judge.specs.declared.ring.{RingClaim.RingClaim, judged.Judged.Judged, RingLine.TheVariants.Word}
 use Rattle.ring_judge.specs.Ring.{RingState, CanBeWord, read_to}
 use Rattle.ring_judge.specs.Judged.{IsJudged, IsReadTo, IsStep, state_of}
 use Rattle.ring_judge.proofs.ring.judged.Judged.read_word.Goals as goal

@@ -1,8 +1,6 @@
-use Rattle.std.proofs.Common.{◌≡◌, ◌<◌, ◌-◌, ◌∙◌, ap, refl, sym, get_or, arith, length}
-use Rattle.std.proofs.lemmas.Bool.{iff_false, leb-true}
-use Rattle.std.proofs.lemmas.List.{get_or_default}
-use Rattle.ring_judge.specs.declared.ring.RingClaim.{RingClaim}
-use Rattle.ring_judge.specs.Judged.{state_of}
+use Rattle.std.proofs.Common.{◌≡◌, ◌<◌, ◌-◌, ◌∙◌, ap, refl, sym, get_or, arith, length, leb-true}
+use Rattle.std.proofs.lemmas.{Bool.iff_false, List.get_or_default}
+use Rattle.ring_judge.specs.{declared.ring.RingClaim.RingClaim, Judged.state_of}
 use Rattle.ring_judge.proofs.RefusalLemmas.{answered, never_full, not_full_more}
 use Rattle.ring_judge.proofs.ring.judged.Judged.refuses.Goals as goal
 use Rattle.ring_judge.proofs.ring.judged.Judged.refuses.Goals.{then-loop-count-test+else-index-producer, else-loop-count-test}

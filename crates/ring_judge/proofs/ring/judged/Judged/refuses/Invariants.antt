@@ -1,5 +1,4 @@
-use Rattle.ring_judge.specs.Judged.{state_of}
-use Rattle.ring_judge.proofs.RefusalLemmas.{AreNotFull}
+use Rattle.ring_judge.{specs.Judged.state_of, proofs.RefusalLemmas.AreNotFull}
 use Rattle.ring_judge.proofs.ring.judged.Judged.refuses.Given as goal
 
 abbrev pub invariant-loop-count : goal.invariant-loop-count

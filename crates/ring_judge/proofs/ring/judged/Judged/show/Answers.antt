@@ -1,9 +1,8 @@
 use Rattle.std.proofs.Common.{ℕ, ◌≡◌, ◌≤◌, ◌+◌, ◌∙◌, List, ap, refl, sym, arith, drop, length, subst, get_or, ◌<◌}
-use Rattle.ring_judge.specs.declared.ring.RingClaim.{RingClaim}
+use Rattle.ring_judge.specs.{declared.ring.RingClaim.RingClaim, Judged.AreInOrder, Judged.state_of}
 use Rattle.std.proofs.lemmas.List.Elements.{All-get_or}
 use Rattle.ring_layout.specs.Places.{max_position}
 use Rattle.ring_judge.specs.Ring.{end_of_claims, Shows, end_of_claim, first_open, passed, unaborted}
-use Rattle.ring_judge.specs.Judged.{AreInOrder, state_of}
 use Rattle.ring_judge.proofs.ClaimLemmas.{cursor_at_head, end-unaborted, order-unaborted, first_left, first_open-shown, first_open-unaborted}
 use Rattle.ring_judge.proofs.ring.judged.Judged.show.Goals as goal
 

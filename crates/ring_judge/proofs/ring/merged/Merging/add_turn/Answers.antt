@@ -1,8 +1,6 @@
-use Rattle.std.proofs.Common.{arith}
+use Rattle.std.proofs.Common.{arith, heap_items}
 use Rattle.std.proofs.lemmas.List.{length-map}
-use Rattle.std.specs.BinaryHeap.{heap_items}
-use Rattle.ring_judge.specs.Lists.{lists_of}
-use Rattle.ring_judge.proofs.TurnLemmas.{adds_turn}
+use Rattle.ring_judge.{specs.Lists.lists_of, proofs.TurnLemmas.adds_turn}
 use Rattle.ring_judge.proofs.ring.merged.Merging.add_turn.Goals as goal
 
 pub returns-in_ok-push-clause-turn : goal.returns-in_ok-push-clause-turn

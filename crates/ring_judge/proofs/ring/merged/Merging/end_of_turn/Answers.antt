@@ -1,6 +1,5 @@
 use Rattle.std.proofs.Common.{get_or, []}
-use Rattle.ring_judge.specs.Lists.{lists_of}
-use Rattle.ring_judge.proofs.MergeLemmas.{other_place}
+use Rattle.ring_judge.{specs.Lists.lists_of, proofs.MergeLemmas.other_place}
 use Rattle.ring_judge.proofs.ring.merged.Merging.end_of_turn.Goals as goal
 
 pub returns-in_default : goal.returns-in_default

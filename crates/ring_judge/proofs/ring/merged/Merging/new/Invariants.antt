@@ -1,8 +1,6 @@
-use Rattle.std.proofs.Common.{◌≡◌, ◌<◌, ℕ, [], length, replicate}
-use Rattle.std.specs.List.{All}
-use Rattle.std.specs.BinaryHeap.{IsHeap, heap_items}
-use Rattle.ring_judge.specs.Lists.{lists_of}
-use Rattle.ring_judge.specs.Merged.{HasTurn, compare_turns}
+use Rattle.std.proofs.Common.{◌≡◌, ◌<◌, ℕ, [], length, replicate, All, heap_items}
+use Rattle.std.specs.BinaryHeap.{IsHeap}
+use Rattle.ring_judge.specs.{Lists.lists_of, Merged.HasTurn, Merged.compare_turns}
 use Rattle.ring_judge.proofs.ring.merged.Merging.new.Given as goal
 
 abbrev pub invariant-loop-thread : goal.invariant-loop-thread

@@ -1,8 +1,6 @@
-use Rattle.std.proofs.Common.{◌≡◌, ◌<◌, ◌++◌, set, sym, ap, ◌∙◌, subst, arith}
-use Rattle.std.specs.BinaryHeap.{heap_items, heap_len}
-use Rattle.ring_judge.specs.Lists.{lists_of}
+use Rattle.std.proofs.Common.{◌≡◌, ◌<◌, ◌++◌, set, sym, ap, ◌∙◌, subst, arith, heap_items, heap_len}
+use Rattle.ring_judge.{specs.Lists.lists_of, proofs.MergeLemmas.fewer_left}
 use Rattle.ring_judge.specs.Merged.{AddsTurn, AreMerged, HaveTurns, block_of, left_in}
-use Rattle.ring_judge.proofs.MergeLemmas.{fewer_left}
 use Rattle.ring_judge.proofs.TurnLemmas.{IsPopped, turn_dropped, turn_taken, turn_within}
 use Rattle.ring_judge.proofs.ring.merged.Merging.take_next.Goals as goal
 

@@ -1,11 +1,7 @@
 use Rattle.std.proofs.Common.{◌<◌, ◌++◌, List, sym, ap, ◌∙◌, arith}
 use Rattle.ring_layout.specs.declared.message.Message.{Message}
-use Rattle.ring_table.specs.RunBodies.{messages_of as batch_of}
-use Rattle.ring_table.specs.Runs.{run_claims}
-use Rattle.ring_table.specs.declared.view.View.{View}
-use Rattle.ring_table.specs.OpenClaims.{open_count}
-use Rattle.ring_table.proofs.RunClaims.{run_whole}
-use Rattle.ring_table.proofs.RunFill.{least_bytes}
+use Rattle.ring_table.specs.{RunBodies.messages_of as batch_of, declared.view.View.View, OpenClaims.open_count}
+use Rattle.ring_table.{specs.Runs.run_claims, proofs.RunClaims.run_whole, proofs.RunFill.least_bytes}
 use Rattle.ring_rings.proofs.RunMade.{keeps_run, knows_claims, knows_consumes, knows_shares, open_run, run_consumes, run_kept, run_matches, run_newest, run_shares}
 use Rattle.ring_rings.proofs.SentLemmas.{run_sends}
 use Rattle.ring_rings.proofs.producer.batch.Ring+K+InSlots.try_run.Goals as goal

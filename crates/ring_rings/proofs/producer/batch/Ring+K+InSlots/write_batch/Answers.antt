@@ -1,9 +1,7 @@
 use Rattle.std.proofs.Common.{◌≡◌, ◌-◌, ◌++◌, ℕ, List, length, take, drop, sym, ap, ◌∙◌, append_assoc, arith}
 use Rattle.std.proofs.lemmas.List.{length-drop, take_rest}
 use Rattle.ring_layout.specs.declared.message.Message.{Message}
-use Rattle.ring_table.specs.declared.runs.Outgoing.{Outgoing}
-use Rattle.ring_table.specs.RunBodies.{messages_of}
-use Rattle.ring_table.proofs.RunFill.{messages_on}
+use Rattle.ring_table.{specs.declared.runs.Outgoing.Outgoing, specs.RunBodies.messages_of, proofs.RunFill.messages_on}
 use Rattle.ring_rings.specs.Ring.{sent}
 use Rattle.ring_rings.proofs.producer.batch.Ring+K+InSlots.write_batch.Goals as goal
 

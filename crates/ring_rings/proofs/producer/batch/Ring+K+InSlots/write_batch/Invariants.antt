@@ -1,9 +1,7 @@
-use Rattle.std.proofs.Common.{◌≡◌, ◌-◌, ◌≤◌, ◌++◌, All, length, take}
-use Rattle.std.specs.Prelude.{None}
+use Rattle.std.proofs.Common.{◌≡◌, ◌-◌, ◌≤◌, ◌++◌, All, length, take, None}
 use Rattle.ring_table.specs.RunBodies.{messages_of, IsSendable}
-use Rattle.ring_rings.specs.Batches.{batch_refusal_of}
+use Rattle.ring_rings.specs.{Batches.batch_refusal_of, Seats.capacity_of, Seats.IsProducerOf, Seats.OpensNone}
 use Rattle.ring_rings.specs.Ring.{sent}
-use Rattle.ring_rings.specs.Seats.{capacity_of, IsProducerOf, OpensNone}
 use Rattle.ring_rings.proofs.producer.batch.Ring+K+InSlots.write_batch.Given as goal
 
 abbrev pub invariant-loop-written : goal.invariant-loop-written

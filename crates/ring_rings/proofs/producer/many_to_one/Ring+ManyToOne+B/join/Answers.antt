@@ -1,11 +1,8 @@
 use Rattle.std.proofs.Common.{ap, ◌∙◌, arith, subst, sym}
-use Rattle.ring_table.specs.declared.view.View.{View}
-use Rattle.ring_table.specs.Staged.{AreRising}
-use Rattle.ring_table.specs.ProducerSteps.{IsStagedOpen}
-use Rattle.ring_rings.proofs.MadeLemmas.{still_open}
+use Rattle.ring_table.specs.{declared.view.View.View, Staged.AreRising, ProducerSteps.IsStagedOpen}
+use Rattle.ring_rings.proofs.{MadeLemmas.still_open, SentLemmas.interleaved_merged}
 use Rattle.ring_rings.proofs.JoinLemmas.{joined_claims, joined_few, joined_matches}
 use Rattle.ring_rings.proofs.RisingLemmas.{has_first, has_second, two_apart}
-use Rattle.ring_rings.proofs.SentLemmas.{interleaved_merged}
 use Rattle.ring_rings.proofs.producer.many_to_one.Ring+ManyToOne+B.join.Goals as goal
 
 pub overflow_add-producer-2 : goal.overflow_add-producer-2

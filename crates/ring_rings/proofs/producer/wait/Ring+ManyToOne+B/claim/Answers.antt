@@ -1,8 +1,6 @@
 use Rattle.std.proofs.Common.{of_z, subst, to_z, true, w32, ◌∙◌}
-use Rattle.ring_rings.specs.Claiming.{RefusesTry}
-use Rattle.ring_rings.specs.Seats.{capacity_of, view_of}
-use Rattle.ring_rings.proofs.SentLemmas.{tries_send_none}
-use Rattle.ring_rings.proofs.WaitLemmas.{tried_more, tried_none}
+use Rattle.ring_rings.specs.{Claiming.RefusesTry, Seats.capacity_of, Seats.view_of}
+use Rattle.ring_rings.proofs.{SentLemmas.tries_send_none, WaitLemmas.tried_more, WaitLemmas.tried_none}
 use Rattle.ring_rings.proofs.producer.wait.Ring+ManyToOne+B.claim.Goals as goal
 
 pub loop-init : goal.loop-init
