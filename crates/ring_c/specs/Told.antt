@@ -1,5 +1,5 @@
 -- What the return value of an export says of the handles before and after it.
-use Rattle.std.specs.Prelude.{◌≡◌, ◌≢◌, ◌⊎◌, ◌/◌, ℕ, ℤ, pos, MatchOption, Bool}
+use Rattle.std.specs.Prelude.{◌≡◌, ◌≢◌, ◌⊎◌, ◌/◌, ℕ, ℤ, MatchOption, Bool}
 use Rattle.std.specs.declared.option.Option.{Option, TheVariants.None, TheVariants.Some}
 use Rattle.ring_handles.specs.{declared.held.Held.Held, declared.lending.Shared.Shared, Conducting.IsConductorCode}
 use Rattle.ring_handles.specs.{Closing.TellsEnd, Closing.WhyNotFinished, Producing.closing, Seating.IsOfThisConductor}
@@ -7,20 +7,23 @@ use Rattle.ring_handles.specs.Kinds.{a_conductor, a_producer, capacity_held, Hol
 use Rattle.ring_handles.specs.Opening.{HoldFirstAdder, HoldFresh, HoldFreshCounters, HoldNewBoard, HoldNewConductor}
 use Rattle.ring_handles.specs.Opening.{IsAdderCode, IsBoardCode, IsCountersCode, IsMakeCode}
 use Rattle.ring_handles.specs.Side.{identity_of}
+use Rattle.ring_layout.specs.declared.refusal_codes.TheConstants.{OUT_OF_MEMORY}
+use Rattle.ring_handles.specs.declared.code.TheConstants.{DONE, HANDLE_IN_USE, NO_HANDLE, WRONG_HANDLE}
 
 -- Calls of one handle ------------------------------------------------------------
 
--- an empty handle returns 100 and stays empty, and another kind's 101 and stays as it is; of this kind P says
+-- an empty handle returns NO_HANDLE and stays empty, and another kind's WRONG_HANDLE and stays as it is; of this kind P
+-- says
 abbrev pub Uses : {S : Type 0} → (Held → Option S) → (S → S → ℤ → Type 0) → Option Held → Option Held → ℤ → Type 0
-Uses kind P before after code = MatchOption before ((code ≡ pos 100) × (after ≡ None))
-    (λ h. MatchOption (kind h) ((code ≡ pos 101) × (after ≡ Some h)) (λ s. HoldsOne kind (λ t. P s t code) after))
+Uses kind P before after code = MatchOption before ((code ≡ NO_HANDLE) × (after ≡ None))
+    (λ h. MatchOption (kind h) ((code ≡ WRONG_HANDLE) × (after ≡ Some h)) (λ s. HoldsOne kind (λ t. P s t code) after))
 
 -- the same of a call that puts something out: of this kind P says of what is out before and after, otherwise it stays
 abbrev pub Yields : {S O : Type 0} → (Held → Option S) → (O → O → S → S → ℤ → Type 0) → O → O → Option Held
     → Option Held → ℤ → Type 0
 Yields kind P old new before after code =
-    MatchOption before ((code ≡ pos 100) × (after ≡ None) × (new ≡ old))
-    (λ h. MatchOption (kind h) ((code ≡ pos 101) × (after ≡ Some h) × (new ≡ old))
+    MatchOption before ((code ≡ NO_HANDLE) × (after ≡ None) × (new ≡ old))
+    (λ h. MatchOption (kind h) ((code ≡ WRONG_HANDLE) × (after ≡ Some h) × (new ≡ old))
     (λ s. HoldsOne kind (λ t. P old new s t code) after))
 
 -- of a producer the open claims were aborted, and everything else is unchanged
@@ -29,17 +32,19 @@ ClosesHeld h k = MatchOption (a_producer h) (k ≡ h) (λ p. MatchOption (a_prod
 
 -- What is made ------------------------------------------------------------------
 
--- handles in use return 102 and stay as they are; otherwise a ring of this number is made for them, or refused
+-- handles in use return HANDLE_IN_USE and stay as they are; otherwise a ring of this number is made for them, or
+-- refused
 abbrev pub Opens : Bool → ℕ → ℕ → ℕ → Option Held → Option Held → Option Held → Option Held → ℤ → Type 0
-Opens many number C start p c p' c' code = (((p ≢ None) ⊎ (c ≢ None)) × (code ≡ pos 102) × (p' ≡ p) × (c' ≡ c))
+Opens many number C start p c p' c' code = (((p ≢ None) ⊎ (c ≢ None)) × (code ≡ HANDLE_IN_USE) × (p' ≡ p) × (c' ≡ c))
     ⊎ ((p ≡ None) × (c ≡ None) × IsMakeCode C start code
-    × (((code ≡ pos 0) × HoldFresh many (identity_of number) C start p' c')
-    ⊎ ((code ≢ pos 0) × (p' ≡ None) × (c' ≡ None))))
+    × (((code ≡ DONE) × HoldFresh many (identity_of number) C start p' c')
+    ⊎ ((code ≢ DONE) × (p' ≡ None) × (c' ≡ None))))
 
--- a handle in use returns 102 and stays as it is; otherwise what Holds says is made for it, or refused with the code
+-- a handle in use returns HANDLE_IN_USE and stays as it is; otherwise what Holds says is made for it, or refused with
+-- the code
 abbrev pub FillsHandle : (ℤ → Type 0) → (Option Held → Type 0) → Option Held → Option Held → ℤ → Type 0
-FillsHandle IsCode Holds h h' code = ((h ≢ None) × (code ≡ pos 102) × (h' ≡ h))
-    ⊎ ((h ≡ None) × IsCode code × (((code ≡ pos 0) × Holds h') ⊎ ((code ≢ pos 0) × (h' ≡ None))))
+FillsHandle IsCode Holds h h' code = ((h ≢ None) × (code ≡ HANDLE_IN_USE) × (h' ≡ h))
+    ⊎ ((h ≡ None) × IsCode code × (((code ≡ DONE) × Holds h') ⊎ ((code ≢ DONE) × (h' ≡ None))))
 
 -- a broadcast buffer of this number
 abbrev pub OpensBoard : ℕ → ℕ → ℕ → Option Held → Option Held → ℤ → Type 0
@@ -64,15 +69,15 @@ OpensConductor number C R count reuse_ms =
 -- of what a handle of this kind holds something was made for another handle, or not
 abbrev pub Gives : {S T : Type 0} → (Held → Option S) → (Held → Option T) → (S → S → T → Type 0) → (S → ℤ → Type 0)
     → Option Held → Option Held → Option Held → ℤ → Type 0
-Gives kind other Makes Keeps p p' o' code = MatchOption p ((code ≡ pos 100) × (p' ≡ None) × (o' ≡ None))
-    (λ h. MatchOption (kind h) (((code ≡ pos 101) ⊎ (code ≡ pos 3)) × (p' ≡ Some h) × (o' ≡ None))
-    (λ s. ((code ≡ pos 0) × HoldsOne kind (λ t. HoldsOne other (λ o. Makes s t o) o') p')
+Gives kind other Makes Keeps p p' o' code = MatchOption p ((code ≡ NO_HANDLE) × (p' ≡ None) × (o' ≡ None))
+    (λ h. MatchOption (kind h) (((code ≡ WRONG_HANDLE) ⊎ (code ≡ OUT_OF_MEMORY)) × (p' ≡ Some h) × (o' ≡ None))
+    (λ s. ((code ≡ DONE) × HoldsOne kind (λ t. HoldsOne other (λ o. Makes s t o) o') p')
     ⊎ (Keeps s code × HoldsOne kind (λ t. t ≡ s) p' × (o' ≡ None))))
 
--- a handle in use returns 102 and stays as it is; otherwise it is filled, or not
+-- a handle in use returns HANDLE_IN_USE and stays as it is; otherwise it is filled, or not
 abbrev pub GivesInto : {S T : Type 0} → (Held → Option S) → (Held → Option T) → (S → S → T → Type 0) → (S → ℤ → Type 0)
     → Option Held → Option Held → Option Held → Option Held → ℤ → Type 0
-GivesInto kind other Makes Keeps p o p' o' code = ((o ≢ None) × (code ≡ pos 102) × (p' ≡ p) × (o' ≡ o))
+GivesInto kind other Makes Keeps p o p' o' code = ((o ≢ None) × (code ≡ HANDLE_IN_USE) × (p' ≡ p) × (o' ≡ o))
     ⊎ ((o ≡ None) × Gives kind other Makes Keeps p p' o' code)
 
 -- Joining ------------------------------------------------------------------------
@@ -94,29 +99,29 @@ AreOfOneConductor other lender p o = WhereBoth a_conductor other (λ c r. IsOfTh
 -- the second was taken in by the first, or both stay as they were
 abbrev pub Joined : {S T : Type 0} → (Held → Option S) → (Held → Option T) → (S → T → S → Type 0)
     → (S → T → ℤ → Type 0) → S → T → Option Held → Option Held → ℤ → Type 0
-Joined kind other Takes Keeps s t p' o' code = ((code ≡ pos 0) × HoldsOne kind (λ u. Takes s t u) p' × (o' ≡ None))
+Joined kind other Takes Keeps s t p' o' code = ((code ≡ DONE) × HoldsOne kind (λ u. Takes s t u) p' × (o' ≡ None))
     ⊎ (Keeps s t code × HoldsOne kind (λ u. u ≡ s) p' × HoldsOne other (λ u. u ≡ t) o')
 
 -- a handle that is empty, or of another kind, returns that code, and both stay; otherwise the second is taken in, or
 -- not
 abbrev pub JoinsInto : {S T : Type 0} → (Held → Option S) → (Held → Option T) → (S → T → S → Type 0)
     → (S → T → ℤ → Type 0) → Option Held → Option Held → Option Held → Option Held → ℤ → Type 0
-JoinsInto kind other Takes Keeps p o p' o' code = MatchOption p ((code ≡ pos 100) × (p' ≡ None) × (o' ≡ o))
-    (λ h. MatchOption o ((code ≡ pos 100) × (p' ≡ Some h) × (o' ≡ None))
-    (λ k. MatchOption (kind h) ((code ≡ pos 101) × (p' ≡ Some h) × (o' ≡ Some k))
-    (λ s. MatchOption (other k) ((code ≡ pos 101) × (p' ≡ Some h) × (o' ≡ Some k))
+JoinsInto kind other Takes Keeps p o p' o' code = MatchOption p ((code ≡ NO_HANDLE) × (p' ≡ None) × (o' ≡ o))
+    (λ h. MatchOption o ((code ≡ NO_HANDLE) × (p' ≡ Some h) × (o' ≡ None))
+    (λ k. MatchOption (kind h) ((code ≡ WRONG_HANDLE) × (p' ≡ Some h) × (o' ≡ Some k))
+    (λ s. MatchOption (other k) ((code ≡ WRONG_HANDLE) × (p' ≡ Some h) × (o' ≡ Some k))
     (λ t. Joined kind other Takes Keeps s t p' o' code))))
 
 -- Ending -------------------------------------------------------------------------
 
--- an empty handle returns 100 and stays empty, and another kind's 101 and stays as it is; one of this kind is emptied
--- if what it held ended, otherwise it stays as it is. Numbers are put out only at an end
+-- an empty handle returns NO_HANDLE and stays empty, and another kind's WRONG_HANDLE and stays as it is; one of this
+-- kind is emptied if what it held ended, otherwise it stays as it is. Numbers are put out only at an end
 abbrev pub EndsAs : {S O : Type 0} → (Held → Option S) → (S → O → Type 0) → (S → ℤ → Type 0) → O → O → Option Held
     → Option Held → ℤ → Type 0
 EndsAs kind Done Keeps before after h h' code =
-    MatchOption h ((code ≡ pos 100) × (h' ≡ None) × (after ≡ before))
-    (λ k. MatchOption (kind k) ((code ≡ pos 101) × (h' ≡ Some k) × (after ≡ before))
-    (λ s. ((code ≡ pos 0) × (h' ≡ None) × Done s after)
+    MatchOption h ((code ≡ NO_HANDLE) × (h' ≡ None) × (after ≡ before))
+    (λ k. MatchOption (kind k) ((code ≡ WRONG_HANDLE) × (h' ≡ Some k) × (after ≡ before))
+    (λ s. ((code ≡ DONE) × (h' ≡ None) × Done s after)
     ⊎ (Keeps s code × HoldsOne kind (λ t. t ≡ s) h' × (after ≡ before))))
 
 -- what an end puts out: how many commands were received, and how many were left
@@ -144,6 +149,6 @@ sizes capacity longest = record { capacity = capacity; longest = longest }
 -- the handle stays as it is, and if it holds an end of a ring or a board, its sizes are put out
 abbrev pub SaysSizes : Sizes → Sizes → Option Held → Option Held → ℤ → Type 0
 SaysSizes old new before after code = (after ≡ before)
-    × MatchOption before ((code ≡ pos 100) × (new ≡ old))
-    (λ h. MatchOption (capacity_held h) ((code ≡ pos 101) × (new ≡ old))
-    (λ C. (code ≡ pos 0) × (new ≡ sizes C (C / 8))))
+    × MatchOption before ((code ≡ NO_HANDLE) × (new ≡ old))
+    (λ h. MatchOption (capacity_held h) ((code ≡ WRONG_HANDLE) × (new ≡ old))
+    (λ C. (code ≡ DONE) × (new ≡ sizes C (C / 8))))

@@ -1,5 +1,5 @@
 -- How messages are laid one after another into a buffer.
-use Rattle.std.specs.Prelude.{◌≡◌, ◌≢◌, ◌⊎◌, ℕ, ◌+◌, ◌*◌, ◌/◌, ◌<◌, ◌≤◌, ℤ, pos, true, false, List, [], ◌∷◌, ◌++◌, length}
+use Rattle.std.specs.Prelude.{◌≡◌, ◌≢◌, ◌⊎◌, ℕ, ◌+◌, ◌*◌, ◌/◌, ◌<◌, ◌≤◌, ℤ, true, false, List, [], ◌∷◌, ◌++◌, length}
 use Rattle.std.specs.Int.{cast_unsigned, to_le_bytes, w64}
 use Rattle.ring_layout.specs.{declared.message.Message.Message, History.overwritten}
 use Rattle.ring_table.specs.declared.{claim.PlacedMessage.PlacedMessage, view.View.View}
@@ -8,6 +8,7 @@ use Rattle.ring_words.specs.declared.read.end.Stop.{Stop}
 use Rattle.ring_rings.specs.Reading.{FoundUnsettled, IsNext, messages_of}
 use Rattle.ring_ends.specs.{End.AreOfOneRing, Next.CameToEnd, Next.HadNone, Next.RanOut, Next.ReadsOn, Next.TookNone}
 use Rattle.ring_handles.specs.{Consuming.ReceivesThose, Side.Reading, declared.batch.Laying.Laying}
+use Rattle.ring_handles.specs.declared.code.TheConstants.{DONE, NO_MESSAGE, SHORT_BUFFER}
 
 -- the bytes that a message of n bytes takes: two words, and its own, rounded up to 8
 abbrev pub span_in : ℕ → ℕ
@@ -102,12 +103,12 @@ pub record LaidNone (limit : ℕ) (stopped : Stop) (v w : View) (s t : Laying) :
   pub full : t.is_full ≡ true → IsShort s.buffer.now v w
   pub out : t.is_full ≡ false → RanOut limit stopped v w
 
--- messages were taken and are put out; or none was taken, for a reason, and nothing is put out: the code is 105 if none
--- was there, and 106 if the buffer is too short for the first one, which stays
+-- messages were taken and are put out; or none was taken, for a reason, and nothing is put out: the code is NO_MESSAGE
+-- if none was there, and SHORT_BUFFER if the buffer is too short for the first one, which stays
 abbrev pub TookBatch : (View → View → Type 0) → ℕ → View → View → Batch → Batch → ℤ → Type 0
-TookBatch Why limit v w before after code = ((code ≡ pos 0) × TookSome limit v w before.buffer after)
-    ⊎ (((code ≡ pos 105) × TookNone Why v w × (after ≡ before))
-    ⊎ ((code ≡ pos 106) × TookNone (IsShort before.buffer) v w × (after ≡ before)))
+TookBatch Why limit v w before after code = ((code ≡ DONE) × TookSome limit v w before.buffer after)
+    ⊎ (((code ≡ NO_MESSAGE) × TookNone Why v w × (after ≡ before))
+    ⊎ ((code ≡ SHORT_BUFFER) × TookNone (IsShort before.buffer) v w × (after ≡ before)))
 
 -- messages were read, or none was
 abbrev pub ReadsBatch : (View → View → Type 0) → ℕ → Batch → Batch → Reading → Reading → ℤ → Type 0

@@ -1,6 +1,6 @@
 -- What calls of a broadcast buffer's handles do: p is the transmitter before, q after, r is the receiver before, s
 -- after, and the code is what is returned.
-use Rattle.std.specs.Prelude.{◌≡◌, ◌⊎◌, ℕ, ◌/◌, ◌<◌, ◌≤◌, ℤ, pos, List, length, take, MatchOption, Option, None, Some}
+use Rattle.std.specs.Prelude.{◌≡◌, ◌⊎◌, ℕ, ◌/◌, ◌<◌, ◌≤◌, ℤ, List, length, take, MatchOption, Option, None, Some}
 use Rattle.atomic_table.specs.Seated.{TableId}
 use Rattle.ring_layout.specs.History.{overwritten}
 use Rattle.ring_board.specs.declared.{board.Board.Board, fault.SubscribeFault.TheVariants.NoShares, fault.Lapped.Lapped}
@@ -9,6 +9,8 @@ use Rattle.ring_board.specs.{Receiving.GotCopy, Receiving.GotLapped, Receiving.G
 use Rattle.ring_board.specs.Records.{end_of}
 use Rattle.ring_board.specs.Refusals.{subscribe_refusal_of, transmit_code, transmit_refusal_of}
 use Rattle.ring_handles.specs.declared.{identity.Identity.Identity, lending.Shared.Shared}
+use Rattle.ring_layout.specs.declared.refusal_codes.TheConstants.{LAPPED, NO_SHARES, OUT_OF_MEMORY}
+use Rattle.ring_handles.specs.declared.code.TheConstants.{DONE, NO_MESSAGE, SHORT_BUFFER}
 
 -- which board it is
 abbrev pub table_of : Board → TableId
@@ -37,7 +39,7 @@ tail_in p = end_of p.view.start p.view.sent
 -- a message was appended to the transmitted list, or refused with the refusal's code, and nothing changed
 abbrev pub Transmitted : ℤ → List ℕ → Sending → Sending → ℤ → Type 0
 Transmitted type_id body p q code = MatchOption (transmit_refusal_of p.capacity (tail_in p) type_id (length body))
-    ((code ≡ pos 0) × (q ≡ knowing (sent_on p.view (next_record p.capacity (tail_in p) type_id body)) p))
+    ((code ≡ DONE) × (q ≡ knowing (sent_on p.view (next_record p.capacity (tail_in p) type_id body)) p))
     (λ fault. (code ≡ transmit_code fault) × (q ≡ p))
 
 -- Subscribing --------------------------------------------------------------------
@@ -72,7 +74,7 @@ pub record Subscribes (p q : Sending) (r : Listening) : Type 0 where
 
 -- why a receiver is not made: the transmitter needs its last share, or memory runs out
 abbrev pub IsUnheard : Sending → ℤ → Type 0
-IsUnheard p code = ((code ≡ pos 12) × (subscribe_refusal_of p.view.shares ≡ Some NoShares)) ⊎ (code ≡ pos 3)
+IsUnheard p code = ((code ≡ NO_SHARES) × (subscribe_refusal_of p.view.shares ≡ Some NoShares)) ⊎ (code ≡ OUT_OF_MEMORY)
 
 -- Receiving ----------------------------------------------------------------------
 
@@ -103,25 +105,25 @@ pub record Laps (before after : Heard) (kept : Option Lapped) (m m' : Sat) : Typ
   pub outs : after ≡ record before { lapped = lapped.count }
 
 abbrev pub TellsHeard : Heard → Heard → Option Lapped → Option Lapped → Sat → Sat → ℤ → Type 0
-TellsHeard before after lap lap' m m' code = ((code ≡ pos 0) × Copies before after m m' × (lap' ≡ lap))
-    ⊎ (((code ≡ pos 105) × GotNothing m m' × (after ≡ before) × (lap' ≡ lap))
-    ⊎ ((code ≡ pos 13) × Laps before after lap' m m'))
+TellsHeard before after lap lap' m m' code = ((code ≡ DONE) × Copies before after m m' × (lap' ≡ lap))
+    ⊎ (((code ≡ NO_MESSAGE) × GotNothing m m' × (after ≡ before) × (lap' ≡ lap))
+    ⊎ ((code ≡ LAPPED) × Laps before after lap' m m'))
 
 -- a buffer that has no room for the longest message is refused, and that length is put out; otherwise the receiver
 -- receives
 abbrev pub Received : Heard → Heard → Listening → Listening → ℤ → Type 0
-Received before after r s code = ((length before.buffer < r.capacity / 8) × (code ≡ pos 106) × (s ≡ r)
+Received before after r s code = ((length before.buffer < r.capacity / 8) × (code ≡ SHORT_BUFFER) × (s ≡ r)
     × (after ≡ record before { len = r.capacity / 8 }))
     ⊎ ((r.capacity / 8 ≤ length before.buffer) × (s ≡ record r { seat = s.seat; lap = s.lap })
     × TellsHeard before after r.lap s.lap r.seat s.seat code)
 
 -- how often the receiver was lapped so far is put out
 abbrev pub SaysLapped : ℕ → Listening → Listening → ℤ → Type 0
-SaysLapped count r s code = (code ≡ pos 0) × (s ≡ r) × (count ≡ r.seat.0.count)
+SaysLapped count r s code = (code ≡ DONE) × (s ≡ r) × (count ≡ r.seat.0.count)
 
 -- the position at which the next call looks for a record is put out
 abbrev pub SaysPlace : ℕ → Listening → Listening → ℤ → Type 0
-SaysPlace place r s code = (code ≡ pos 0) × (s ≡ r) × (place ≡ r.seat.0.at)
+SaysPlace place r s code = (code ≡ DONE) × (s ≡ r) × (place ≡ r.seat.0.at)
 
 -- what a look at the last lap puts out: where the receiver looked for a record, and the intent that showed the lap
 pub record LapOut : Type 0 where
@@ -131,10 +133,10 @@ pub record LapOut : Type 0 where
 abbrev pub lap_out : ℕ → ℕ → LapOut
 lap_out place intent = record { place = place; intent = intent }
 
--- the last lap is put out; 105 if there was none
+-- the last lap is put out; NO_MESSAGE if there was none
 abbrev pub TellsLap : LapOut → LapOut → Option Lapped → ℤ → Type 0
-TellsLap before after lap code = MatchOption lap ((code ≡ pos 105) × (after ≡ before))
-    (λ l. (code ≡ pos 0) × (after ≡ lap_out l.place l.intent))
+TellsLap before after lap code = MatchOption lap ((code ≡ NO_MESSAGE) × (after ≡ before))
+    (λ l. (code ≡ DONE) × (after ≡ lap_out l.place l.intent))
 
 abbrev pub SaysLap : LapOut → LapOut → Listening → Listening → ℤ → Type 0
 SaysLap before after r s code = (s ≡ r) × TellsLap before after r.lap code

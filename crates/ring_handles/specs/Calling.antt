@@ -12,6 +12,8 @@ use Rattle.ring_service.specs.declared.client.SendFault.{SendFault}
 use Rattle.ring_service.specs.declared.client.SendFault.TheVariants as fault
 use Rattle.ring_service.specs.Asking.{client_seat, client_view, receiver_of, producer_of, IsHeard, IsSendable, RefusesSend, Sends}
 use Rattle.ring_handles.specs.declared.client.ClientSide.{ClientSide}
+use Rattle.ring_layout.specs.declared.refusal_codes.TheConstants.{LAPPED, TOO_LONG}
+use Rattle.ring_handles.specs.declared.code.TheConstants.{DONE, NO_MESSAGE, OTHER_REPLY}
 
 -- the bytes of the ring into which its commands go
 abbrev pub ring_bytes : ClientSide → ℕ
@@ -21,7 +23,7 @@ ring_bytes k = capacity_of (arc_value k.shared).ring
 
 -- the number of a command that was not sent
 abbrev pub send_code : SendFault → ℤ
-send_code fault.TooLong = pos 5
+send_code fault.TooLong = TOO_LONG
 send_code (fault.Refused id reason) = try_code reason
 
 -- it was not sent, and this is the refusal's number
@@ -38,7 +40,7 @@ pub record KeepsReceiver (k l : ClientSide) : Type 0 where
 -- a command was sent with an id that was drawn for it, and the id is put out; or it was refused
 abbrev pub WasSent : Request → ℕ → ℕ → ClientSide → ClientSide → ℤ → Type 0
 WasSent request before id k l code = KeepsReceiver k l
-    × (((code ≡ pos 0) × IsSendable request
+    × (((code ≡ DONE) × IsSendable request
     × Sends (Writes true) (ring_bytes k) request (client_view k.client) id (client_view l.client))
     ⊎ (NotSent request k l code × (id ≡ before)))
 
@@ -78,10 +80,10 @@ pub record HearsLap (correlation : ℕ) (before after : PollOut) (m n : Sat) : T
   pub outs : after ≡ record before { lapped = lapped.count }
 
 abbrev pub IsPolled : ℕ → PollOut → PollOut → Sat → Sat → ℤ → Type 0
-IsPolled correlation before after m n code = ((code ≡ pos 0) × HearsOwn correlation before after m n)
-    ⊎ (((code ≡ pos 105) × IsHeard correlation m n told.Nothing × (after ≡ before))
-    ⊎ (((code ≡ pos 109) × HearsOther correlation m n × (after ≡ before))
-    ⊎ ((code ≡ pos 13) × HearsLap correlation before after m n)))
+IsPolled correlation before after m n code = ((code ≡ DONE) × HearsOwn correlation before after m n)
+    ⊎ (((code ≡ NO_MESSAGE) × IsHeard correlation m n told.Nothing × (after ≡ before))
+    ⊎ (((code ≡ OTHER_REPLY) × HearsOther correlation m n × (after ≡ before))
+    ⊎ ((code ≡ LAPPED) × HearsLap correlation before after m n)))
 
 -- it is as before, but for its receiver
 pub record KeepsSender (k l : ClientSide) : Type 0 where
@@ -100,4 +102,4 @@ pub record ClientHeard (value : ℕ) (k l : ClientSide) : Type 0 where
   pub rest : KeepsReceiver k l
 
 abbrev pub ClientBeat : ℕ → ClientSide → ClientSide → ℤ → Type 0
-ClientBeat value k l code = (code ≡ pos 0) × ClientHeard value k l
+ClientBeat value k l code = (code ≡ DONE) × ClientHeard value k l

@@ -17,6 +17,8 @@ use Rattle.ring_service.specs.Asking.{client_seat, client_view}
 use Rattle.ring_service.specs.Conducting.{board_view, manager_in, ledger_of, ring_view, value_shares_of, KeepsTheRest, KeepsWhatItServes, Works}
 use Rattle.ring_handles.specs.declared.{client.ClientSide.ClientSide, conductor.ConductorSide.ConductorSide}
 use Rattle.ring_handles.specs.declared.{identity.Identity.Identity, lending.Shared.Shared}
+use Rattle.ring_layout.specs.declared.refusal_codes.TheConstants.{BAD_CAPACITY, NO_SHARES, OUT_OF_MEMORY}
+use Rattle.ring_handles.specs.declared.code.TheConstants.{BAD_MOMENT, DONE}
 
 -- what a conductor shares with its handles
 abbrev pub shared_by : ConductorSide → Shared
@@ -32,12 +34,12 @@ pub record KeepsProducer (c d : ConductorSide) : Type 0 where
 -- the number of the first refusal of ring, board and counters
 abbrev pub sizes_refused : ℕ → ℕ → ℕ → Option ℤ
 sizes_refused C R count =
-    if is_capacity C && is_board_capacity R then option_map make_code (make_refusal_of count) else Some (pos 1)
+    if is_capacity C && is_board_capacity R then option_map make_code (make_refusal_of count) else Some BAD_CAPACITY
 
 -- sizes are refused with the number of the refusal; if there is none a conductor is made, unless memory runs out
 abbrev pub IsConductorCode : ℕ → ℕ → ℕ → ℤ → Type 0
 IsConductorCode C R count code =
-    MatchOption (sizes_refused C R count) ((code ≡ pos 0) ⊎ (code ≡ pos 3)) (λ refused. code ≡ refused)
+    MatchOption (sizes_refused C R count) ((code ≡ DONE) ⊎ (code ≡ OUT_OF_MEMORY)) (λ refused. code ≡ refused)
 
 -- nothing was sent, no reply given and no counter used, and all shares are here
 pub record IsNewConductor (i : Identity) (C R count reuse_ms : ℕ) (c : ConductorSide) : Type 0 where
@@ -64,9 +66,9 @@ pub record Hires (c d : ConductorSide) (k : ClientSide) : Type 0 where
 
 -- why a client is not made: ring or board has one share left, or memory runs out
 abbrev pub IsUnhired : ConductorSide → ℤ → Type 0
-IsUnhired c code = ((code ≡ pos 12)
+IsUnhired c code = ((code ≡ NO_SHARES)
     × ((shares_of c.producer ≡ 1) ⊎ (subscribe_refusal_of (board_view c.conductor).shares ≡ Some NoShares)))
-    ⊎ (code ≡ pos 3)
+    ⊎ (code ≡ OUT_OF_MEMORY)
 
 -- Work ---------------------------------------------------------------------------
 
@@ -99,8 +101,8 @@ pub record TakesCommands (now limit : ℕ) (c d : ConductorSide) (after : Report
 
 -- the moment is above 2^62, and nothing changed; otherwise commands were taken
 abbrev pub Worked : ℕ → ℕ → Report → Report → ConductorSide → ConductorSide → ℤ → Type 0
-Worked now limit before after c d code = ((2 ^ 62 < now) × (code ≡ pos 107) × (d ≡ c) × (after ≡ before))
-    ⊎ ((now ≤ 2 ^ 62) × (code ≡ pos 0) × TakesCommands now limit c d after)
+Worked now limit before after c d code = ((2 ^ 62 < now) × (code ≡ BAD_MOMENT) × (d ≡ c) × (after ≡ before))
+    ⊎ ((now ≤ 2 ^ 62) × (code ≡ DONE) × TakesCommands now limit c d after)
 
 -- the heartbeat was stored
 pub record Beats (value : ℕ) (c d : ConductorSide) : Type 0 where
@@ -110,7 +112,7 @@ pub record Beats (value : ℕ) (c d : ConductorSide) : Type 0 where
   pub rest : KeepsProducer c d
 
 abbrev pub ConductorBeat : ℕ → ConductorSide → ConductorSide → ℤ → Type 0
-ConductorBeat value c d code = (code ≡ pos 0) × Beats value c d
+ConductorBeat value c d code = (code ≡ DONE) × Beats value c d
 
 -- Counters -----------------------------------------------------------------------
 

@@ -1,5 +1,5 @@
 -- What a consumer's calls do: r is the consumer before, s after, and the code is what is returned.
-use Rattle.std.specs.Prelude.{◌≡◌, ◌≢◌, ◌⊎◌, ℕ, ℤ, pos, List, [], ◌∷◌, ◌++◌, length, take, Bool, true, false}
+use Rattle.std.specs.Prelude.{◌≡◌, ◌≢◌, ◌⊎◌, ℕ, ℤ, List, [], ◌∷◌, ◌++◌, length, take, Bool, true, false}
 use Rattle.ring_layout.specs.declared.message.Message.{Message}
 use Rattle.ring_table.specs.Views.{with_beat}
 use Rattle.ring_rings.specs.Ring.{message}
@@ -7,13 +7,14 @@ use Rattle.ring_ends.specs.{declared.copying.NextMessage.NextMessage, Next.Copie
 use Rattle.ring_ends.specs.declared.copying.NextMessage.TheVariants.{Copied, Nothing, TooLong}
 use Rattle.ring_ends.specs.End.{received}
 use Rattle.ring_handles.specs.Side.{ByEnd, Reading}
+use Rattle.ring_handles.specs.declared.code.TheConstants.{DONE, NO_MESSAGE, SHORT_BUFFER}
 
 -- What was received ----------------------------------------------------------------
 
 -- after code 0 messages of which P holds were received, and after another code none was
 abbrev pub ReceivesThose : (List Message → Type 0) → Reading → Reading → ℤ → Type 0
-ReceivesThose P r s code = ((code ≡ pos 0) × ((ms : List Message) × P ms × (received s.end ≡ received r.end ++ ms)))
-    ⊎ ((code ≢ pos 0) × (received s.end ≡ received r.end))
+ReceivesThose P r s code = ((code ≡ DONE) × ((ms : List Message) × P ms × (received s.end ≡ received r.end ++ ms)))
+    ⊎ ((code ≢ DONE) × (received s.end ≡ received r.end))
 
 -- nothing was received
 abbrev pub ReceivesNone : Reading → Reading → Type 0
@@ -36,11 +37,11 @@ next_out (Copied type_id len) before buffer = out type_id len buffer
 next_out (TooLong type_id len) before buffer = out type_id len buffer
 next_out Nothing before buffer = out before.type_id before.len buffer
 
--- its code: 0 if a message was copied, 105 if there was none, 106 if the buffer is too short
+-- its code: DONE if a message was copied, NO_MESSAGE if there was none, SHORT_BUFFER if the buffer is too short
 abbrev pub next_code : NextMessage → ℤ
-next_code (Copied type_id len) = pos 0
-next_code (TooLong type_id len) = pos 106
-next_code Nothing = pos 105
+next_code (Copied type_id len) = DONE
+next_code (TooLong type_id len) = SHORT_BUFFER
+next_code Nothing = NO_MESSAGE
 
 -- a message was copied, and taken, or stays
 abbrev pub CopiesOut : Bool → Out → Out → Reading → Reading → ℤ → Type 0
@@ -61,10 +62,10 @@ ReceivesOut after = ReceivesThose (λ ms. ms ≡ message after.type_id (take aft
 
 -- Without a copy --------------------------------------------------------------------
 
--- the code of a take: 0 if a message was taken, 105 if there was none
+-- the code of a take: DONE if a message was taken, NO_MESSAGE if there was none
 abbrev pub taken_code : Bool → ℤ
-taken_code true = pos 0
-taken_code false = pos 105
+taken_code true = DONE
+taken_code false = NO_MESSAGE
 
 abbrev pub TakeOne : Reading → Reading → ℤ → Type 0
 TakeOne r s code = ByEnd (λ took. code ≡ taken_code took) (TakesNext (HadNone 1)) r s
@@ -77,4 +78,4 @@ ReceivesOne = ReceivesThose (λ ms. length ms ≡ 1)
 
 -- the heartbeat was stored
 abbrev pub Beat : ℕ → Reading → Reading → ℤ → Type 0
-Beat value r s code = ByEnd {R = Unit {0}} (λ _. code ≡ pos 0) (λ v _ w. w ≡ with_beat value v) r s
+Beat value r s code = ByEnd {R = Unit {0}} (λ _. code ≡ DONE) (λ v _ w. w ≡ with_beat value v) r s

@@ -8,6 +8,8 @@ use Rattle.ring_counters.specs.Available.{available_in, has_value}
 use Rattle.ring_counters.specs.{Manager.registry_of, Manager.shares_of, Manager.writes_of, Views.value_write}
 use Rattle.ring_counters.specs.Registry.{Registry, allocated_in, allocation_of, answer, closed_in, counter_at, count_of, id_refusal_of, is_raised_by, new_counter, owned_ids, range_refusal_of, reclaimed_in, registered_id, value_at, value_plus, with_value}
 use Rattle.ring_handles.specs.declared.counters.CountersSide.{CountersSide}
+use Rattle.ring_layout.specs.declared.refusal_codes.TheConstants.{BAD_OWNER, NOT_ALLOCATED}
+use Rattle.ring_handles.specs.declared.code.TheConstants.{BAD_MOMENT, DONE, SHORT_BUFFER}
 
 -- the id is refused, and nothing changed
 pub record IdRefused {T : Type 0} (asked : T) (id : ℕ) (c d : CountersSide) (code : ℤ) : Type 0 where
@@ -23,7 +25,7 @@ pub record AskRefused {T : Type 0} (refusal : Option IdFault) (asked : T) (code 
   pub code_is : code ≡ id_code fault
 
 abbrev pub Answers : {T : Type 0} → Option IdFault → T → T → T → ℤ → Type 0
-Answers refusal asked before after code = ((code ≡ pos 0) × (answer refusal asked ≡ Ok after))
+Answers refusal asked before after code = ((code ≡ DONE) × (answer refusal asked ≡ Ok after))
     ⊎ (AskRefused refusal asked code × (after ≡ before))
 
 -- a counter in use was asked for
@@ -56,12 +58,12 @@ pub record StoresValue (id : ℕ) (value : ℤ) (c d : CountersSide) : Type 0 wh
   pub keeps : KeepsShares c d
 
 abbrev pub WasSet : ℕ → ℤ → CountersSide → CountersSide → ℤ → Type 0
-WasSet id value c d code = ((code ≡ pos 0) × StoresValue id value c d) ⊎ IdRefused {T = Unit {0}} tt id c d code
+WasSet id value c d code = ((code ≡ DONE) × StoresValue id value c d) ⊎ IdRefused {T = Unit {0}} tt id c d code
 
 -- the counter got this value, and the value before is put out
 abbrev pub WasReplaced : ℕ → ℤ → ℤ → ℤ → CountersSide → CountersSide → ℤ → Type 0
 WasReplaced id value before after c d code =
-    ((code ≡ pos 0) × (after ≡ value_at (registry_of c.manager) id) × StoresValue id value c d)
+    ((code ≡ DONE) × (after ≡ value_at (registry_of c.manager) id) × StoresValue id value c d)
     ⊎ (IdRefused (value_at (registry_of c.manager) id) id c d code × (after ≡ before))
 
 -- this much was added, and the value before is put out
@@ -75,7 +77,7 @@ SetsIf test id value after c d = ((test ≡ true) × (after ≡ 1) × StoresValu
     ⊎ ((test ≡ false) × (after ≡ 0) × (d ≡ c))
 
 abbrev pub WasSetIf : Bool → ℕ → ℤ → ℕ → ℕ → CountersSide → CountersSide → ℤ → Type 0
-WasSetIf test id value before after c d code = ((code ≡ pos 0) × SetsIf test id value after c d)
+WasSetIf test id value before after c d code = ((code ≡ DONE) × SetsIf test id value after c d)
     ⊎ (IdRefused test id c d code × (after ≡ before))
 
 -- the value was raised to this one, if it was below it
@@ -90,7 +92,7 @@ WasCompared id expected value before after c d code =
 
 -- the moment is above 2^62, and nothing changed, as Same says; otherwise P holds
 abbrev pub AtMoment : ℕ → Type 0 → Type 0 → ℤ → Type 0
-AtMoment now Same P code = ((2 ^ 62 < now) × (code ≡ pos 107) × Same) ⊎ ((now ≤ 2 ^ 62) × P)
+AtMoment now Same P code = ((2 ^ 62 < now) × (code ≡ BAD_MOMENT) × Same) ⊎ ((now ≤ 2 ^ 62) × P)
 
 -- counters were freed, which makes this registry, and no value was written
 pub record Frees (freed : Registry) (c d : CountersSide) : Type 0 where
@@ -101,15 +103,15 @@ pub record Frees (freed : Registry) (c d : CountersSide) : Type 0 where
 -- a counter was freed
 abbrev pub WasFreed : ℕ → ℕ → CountersSide → CountersSide → ℤ → Type 0
 WasFreed now id c d code = AtMoment now (d ≡ c)
-    (((code ≡ pos 0) × Frees (reclaimed_in (registry_of c.manager) now id) c d)
+    (((code ≡ DONE) × Frees (reclaimed_in (registry_of c.manager) now id) c d)
     ⊎ IdRefused {T = Unit {0}} tt id c d code) code
 
 -- an owner's counters were freed, and their number is put out
 abbrev pub OwnerClosed : ℕ → ℕ → ℕ → ℕ → CountersSide → CountersSide → ℤ → Type 0
 OwnerClosed now owner before freed c d code = AtMoment now ((d ≡ c) × (freed ≡ before))
-    (((code ≡ pos 0) × (owner ≢ 0) × (freed ≡ length (owned_ids (registry_of c.manager) owner))
+    (((code ≡ DONE) × (owner ≢ 0) × (freed ≡ length (owned_ids (registry_of c.manager) owner))
     × Frees (closed_in (registry_of c.manager) now owner) c d)
-    ⊎ ((code ≡ pos 28) × (owner ≡ 0) × (d ≡ c) × (freed ≡ before))) code
+    ⊎ ((code ≡ BAD_OWNER) × (owner ≡ 0) × (d ≡ c) × (freed ≡ before))) code
 
 -- a counter was allocated
 pub record Allocates (now : ℕ) (type_id : ℤ) (key label : List ℕ) (registration owner id : ℕ)
@@ -129,31 +131,31 @@ pub record NotAllocates (now : ℕ) (key label : List ℕ) (c d : CountersSide) 
 
 abbrev pub WasAllocated : ℕ → ℤ → List ℕ → List ℕ → ℕ → ℕ → ℕ → ℕ → CountersSide → CountersSide → ℤ → Type 0
 WasAllocated now type_id key label registration owner before id c d code =
-    ((code ≡ pos 0) × Allocates now type_id key label registration owner id c d)
+    ((code ≡ DONE) × Allocates now type_id key label registration owner id c d)
     ⊎ (NotAllocates now key label c d code × (id ≡ before))
 
 -- the lowest id in use of a type and a registration id
 abbrev pub TellsFound : ℤ → ℕ → CountersManager → ℕ → ℕ → ℤ → Type 0
 TellsFound type_id registration m before id code =
-    ((code ≡ pos 0) × (registered_id (registry_of m) type_id registration ≡ Some id))
-    ⊎ ((code ≡ pos 21) × (registered_id (registry_of m) type_id registration ≡ None) × (id ≡ before))
+    ((code ≡ DONE) × (registered_id (registry_of m) type_id registration ≡ Some id))
+    ⊎ ((code ≡ NOT_ALLOCATED) × (registered_id (registry_of m) type_id registration ≡ None) × (id ≡ before))
 
 abbrev pub WasFound : ℤ → ℕ → ℕ → ℕ → CountersSide → CountersSide → ℤ → Type 0
 WasFound type_id registration = Asks (TellsFound type_id registration)
 
 -- the number of ids
 abbrev pub TellsCount : CountersManager → ℕ → ℕ → ℤ → Type 0
-TellsCount m before count code = (code ≡ pos 0) × (count ≡ count_of (registry_of m))
+TellsCount m before count code = (code ≡ DONE) × (count ≡ count_of (registry_of m))
 
 -- the number of ids that can be allocated at this moment
 abbrev pub TellsAvailable : ℕ → CountersManager → ℕ → ℕ → ℤ → Type 0
-TellsAvailable now m before available code = (code ≡ pos 0) × (available ≡ available_in (registry_of m) now)
+TellsAvailable now m before available code = (code ≡ DONE) × (available ≡ available_in (registry_of m) now)
 
 -- these bytes are at the front of the buffer, or it is too short for them, and stays
 abbrev pub FillsBuffer : List ℕ → List ℕ → List ℕ → ℤ → Type 0
 FillsBuffer bytes before after code =
-    ((code ≡ pos 0) × (length bytes ≤ length before) × (after ≡ overwritten 0 bytes before))
-    ⊎ ((code ≡ pos 106) × (length before < length bytes) × (after ≡ before))
+    ((code ≡ DONE) × (length bytes ≤ length before) × (after ≡ overwritten 0 bytes before))
+    ⊎ ((code ≡ SHORT_BUFFER) × (length before < length bytes) × (after ≡ before))
 
 abbrev pub label_in : CountersManager → ℕ → List ℕ
 label_in m id = (counter_at (registry_of m) id).metadata.label

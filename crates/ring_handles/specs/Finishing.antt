@@ -1,12 +1,14 @@
 -- How a ring that is no conductor's ends: r is the consumer before, s after, p is a producer, and the code is what is
 -- returned.
-use Rattle.std.specs.Prelude.{◌≡◌, ◌≢◌, ◌⊎◌, ℕ, ℤ, pos, List, ◌++◌, length, MatchOption, None, Some, IsSome}
+use Rattle.std.specs.Prelude.{◌≡◌, ◌≢◌, ◌⊎◌, ℕ, ℤ, List, ◌++◌, length, MatchOption, None, Some, IsSome}
 use Rattle.ring_layout.specs.declared.message.Message.{Message}
 use Rattle.ring_table.specs.{OpenClaims.open_count, Views.with_consumer_of}
 use Rattle.ring_table.specs.{Owners.OwnedHistory, Owners.all_of, Owners.owned_by, Passing.placed_committed_of}
 use Rattle.ring_table.specs.declared.{claim.PlacedMessage.PlacedMessage, claim.StagedClaim.StagedClaim, view.View.View}
 use Rattle.ring_rings.specs.{Closing.close_code, Closing.AreOrdered, Reading.messages_of}
 use Rattle.ring_handles.specs.Side.{Reading, Side, close_refusal}
+use Rattle.ring_layout.specs.declared.refusal_codes.TheConstants.{PRODUCERS_OUT}
+use Rattle.ring_handles.specs.declared.code.TheConstants.{IN_USE, OTHER_RING}
 
 -- Closing ------------------------------------------------------------------------
 
@@ -22,7 +24,7 @@ pub record TakesLast (r : Reading) (p : Side) (s : Reading) : Type 0 where
 -- why it was not: the consumer has its ring's producer already, or the kinds or the numbers differ; otherwise it is the
 -- library's refusal
 abbrev pub IsNotLast : Reading → Side → ℤ → Type 0
-IsNotLast r p code = ((code ≡ pos 108) × (IsSome r.last ⊎ ((r.end.many ≢ p.many) ⊎ (r.identity ≢ p.identity))))
+IsNotLast r p code = ((code ≡ OTHER_RING) × (IsSome r.last ⊎ ((r.end.many ≢ p.many) ⊎ (r.identity ≢ p.identity))))
     ⊎ ((r.last ≡ None) × (r.end.many ≡ p.many) × (r.identity ≡ p.identity)
     × MatchOption (close_refusal p.view) ⊥ (λ fault. code ≡ close_code fault))
 
@@ -55,4 +57,4 @@ Finishes r left = MatchOption r.last (LeavesCommitted r.end.capacity r.end.start
 
 -- another handle holds the ring: that of a producer, if none was taken in
 abbrev pub IsUnfinished : Reading → ℤ → Type 0
-IsUnfinished r code = MatchOption r.last (code ≡ pos 11) (λ _. code ≡ pos 110)
+IsUnfinished r code = MatchOption r.last (code ≡ PRODUCERS_OUT) (λ _. code ≡ IN_USE)

@@ -1,6 +1,6 @@
 -- What is made for handles: a new ring, broadcast buffer, counters, shared counter or conductor, and the code if it is
 -- refused.
-use Rattle.std.specs.Prelude.{◌≡◌, ◌⊎◌, ℕ, ℤ, pos, [], MatchOption, Bool}
+use Rattle.std.specs.Prelude.{◌≡◌, ◌⊎◌, ℕ, ℤ, [], MatchOption, Bool}
 use Rattle.std.specs.declared.option.Option.{Option, TheVariants.None}
 use Rattle.ring_layout.specs.Places.{is_board_capacity, is_capacity}
 use Rattle.ring_layout.specs.Refusals.{all_shares, make_code, make_refusal_of}
@@ -13,13 +13,15 @@ use Rattle.ring_counters.specs.Codes.{make_code as counters_code}
 use Rattle.ring_handles.specs.declared.{counters.CountersSide.CountersSide, held.Held.Held, identity.Identity.Identity}
 use Rattle.ring_handles.specs.{Adding.IsFirst, Conducting.IsNewConductor, Side.Reading, Side.Side}
 use Rattle.ring_handles.specs.Kinds.{a_conductor, a_consumer, a_producer, a_transmitter, an_adder, some_counters, HoldsOne}
+use Rattle.ring_layout.specs.declared.refusal_codes.TheConstants.{OUT_OF_MEMORY}
+use Rattle.ring_handles.specs.declared.code.TheConstants.{DONE}
 
 -- Rings -------------------------------------------------------------------------
 
 -- a ring is refused with the refusal's code; if there is none it is made, unless memory runs out
 abbrev pub IsMakeCode : ℕ → ℕ → ℤ → Type 0
 IsMakeCode C start code =
-    MatchOption (make_refusal_of (is_capacity C) C start) ((code ≡ pos 0) ⊎ (code ≡ pos 3))
+    MatchOption (make_refusal_of (is_capacity C) C start) ((code ≡ DONE) ⊎ (code ≡ OUT_OF_MEMORY))
     (λ fault. code ≡ make_code fault)
 
 -- a producer and the consumer of one ring, with its number, which know this
@@ -51,7 +53,7 @@ HoldFresh many i C start p c = HoldPair many i C start (first_producer C start) 
 -- a board is refused with the refusal's code; if there is none it is made, unless memory runs out
 abbrev pub IsBoardCode : ℕ → ℕ → ℤ → Type 0
 IsBoardCode C start code =
-    MatchOption (make_refusal_of (is_board_capacity C) C start) ((code ≡ pos 0) ⊎ (code ≡ pos 3))
+    MatchOption (make_refusal_of (is_board_capacity C) C start) ((code ≡ DONE) ⊎ (code ≡ OUT_OF_MEMORY))
     (λ fault. code ≡ make_code fault)
 
 -- the transmitter holds all shares of a board on which nothing was transmitted
@@ -65,7 +67,8 @@ HoldNewBoard i C start h =
 -- counters are refused with the refusal's code; if there is none they are made, unless memory runs out
 abbrev pub IsCountersCode : ℕ → ℤ → Type 0
 IsCountersCode count code =
-    MatchOption (counters_refusal_of count) ((code ≡ pos 0) ⊎ (code ≡ pos 3)) (λ fault. code ≡ counters_code fault)
+    MatchOption (counters_refusal_of count) ((code ≡ DONE) ⊎ (code ≡ OUT_OF_MEMORY))
+    (λ fault. code ≡ counters_code fault)
 
 -- counters of which none was used, with all shares
 pub record AreNew (i : Identity) (count reuse_ms : ℕ) (c : CountersSide) : Type 0 where
@@ -81,7 +84,7 @@ HoldFreshCounters i count reuse_ms h = HoldsOne some_counters (AreNew i count re
 
 -- a shared counter is made, unless memory runs out
 abbrev pub IsAdderCode : ℤ → Type 0
-IsAdderCode code = (code ≡ pos 0) ⊎ (code ≡ pos 3)
+IsAdderCode code = (code ≡ DONE) ⊎ (code ≡ OUT_OF_MEMORY)
 
 abbrev pub HoldFirstAdder : Identity → Option Held → Type 0
 HoldFirstAdder i h = HoldsOne an_adder (IsFirst i) h

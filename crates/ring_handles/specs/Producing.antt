@@ -1,5 +1,5 @@
 -- What a producer's calls do: p is the producer before, q after, and the code is what is returned.
-use Rattle.std.specs.Prelude.{◌≡◌, ◌≢◌, ◌⊎◌, ℕ, ◌+◌, ◌<◌, ℤ, pos, List, [], ◌∷◌, ◌++◌, length, MatchOption, Bool, true, false, Result, Ok, Err}
+use Rattle.std.specs.Prelude.{◌≡◌, ◌≢◌, ◌⊎◌, ℕ, ◌+◌, ◌<◌, ℤ, List, [], ◌∷◌, ◌++◌, length, MatchOption, Bool, true, false, Result, Ok, Err}
 use Rattle.ring_layout.specs.declared.message.ClaimState.{ClaimState}
 use Rattle.ring_words.specs.Open.{ClaimAt}
 use Rattle.ring_rings.specs.{declared.fault.TryFault.TryFault, Joining.Joins, Joining.LoadsPositions}
@@ -10,6 +10,8 @@ use Rattle.ring_rings.specs.{Bodies.PutsBytes, Claiming.Claims, Claiming.Refuses
 use Rattle.ring_ends.specs.Claims.{aborted, claim_numbered, without}
 use Rattle.ring_ends.specs.declared.claiming.NumberFault.{NumberFault, TheVariants.NoClaim, TheVariants.PutRange}
 use Rattle.ring_handles.specs.Side.{Side, knowing}
+use Rattle.ring_layout.specs.declared.refusal_codes.TheConstants.{NO_SHARES, OUT_OF_MEMORY, PUT_RANGE}
+use Rattle.ring_handles.specs.declared.code.TheConstants.{DONE, NO_CLAIM, OTHER_RING, WRONG_HANDLE}
 
 -- it was refused with this number, and nothing changed
 abbrev pub Declined : ℤ → Side → Side → ℤ → Type 0
@@ -26,7 +28,7 @@ pub record IsRefused (many : Bool) (capacity : ℕ) (type_id : ℤ) (len : ℕ) 
 -- 0 says that the message was written, and another code why it was refused
 pub record Wrote (type_id : ℤ) (body : List ℕ) (p q : Side) (code : ℤ) : Type 0 where
   pub side : q ≡ knowing q.view p
-  pub written : ((code ≡ pos 0) × Writes p.many p.capacity type_id body p.view q.view)
+  pub written : ((code ≡ DONE) × Writes p.many p.capacity type_id body p.view q.view)
       ⊎ IsRefused p.many p.capacity type_id (length body) p.view q.view code
 
 -- Claims -------------------------------------------------------------------------
@@ -50,24 +52,24 @@ pub record ClaimRefused (type_id : ℤ) (len : ℕ) (p q : Side) (before number 
 
 -- a claim was made, or refused, or memory to keep it ran out
 abbrev pub Claimed : ℤ → ℕ → ℕ → ℕ → Side → Side → ℤ → Type 0
-Claimed type_id len before number p q code = ((code ≡ pos 0) × MadeClaim type_id len p q number)
-    ⊎ (ClaimRefused type_id len p q before number code ⊎ (Declined (pos 3) p q code × (number ≡ before)))
+Claimed type_id len before number p q code = ((code ≡ DONE) × MadeClaim type_id len p q number)
+    ⊎ (ClaimRefused type_id len p q before number code ⊎ (Declined OUT_OF_MEMORY p q code × (number ≡ before)))
 
--- the claim of this number is open, and P holds; otherwise 104
+-- the claim of this number is open, and P holds; otherwise NO_CLAIM
 abbrev pub WithClaim : ℕ → (ClaimAt → Type 0) → Side → Side → ℤ → Type 0
-WithClaim number P p q code = MatchOption (claim_numbered number p.claims) (Declined (pos 104) p q code) P
+WithClaim number P p q code = MatchOption (claim_numbered number p.claims) (Declined NO_CLAIM p q code) P
 
 -- the code of a call that names a claim by its number
 abbrev pub number_code : Result (Unit {0}) NumberFault → ℤ
-number_code (Ok x) = pos 0
-number_code (Err NoClaim) = pos 104
-number_code (Err PutRange) = pos 9
+number_code (Ok x) = DONE
+number_code (Err NoClaim) = NO_CLAIM
+number_code (Err PutRange) = PUT_RANGE
 
 -- bytes were put into the claim of this number, or are not inside it
 abbrev pub Put : ℕ → ℕ → List ℕ → Side → Side → ℤ → Type 0
 Put number offset bytes p q code =
-    WithClaim number (λ t. ((code ≡ pos 0) × (q ≡ knowing q.view p) × PutsBytes t.place offset bytes p.view q.view)
-    ⊎ ((t.len < offset + length bytes) × Declined (pos 9) p q code)) p q code
+    WithClaim number (λ t. ((code ≡ DONE) × (q ≡ knowing q.view p) × PutsBytes t.place offset bytes p.view q.view)
+    ⊎ ((t.len < offset + length bytes) × Declined PUT_RANGE p q code)) p q code
 
 -- the producer whose claim t of this number was settled so
 abbrev pub settling : ClaimState → ℕ → ClaimAt → Side → Side
@@ -76,7 +78,7 @@ settling state number t p = holding (without number p.claims)
 
 -- the claim of this number was settled
 abbrev pub Settled : ClaimState → ℕ → Side → Side → ℤ → Type 0
-Settled state number p q code = WithClaim number (λ t. (code ≡ pos 0) × (q ≡ settling state number t p)) p q code
+Settled state number p q code = WithClaim number (λ t. (code ≡ DONE) × (q ≡ settling state number t p)) p q code
 
 -- the producer whose open claims were all aborted
 abbrev pub closing : Side → Side
@@ -94,16 +96,16 @@ positions head tail = record { head = head; tail = tail }
 
 abbrev pub Positioned : Positions → Side → Side → ℤ → Type 0
 Positioned at p q code =
-    (code ≡ pos 0) × (q ≡ knowing q.view p) × LoadsPositions p.capacity p.view at.head at.tail q.view
+    (code ≡ DONE) × (q ≡ knowing q.view p) × LoadsPositions p.capacity p.view at.head at.tail q.view
 
 abbrev pub Drew : ℕ → Side → Side → ℤ → Type 0
-Drew id p q code = (code ≡ pos 0) × (q ≡ knowing q.view p) × DrawsId p.view id q.view
+Drew id p q code = (code ≡ DONE) × (q ≡ knowing q.view p) × DrawsId p.view id q.view
 
 abbrev pub HeardBeat : ℕ → Side → Side → ℤ → Type 0
-HeardBeat value p q code = (code ≡ pos 0) × (q ≡ knowing q.view p) × LoadsHeartbeat p.capacity p.view value q.view
+HeardBeat value p q code = (code ≡ DONE) × (q ≡ knowing q.view p) × LoadsHeartbeat p.capacity p.view value q.view
 
 abbrev pub Counted : ℕ → Side → Side → ℤ → Type 0
-Counted shares p q code = (code ≡ pos 0) × (q ≡ p) × (shares ≡ p.view.producer.shares)
+Counted shares p q code = (code ≡ DONE) × (q ≡ p) × (shares ≡ p.view.producer.shares)
 
 -- Splitting and joining ----------------------------------------------------------
 
@@ -127,8 +129,8 @@ pub record Splits (p q other : Side) : Type 0 where
 
 -- why a producer is not split: its ring has one producer, it has one share, or memory runs out
 abbrev pub WhyNotSplit : Side → ℤ → Type 0
-WhyNotSplit p code = ((code ≡ pos 101) × (p.many ≡ false))
-    ⊎ (((code ≡ pos 12) × (p.view.producer.shares ≡ 1)) ⊎ (code ≡ pos 3))
+WhyNotSplit p code = ((code ≡ WRONG_HANDLE) × (p.many ≡ false))
+    ⊎ (((code ≡ NO_SHARES) × (p.view.producer.shares ≡ 1)) ⊎ (code ≡ OUT_OF_MEMORY))
 
 -- the other one, which has the same number, was taken in, with its shares and its open claims
 pub record TakesIn (p other q : Side) : Type 0 where
@@ -138,6 +140,7 @@ pub record TakesIn (p other q : Side) : Type 0 where
 
 -- why it was not: a ring has one producer; otherwise the numbers differ; otherwise memory runs out
 abbrev pub IsApart : Side → Side → ℤ → Type 0
-IsApart p other code = ((code ≡ pos 101) × ((p.many ≡ false) ⊎ (other.many ≡ false)))
+IsApart p other code = ((code ≡ WRONG_HANDLE) × ((p.many ≡ false) ⊎ (other.many ≡ false)))
     ⊎ ((p.many ≡ true) × (other.many ≡ true)
-    × (((code ≡ pos 108) × (p.identity ≢ other.identity)) ⊎ ((code ≡ pos 3) × (p.identity ≡ other.identity))))
+    × (((code ≡ OTHER_RING) × (p.identity ≢ other.identity))
+    ⊎ ((code ≡ OUT_OF_MEMORY) × (p.identity ≡ other.identity))))

@@ -1,5 +1,5 @@
 -- What calls of a raw receiver's handle do: r is the receiver before, s after, and the code is what is returned.
-use Rattle.std.specs.Prelude.{◌≡◌, ◌⊎◌, ℕ, ◌<◌, ◌≤◌, ℤ, pos, Bool, true, List, length, take, drop, MatchOption, Option, None, Some, IsSome, if◌then◌else◌}
+use Rattle.std.specs.Prelude.{◌≡◌, ◌⊎◌, ℕ, ◌<◌, ◌≤◌, ℤ, Bool, true, List, length, take, drop, MatchOption, Option, None, Some, IsSome, if◌then◌else◌}
 use Rattle.atomic_table.specs.Seated.{TableId}
 use Rattle.ring_layout.specs.Refusals.{share_refusal_of}
 use Rattle.ring_board.specs.declared.{board.RawRecord.RawRecord, fault.Lapped.Lapped}
@@ -8,6 +8,8 @@ use Rattle.ring_board.specs.Receiving.{GotLapped, GotNothing, GotRecord}
 use Rattle.ring_board.specs.Seats.{len_of, place_of, type_id_of}
 use Rattle.ring_handles.specs.Boards.{LapOut, Sending, TellsLap, knowing}
 use Rattle.ring_handles.specs.declared.identity.Identity.{Identity}
+use Rattle.ring_layout.specs.declared.refusal_codes.TheConstants.{LAPPED, NO_SHARES, OUT_OF_MEMORY}
+use Rattle.ring_handles.specs.declared.code.TheConstants.{DONE, NO_MESSAGE, SHORT_BUFFER}
 
 pub record Watching : Type 0 where
   -- which board it is
@@ -45,7 +47,7 @@ pub record SubscribesRaw (p q : Sending) (r : Watching) : Type 0 where
 
 -- why it is not made: the transmitter needs its last share, or memory runs out
 abbrev pub IsUnwatched : Sending → ℤ → Type 0
-IsUnwatched p code = ((code ≡ pos 12) × IsSome (share_refusal_of p.view.shares)) ⊎ (code ≡ pos 3)
+IsUnwatched p code = ((code ≡ NO_SHARES) × IsSome (share_refusal_of p.view.shares)) ⊎ (code ≡ OUT_OF_MEMORY)
 
 -- Records ------------------------------------------------------------------------
 
@@ -76,9 +78,9 @@ pub record LapsRaw (before after : Seen) (kept : Option Lapped) (m m' : Sat) : T
 abbrev pub TellsSeen : Seen → Seen → Option RawRecord → Option RawRecord → Option Lapped → Option Lapped → Sat → Sat
     → ℤ → Type 0
 TellsSeen before after latest latest' lap lap' m m' code =
-    ((code ≡ pos 0) × Answers before after latest' m m' × (lap' ≡ lap))
-    ⊎ (((code ≡ pos 105) × GotNothing m m' × (latest' ≡ latest) × (after ≡ before) × (lap' ≡ lap))
-    ⊎ ((code ≡ pos 13) × LapsRaw before after lap' m m' × (latest' ≡ latest)))
+    ((code ≡ DONE) × Answers before after latest' m m' × (lap' ≡ lap))
+    ⊎ (((code ≡ NO_MESSAGE) × GotNothing m m' × (latest' ≡ latest) × (after ≡ before) × (lap' ≡ lap))
+    ⊎ ((code ≡ LAPPED) × LapsRaw before after lap' m m' × (latest' ≡ latest)))
 
 abbrev pub NextSeen : Seen → Seen → Watching → Watching → ℤ → Type 0
 NextSeen before after r s code = (s ≡ record r { seat = s.seat; latest = s.latest; lap = s.lap })
@@ -92,38 +94,38 @@ pub record LoadsBodyInto (raw : RawRecord) (before after : List ℕ) (m m' : Sat
   pub gave : GaveBody (place_of raw) (take (len_of raw) after) m m'
   pub rest : drop (len_of raw) after ≡ drop (len_of raw) before
 
--- of the latest record the body was loaded, or the buffer is too short; 105 if none was returned yet
+-- of the latest record the body was loaded, or the buffer is too short; NO_MESSAGE if none was returned yet
 abbrev pub LoadsAnswered : Option RawRecord → List ℕ → List ℕ → Sat → Sat → ℤ → Type 0
-LoadsAnswered latest before after m m' code = MatchOption latest ((code ≡ pos 105) × (m' ≡ m) × (after ≡ before))
-    (λ raw. ((code ≡ pos 0) × LoadsBodyInto raw before after m m')
-    ⊎ ((length before < len_of raw) × (code ≡ pos 106) × (m' ≡ m) × (after ≡ before)))
+LoadsAnswered latest before after m m' code = MatchOption latest ((code ≡ NO_MESSAGE) × (m' ≡ m) × (after ≡ before))
+    (λ raw. ((code ≡ DONE) × LoadsBodyInto raw before after m m')
+    ⊎ ((length before < len_of raw) × (code ≡ SHORT_BUFFER) × (m' ≡ m) × (after ≡ before)))
 
 abbrev pub BodyLoaded : List ℕ → List ℕ → Watching → Watching → ℤ → Type 0
 BodyLoaded before after r s code = (s ≡ reseated s.seat r) × LoadsAnswered r.latest before after r.seat s.seat code
 
--- an intent was loaded, and 0 returned if it shows that the record was not overwritten, and otherwise 13. If it was
--- not, each body of it that was loaded before is the one that was transmitted
+-- an intent was loaded, and DONE returned if it shows that the record was not overwritten, and otherwise LAPPED. If it
+-- was not, each body of it that was loaded before is the one that was transmitted
 pub record Tests (raw : RawRecord) (m m' : Sat) (code : ℤ) : Type 0 where
   pub valid : Bool
   pub looked : Validated raw valid m m'
-  pub code_is : code ≡ (if valid then pos 0 else pos 13)
+  pub code_is : code ≡ (if valid then DONE else LAPPED)
   pub right : valid ≡ true → IsRight m.0 raw
 
--- the latest record was tested; 105 if none was returned yet
+-- the latest record was tested; NO_MESSAGE if none was returned yet
 abbrev pub TestsLatest : Option RawRecord → Sat → Sat → ℤ → Type 0
-TestsLatest latest m m' code = MatchOption latest ((code ≡ pos 105) × (m' ≡ m)) (λ raw. Tests raw m m' code)
+TestsLatest latest m m' code = MatchOption latest ((code ≡ NO_MESSAGE) × (m' ≡ m)) (λ raw. Tests raw m m' code)
 
 abbrev pub Tested : Watching → Watching → ℤ → Type 0
 Tested r s code = (s ≡ reseated s.seat r) × TestsLatest r.latest r.seat s.seat code
 
 -- how often the receiver was lapped so far is put out
 abbrev pub SaysLaps : ℕ → Watching → Watching → ℤ → Type 0
-SaysLaps count r s code = (code ≡ pos 0) × (s ≡ r) × (count ≡ r.seat.0.count)
+SaysLaps count r s code = (code ≡ DONE) × (s ≡ r) × (count ≡ r.seat.0.count)
 
 -- the position at which the next call looks for a record is put out
 abbrev pub SaysRawPlace : ℕ → Watching → Watching → ℤ → Type 0
-SaysRawPlace place r s code = (code ≡ pos 0) × (s ≡ r) × (place ≡ r.seat.0.at)
+SaysRawPlace place r s code = (code ≡ DONE) × (s ≡ r) × (place ≡ r.seat.0.at)
 
--- the last lap is put out; 105 if there was none
+-- the last lap is put out; NO_MESSAGE if there was none
 abbrev pub SaysRawLap : LapOut → LapOut → Watching → Watching → ℤ → Type 0
 SaysRawLap before after r s code = (s ≡ r) × TellsLap before after r.lap code

@@ -1,5 +1,5 @@
 -- What a call puts out about the memory that a ring left.
-use Rattle.std.specs.Prelude.{◌≡◌, ◌≢◌, ◌⊎◌, ℕ, ◌*◌, ◌<◌, ◌≤◌, ℤ, pos, List, length, MatchOption, Option}
+use Rattle.std.specs.Prelude.{◌≡◌, ◌≢◌, ◌⊎◌, ℕ, ◌*◌, ◌<◌, ◌≤◌, ℤ, List, length, MatchOption, Option}
 use Rattle.std.specs.Int.{cast_signed, w64}
 use Rattle.ring_layout.specs.{Layout.ring_words, Places.IsCapacity, declared.message.Message.Message}
 use Rattle.ring_snapshot.specs.declared.ring_finding.RingFinding.{RingFinding}
@@ -8,6 +8,7 @@ use Rattle.ring_recovery.specs.{Headers.finding_of, Image.Remains, declared.reco
 use Rattle.ring_recovery.specs.Recovered.{IsRecoveredOf, Reads, all_placed, messages_left}
 use Rattle.ring_rings.specs.Reading.{messages_of}
 use Rattle.ring_handles.specs.Batch.{Batch, batch, laid, laid_end}
+use Rattle.ring_handles.specs.declared.code.TheConstants.{BAD_HEADER_LENGTH, BAD_HEADER_TYPE, DONE, NO_IMAGE, SHORT_BUFFER, TAIL_BEFORE_HEAD, TAIL_TOO_FAR, UNALIGNED_POSITION}
 
 -- the messages that are still to come, without their places
 abbrev pub still_to_come : Recovered → List Message
@@ -38,9 +39,9 @@ with_messages r buffer before = record before {
 -- most twice the capacity
 pub record LaysAll (r : Recovered) (before after : Recovery) (code : ℤ) : Type 0 where
   pub within : laid_end 0 (still_to_come r) ≤ 2 * r.capacity
-  pub lays : ((code ≡ pos 0) × (laid_end 0 (still_to_come r) ≤ length before.messages.buffer)
+  pub lays : ((code ≡ DONE) × (laid_end 0 (still_to_come r) ≤ length before.messages.buffer)
       × (after ≡ with_messages r (laid 0 (still_to_come r) before.messages.buffer) before))
-      ⊎ ((code ≡ pos 106) × (length before.messages.buffer < laid_end 0 (still_to_come r))
+      ⊎ ((code ≡ SHORT_BUFFER) × (length before.messages.buffer < laid_end 0 (still_to_come r))
       × (after ≡ with_messages r before.messages.buffer before))
 
 -- something was recovered of which this holds, and it is laid
@@ -51,14 +52,14 @@ LaysRecovered Holds before after code = (r : Recovered) × (Holds r × LaysAll r
 
 -- the code of a finding
 abbrev pub finding_code : RingFinding → ℤ
-finding_code (BadSize words) = pos 113
-finding_code (BadBodies words) = pos 113
-finding_code (UnalignedPosition head tail) = pos 114
-finding_code (TailBeforeHead head tail) = pos 115
-finding_code (TailTooFar head tail) = pos 116
-finding_code (OutsideOfRecords position) = pos 113
-finding_code (BadLength index len) = pos 117
-finding_code (BadType index type_id) = pos 118
+finding_code (BadSize words) = NO_IMAGE
+finding_code (BadBodies words) = NO_IMAGE
+finding_code (UnalignedPosition head tail) = UNALIGNED_POSITION
+finding_code (TailBeforeHead head tail) = TAIL_BEFORE_HEAD
+finding_code (TailTooFar head tail) = TAIL_TOO_FAR
+finding_code (OutsideOfRecords position) = NO_IMAGE
+finding_code (BadLength index len) = BAD_HEADER_LENGTH
+finding_code (BadType index type_id) = BAD_HEADER_TYPE
 
 -- The place of a finding is put out, and what is there. A finding about the number of words or slots puts out nothing,
 -- since the caller knows both numbers

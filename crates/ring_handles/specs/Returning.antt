@@ -1,6 +1,6 @@
 -- What broadcast buffers and counters take back, and how a broadcast buffer ends: p is the transmitter before, q after,
 -- c are the counters before, d after, r is a receiver or a reader, and the code is what is returned.
-use Rattle.std.specs.Prelude.{◌≡◌, ◌≢◌, ℕ, ◌+◌, ℤ, pos, MatchOption, None}
+use Rattle.std.specs.Prelude.{◌≡◌, ◌≢◌, ℕ, ◌+◌, ℤ, MatchOption, None}
 use Rattle.std.specs.Arc.{arc_value}
 use Rattle.atomic_table.specs.Seated.{TableId}
 use Rattle.ring_board.specs.{Closing.close_refusal_of, Runs.AreAllRuns, Runs.AreRuns, Views.Sat, Views.joined}
@@ -9,6 +9,8 @@ use Rattle.ring_counters.specs.Seats.{loads_of, made_of}
 use Rattle.ring_handles.specs.declared.counters.{CountersSide.CountersSide, ReaderSide.ReaderSide}
 use Rattle.ring_handles.specs.{Boards.knowing, Boards.tail_in, Boards.Listening, Boards.Sending, Raw.Watching}
 use Rattle.ring_handles.specs.Serving.{conductor_of, values_in}
+use Rattle.ring_layout.specs.declared.refusal_codes.TheConstants.{RECEIVERS_OUT}
+use Rattle.ring_handles.specs.declared.code.TheConstants.{IN_USE, OTHER_RING}
 
 -- Receivers ----------------------------------------------------------------------
 
@@ -33,7 +35,7 @@ TakesListener p r q = (r.lender ≡ None) × (p.identity ≡ r.identity) × Take
 
 -- it is a conductor's, or the numbers differ
 abbrev pub IsAstray : Sending → Listening → ℤ → Type 0
-IsAstray p r code = (code ≡ pos 108) × MatchOption r.lender (p.identity ≢ r.identity) (λ _. Unit {0})
+IsAstray p r code = (code ≡ OTHER_RING) × MatchOption r.lender (p.identity ≢ r.identity) (λ _. Unit {0})
 
 -- if it has the same number, the raw receiver is of the transmitter's broadcast buffer
 abbrev pub IsRawOfThisBoard : Sending → Watching → Type 0
@@ -45,7 +47,7 @@ TakesWatcher p r q = (p.identity ≡ r.identity) × TakesBack p r.seat q
 
 -- the numbers differ
 abbrev pub IsRawAstray : Sending → Watching → ℤ → Type 0
-IsRawAstray p r code = (code ≡ pos 108) × (p.identity ≢ r.identity)
+IsRawAstray p r code = (code ≡ OTHER_RING) × (p.identity ≢ r.identity)
 
 -- The end of a board -------------------------------------------------------------
 
@@ -56,7 +58,7 @@ pub record BoardEndsAt (p : Sending) (tail : ℕ) : Type 0 where
 
 -- another handle holds the board: that of a receiver, if shares are missing
 abbrev pub IsBoardKept : Sending → ℤ → Type 0
-IsBoardKept p code = MatchOption (close_refusal_of p.view.shares) (code ≡ pos 110) (λ _. code ≡ pos 14)
+IsBoardKept p code = MatchOption (close_refusal_of p.view.shares) (code ≡ IN_USE) (λ _. code ≡ RECEIVERS_OUT)
 
 -- Readers ------------------------------------------------------------------------
 
@@ -79,4 +81,4 @@ pub record TakesLoads (c : CountersSide) (r : ReaderSide) (d : CountersSide) : T
 -- it is a conductor's, or the numbers differ
 abbrev pub IsOfOthers : CountersSide → ReaderSide → ℤ → Type 0
 IsOfOthers c r code =
-    (code ≡ pos 108) × MatchOption (conductor_of r.values) (c.identity ≢ r.identity) (λ _. Unit {0})
+    (code ≡ OTHER_RING) × MatchOption (conductor_of r.values) (c.identity ≢ r.identity) (λ _. Unit {0})

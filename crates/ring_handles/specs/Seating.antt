@@ -1,6 +1,6 @@
 -- Seats that a conductor gives and takes back: c is the conductor before, d after, k is a client, r a receiver or a
 -- reader, and the code is what is returned.
-use Rattle.std.specs.Prelude.{◌≡◌, ◌⊎◌, ◌≤◌, ◌+◌, ℤ, pos, [], IfSome, Option, None, Some}
+use Rattle.std.specs.Prelude.{◌≡◌, ◌⊎◌, ◌≤◌, ◌+◌, ℤ, [], IfSome, Option, None, Some}
 use Rattle.std.specs.Arc.{arc_value}
 use Rattle.ring_rings.specs.{Joining.Joins, Seats.capacity_of as ring_bytes, Seats.view_of}
 use Rattle.ring_board.specs.{declared.fault.SubscribeFault.TheVariants.NoShares, Runs.AreRuns, Seats.capacity_of}
@@ -13,6 +13,8 @@ use Rattle.ring_handles.specs.declared.{client.ClientSide.ClientSide, lending.Sh
 use Rattle.ring_handles.specs.declared.{conductor.ConductorSide.ConductorSide, counters.ReaderSide.ReaderSide}
 use Rattle.ring_handles.specs.{Boards.table_of, Boards.Listening, Serving.conductor_of, Serving.IsNumberedOtherwise}
 use Rattle.ring_handles.specs.Conducting.{shared_by, KeepsProducer}
+use Rattle.ring_layout.specs.declared.refusal_codes.TheConstants.{NO_SHARES, OUT_OF_MEMORY}
+use Rattle.ring_handles.specs.declared.code.TheConstants.{OTHER_RING}
 
 -- Lending ------------------------------------------------------------------------
 
@@ -38,8 +40,8 @@ pub record LendsReceiver (c d : ConductorSide) (r : Listening) : Type 0 where
 
 -- why a receiver is not made: the conductor needs its last share, or memory runs out
 abbrev pub IsUnheard : ConductorSide → ℤ → Type 0
-IsUnheard c code = ((code ≡ pos 12) × (subscribe_refusal_of (board_view c.conductor).shares ≡ Some NoShares))
-    ⊎ (code ≡ pos 3)
+IsUnheard c code = ((code ≡ NO_SHARES) × (subscribe_refusal_of (board_view c.conductor).shares ≡ Some NoShares))
+    ⊎ (code ≡ OUT_OF_MEMORY)
 
 -- the counters and their writes are the same
 pub record KeepsSideCounters (c d : ConductorSide) : Type 0 where
@@ -59,7 +61,7 @@ pub record LendsReader (c d : ConductorSide) (r : ReaderSide) : Type 0 where
 
 -- why a reader is not made: the conductor needs its last share, or memory runs out
 abbrev pub WhyNotSeated : ConductorSide → ℤ → Type 0
-WhyNotSeated c code = ((code ≡ pos 12) × (value_shares_of c.conductor ≤ 1)) ⊎ (code ≡ pos 3)
+WhyNotSeated c code = ((code ≡ NO_SHARES) × (value_shares_of c.conductor ≤ 1)) ⊎ (code ≡ OUT_OF_MEMORY)
 
 -- Taking back --------------------------------------------------------------------
 
@@ -92,7 +94,7 @@ pub record TakesReader (c : ConductorSide) (r : ReaderSide) (d : ConductorSide) 
 
 -- it is no conductor's, or that of one with another number
 abbrev pub IsForeign : ConductorSide → Option Shared → ℤ → Type 0
-IsForeign c lender code = (code ≡ pos 108) × IsNumberedOtherwise (shared_by c).identity lender
+IsForeign c lender code = (code ≡ OTHER_RING) × IsNumberedOtherwise (shared_by c).identity lender
 
 -- what a conductor shares, if the client, the receiver or the reader is one's
 abbrev pub lends_client : ClientSide → Option Shared

@@ -5,6 +5,8 @@ use Rattle.ring_layout.specs.declared.message.Message.{Message}
 use Rattle.ring_table.specs.declared.view.View.{View}
 use Rattle.ring_rings.specs.{Ring.sent_in, Seats.OpensNoneAt}
 use Rattle.ring_handles.specs.{Batch.laid_end, Batch.span_in, Producing.IsRefused, Side.Side, Side.knowing}
+use Rattle.ring_layout.specs.declared.refusal_codes.TheConstants.{BAD_TYPE, PUT_RANGE, TOO_LONG}
+use Rattle.ring_handles.specs.declared.code.TheConstants.{DONE}
 
 -- Records ------------------------------------------------------------------------
 
@@ -34,9 +36,9 @@ pub record IsRecord (C : ℕ) (bytes : List ℕ) (at : ℕ) : Type 0 where
 -- The code that says why it is refused. The first of these tests that fails has its code: the record is inside the
 -- bytes, the type id is one of a message, and the message is not too long
 abbrev pub IsBadRecord : ℕ → List ℕ → ℕ → ℤ → Type 0
-IsBadRecord C bytes at code = ((code ≡ pos 9) × (length bytes < at + 16 + word_at bytes at))
-    ⊎ (IsInside bytes at × (((code ≡ pos 4) × (HasType bytes at → ⊥))
-    ⊎ (HasType bytes at × (code ≡ pos 5) × (C / 8 < word_at bytes at))))
+IsBadRecord C bytes at code = ((code ≡ PUT_RANGE) × (length bytes < at + 16 + word_at bytes at))
+    ⊎ (IsInside bytes at × (((code ≡ BAD_TYPE) × (HasType bytes at → ⊥))
+    ⊎ (HasType bytes at × (code ≡ TOO_LONG) × (C / 8 < word_at bytes at))))
 
 -- these messages are in the records from this byte on, one after another
 abbrev pub AreRecords : ℕ → List ℕ → ℕ → List Message → Type 0
@@ -71,7 +73,7 @@ pub record HasBadRecord (C : ℕ) (bytes : List ℕ) (code : ℤ) : Type 0 where
 
 -- the code that says why the bytes are no batch
 abbrev pub IsNoBatch : ℕ → List ℕ → ℤ → Type 0
-IsNoBatch C bytes code = ((code ≡ pos 9) × (2 ^ 32 ≤ length bytes)) ⊎ HasBadRecord C bytes code
+IsNoBatch C bytes code = ((code ≡ PUT_RANGE) × (2 ^ 32 ≤ length bytes)) ⊎ HasBadRecord C bytes code
 
 -- Writing ------------------------------------------------------------------------
 
@@ -90,7 +92,7 @@ pub record StopsAt (many : Bool) (C : ℕ) (ms : List Message) (n : ℕ) (code :
 
 -- 0 says that all messages were written, and another code why the next one was refused
 abbrev pub WritesSome : Bool → ℕ → List Message → ℕ → ℤ → View → View → Type 0
-WritesSome many C ms n code v w = ((code ≡ pos 0) × (n ≡ length ms) × (sent_in w ≡ sent_in v ++ ms))
+WritesSome many C ms n code v w = ((code ≡ DONE) × (n ≡ length ms) × (sent_in w ≡ sent_in v ++ ms))
     ⊎ StopsAt many C ms n code v w
 
 -- the messages of a batch were written, all or the first ones

@@ -1,5 +1,5 @@
 //! What is made for handles: rings, broadcast buffers, counters, shared counters and conductors, each in a box.
-ghost use Rattle.std.specs.Prelude.{◌≡◌, ◌≢◌, [], pos, true, false, IfErr, IfOk, MatchResult};
+ghost use Rattle.std.specs.Prelude.{◌≡◌, ◌≢◌, [], true, false, IfErr, IfOk, MatchResult};
 ghost use Rattle.std.specs.declared.option.Option.TheVariants.{Some};
 ghost use Rattle.ring_ends.specs.End.{AreOfOneRing};
 ghost use Rattle.ring_handles.specs.Conducting.{IsConductorCode};
@@ -9,7 +9,7 @@ ghost use Rattle.ring_handles.specs.Side.{consumer_in, numbered_in, IsOfKind, Is
 
 use crate::adders::AdderSide;
 use crate::boards::TransmitterSide;
-use crate::code::OUT_OF_MEMORY;
+use crate::code::{DONE, OUT_OF_MEMORY};
 use crate::conductor::ConductorSide;
 use crate::conductor::making::Sizes;
 use crate::consumer::ConsumerSide;
@@ -32,7 +32,7 @@ pub type Pair = (Box<Held>, Box<Held>);
 /// Puts a value into a box. 3 if there is no memory.
 fn boxed<T: Drop>(alloc: Global, held: T) -> Result<Box<T>, i32>
     ensures made { IfOk result (λ made. made.value ≡ held) }
-    ensures refused { IfErr result (λ code. code ≡ pos 3) }
+    ensures refused { IfErr result (λ code. code ≡ OUT_OF_MEMORY) }
 {
     match Box::new(alloc, held) {
         Ok(made) => Ok(made),
@@ -43,7 +43,7 @@ fn boxed<T: Drop>(alloc: Global, held: T) -> Result<Box<T>, i32>
 /// Puts two values into boxes. 3 if there is no memory.
 fn both_boxed<T: Drop>(alloc: Global, one: T, two: T) -> Result<(Box<T>, Box<T>), i32>
     ensures made { IfOk result (λ made. (made.0.value ≡ one) × (made.1.value ≡ two)) }
-    ensures refused { IfErr result (λ code. code ≡ pos 3) }
+    ensures refused { IfErr result (λ code. code ≡ OUT_OF_MEMORY) }
 {
     let one = boxed(alloc, one)?;
     let two = boxed(alloc, two)?;
@@ -52,7 +52,7 @@ fn both_boxed<T: Drop>(alloc: Global, one: T, two: T) -> Result<(Box<T>, Box<T>)
 
 /// Takes room for what a call makes. 3 if there is no memory.
 pub fn room(alloc: Global) -> Result<Box<Held>, i32>
-    ensures { IfErr result (λ code. code ≡ pos 3) }
+    ensures { IfErr result (λ code. code ≡ OUT_OF_MEMORY) }
 {
     boxed(alloc, Held::Vacant)
 }
@@ -70,7 +70,7 @@ fn box_both(
     ensures made { IfOk result (λ made. HoldPair (consumer_in consumer).many identity (consumer_in consumer).capacity
         (consumer_in consumer).start (numbered_in producer).end.view (consumer_in consumer).view
         (Some made.0.value) (Some made.1.value)) }
-    ensures refused { IfErr result (λ code. code ≡ pos 3) }
+    ensures refused { IfErr result (λ code. code ≡ OUT_OF_MEMORY) }
 {
     let one = Held::Producer(ProducerSide {
         end: producer,
@@ -96,8 +96,8 @@ pub fn open_many_to_one(
 ) -> Result<Pair, i32>
     ensures made { IfOk result (λ made.
         HoldFresh true identity capacity start (Some made.0.value) (Some made.1.value)) }
-    ensures code { MatchResult result (λ _. IsMakeCode capacity start (pos 0))
-        (λ code. IsMakeCode capacity start code × (code ≢ pos 0)) }
+    ensures code { MatchResult result (λ _. IsMakeCode capacity start DONE)
+        (λ code. IsMakeCode capacity start code × (code ≢ DONE)) }
 {
     let (producer, consumer) = match open::<ManyToOne, InSlots>(alloc, capacity, start) {
         Ok(made) => made,
@@ -116,8 +116,8 @@ pub fn open_one_to_one(
 ) -> Result<Pair, i32>
     ensures made { IfOk result (λ made.
         HoldFresh false identity capacity start (Some made.0.value) (Some made.1.value)) }
-    ensures code { MatchResult result (λ _. IsMakeCode capacity start (pos 0))
-        (λ code. IsMakeCode capacity start code × (code ≢ pos 0)) }
+    ensures code { MatchResult result (λ _. IsMakeCode capacity start DONE)
+        (λ code. IsMakeCode capacity start code × (code ≢ DONE)) }
 {
     let (producer, consumer) = match open::<OneToOne, InSlots>(alloc, capacity, start) {
         Ok(made) => made,
@@ -135,8 +135,8 @@ pub fn open_board(
     start: u64,
 ) -> Result<Box<Held>, i32>
     ensures made { IfOk result (λ made. HoldNewBoard identity capacity start (Some made.value)) }
-    ensures code { MatchResult result (λ _. IsBoardCode capacity start (pos 0))
-        (λ code. IsBoardCode capacity start code × (code ≢ pos 0)) }
+    ensures code { MatchResult result (λ _. IsBoardCode capacity start DONE)
+        (λ code. IsBoardCode capacity start code × (code ≢ DONE)) }
 {
     let (board, transmitter) = match Board::new_at(alloc, capacity, start) {
         Ok(made) => made,
@@ -166,8 +166,8 @@ pub fn open_counters(
     reuse_ms: u32,
 ) -> Result<Box<Held>, i32>
     ensures made { IfOk result (λ made. HoldFreshCounters identity count reuse_ms (Some made.value)) }
-    ensures code { MatchResult result (λ _. IsCountersCode count (pos 0))
-        (λ code. IsCountersCode count code × (code ≢ pos 0)) }
+    ensures code { MatchResult result (λ _. IsCountersCode count DONE)
+        (λ code. IsCountersCode count code × (code ≢ DONE)) }
 {
     let (values, manager) = match CountersManager::new(alloc, count, reuse_ms) {
         Ok(made) => made,
@@ -189,7 +189,7 @@ pub fn open_counters(
 /// Makes a shared counter of value 0, with an adder that holds all shares. 3 if there is no memory.
 pub fn open_adder(alloc: Global, identity: Identity) -> Result<Box<Held>, i32>
     ensures made { IfOk result (λ made. HoldFirstAdder identity (Some made.value)) }
-    ensures code { MatchResult result (λ _. IsAdderCode (pos 0)) (λ code. IsAdderCode code × (code ≢ pos 0)) }
+    ensures code { MatchResult result (λ _. IsAdderCode DONE) (λ code. IsAdderCode code × (code ≢ DONE)) }
 {
     let Ok((counter, adder)) = SharedCounter::new(alloc) else {
         return Err(OUT_OF_MEMORY);
@@ -213,8 +213,8 @@ pub fn open_adder(alloc: Global, identity: Identity) -> Result<Box<Held>, i32>
 pub fn open_conductor(alloc: Global, identity: Identity, sizes: Sizes) -> Result<Box<Held>, i32>
     ensures made { IfOk result (λ made.
         HoldNewConductor identity sizes.capacity sizes.replies sizes.counters sizes.reuse_ms (Some made.value)) }
-    ensures code { MatchResult result (λ _. IsConductorCode sizes.capacity sizes.replies sizes.counters (pos 0))
-        (λ code. IsConductorCode sizes.capacity sizes.replies sizes.counters code × (code ≢ pos 0)) }
+    ensures code { MatchResult result (λ _. IsConductorCode sizes.capacity sizes.replies sizes.counters DONE)
+        (λ code. IsConductorCode sizes.capacity sizes.replies sizes.counters code × (code ≢ DONE)) }
 {
     let side = ConductorSide::new(alloc, identity, sizes)?;
     boxed(alloc, Held::Conductor(side))

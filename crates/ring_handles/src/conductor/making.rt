@@ -1,8 +1,8 @@
 //! How a conductor is made.
-ghost use Rattle.std.specs.Prelude.{◌≡◌, ◌≢◌, pos, None, Some, IfOk, MatchResult};
+ghost use Rattle.std.specs.Prelude.{◌≡◌, ◌≢◌, None, Some, IfOk, MatchResult};
 ghost use Rattle.ring_handles.specs.Conducting.{sizes_refused, IsConductorCode, IsNewConductor};
 
-use crate::code::{BAD_CAPACITY, BAD_COUNT, OUT_OF_MEMORY};
+use crate::code::{BAD_CAPACITY, BAD_COUNT, DONE, OUT_OF_MEMORY};
 use crate::conductor::ConductorSide;
 use crate::identity::Identity;
 use crate::lending::Shared;
@@ -48,8 +48,8 @@ impl ConductorSide {
     pub(crate) fn new(alloc: Global, identity: Identity, sizes: Sizes) -> Result<ConductorSide, i32>
         ensures made { IfOk result (IsNewConductor identity sizes.capacity sizes.replies sizes.counters
             sizes.reuse_ms) }
-        ensures code { MatchResult result (λ _. IsConductorCode sizes.capacity sizes.replies sizes.counters (pos 0))
-            (λ code. IsConductorCode sizes.capacity sizes.replies sizes.counters code × (code ≢ pos 0)) }
+        ensures code { MatchResult result (λ _. IsConductorCode sizes.capacity sizes.replies sizes.counters DONE)
+            (λ code. IsConductorCode sizes.capacity sizes.replies sizes.counters code × (code ≢ DONE)) }
     {
         sizes.test()?;
         let Ok((ring, producer, consumer)) = PlainManyToOneRing::new(alloc, sizes.capacity) else {
