@@ -15,15 +15,17 @@ class Known(typing.NamedTuple):
     homes: typing.Dict[str, typing.List[str]]  # the modules that define a word of specs
     shared: typing.Set[str]  # the macros and functions of work_on.rt
     handles: typing.Set[str]  # what ring_handles passes on
+    modules: typing.Set[str]  # its public modules
 
 
 def known(top):
     crates = top / "crates"
     below = re.search(r"(?m)^ring_c staticlib: (.*)$", (top / "crates.txt").read_text()).group(1).split()
     shared = re.findall(r"pub\(crate\) (?:use|fn) (\w+)", (crates / "ring_c/src/work_on.rt").read_text())
-    passed_on = re.findall(r"pub use ([^;]*);", (crates / "ring_handles/src/lib.rt").read_text())
-    handles = {name for it in passed_on for name in re.findall(r"\w+(?!\w|::)", it)}
-    return Known(homes_of(crates, [*below, "ring_c"]), set(shared), handles)
+    library = (crates / "ring_handles/src/lib.rt").read_text()
+    handles = {name for it in re.findall(r"pub use ([^;]*);", library) for name in re.findall(r"\w+(?!\w|::)", it)}
+    modules = set(re.findall(r"pub mod (\w+);", library))
+    return Known(homes_of(crates, [*below, "ring_c"]), set(shared), handles, modules)
 
 
 def homes_of(crates, names):
@@ -99,9 +101,10 @@ def may_share(chunks):
 
 def rust_lines(lines, text, known):
     """The lines that import what functions name."""
-    named = set(re.findall(r"(?<![\w:.])\w+", text))
+    named, above = set(re.findall(r"(?<![\w:.])\w+", text)), set(re.findall(r"(?<![\w:.])\w+(?=::)", text))
+    of_handles = known.handles & named | known.modules & above
     lines = [line for line in lines if line.startswith("use ")]
-    for path, words in (("crate::work_on", known.shared), ("ring_handles", known.handles), ("std::alloc", {"Global"})):
+    for path, words in (("crate::work_on", known.shared), ("ring_handles", of_handles), ("std::alloc", {"Global"})):
         its = sorted(words & named)
         if its:
             lines.append(f"use {path}::{its[0]};" if len(its) == 1 else "use %s::{%s};" % (path, ", ".join(its)))
