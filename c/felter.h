@@ -192,22 +192,26 @@ int32_t felter_capacity(felter_handle *handle, uint32_t *capacity, uint32_t *lon
 
 /* Makes a ring of `capacity` bytes, with its first producer and its consumer. The capacity must be a power of two from
  * 128 to 2^24. A ring has 65,536 shares, and each producer holds at least one of them. The first producer holds all
- * shares. Positions begin at `start`, or at 0 if the call has no such parameter. Codes: FELTER_HANDLE_IN_USE if a
- * handle is not empty, FELTER_BAD_CAPACITY, FELTER_BAD_START, FELTER_OUT_OF_MEMORY. */
+ * shares. Positions begin at 0. Codes: FELTER_HANDLE_IN_USE if a handle is not empty, FELTER_BAD_CAPACITY,
+ * FELTER_OUT_OF_MEMORY. */
 int32_t felter_many_to_one_new_numbered(uint64_t number, uint32_t capacity, felter_producer *producer,
                                         felter_consumer *consumer);
+static inline int32_t felter_many_to_one_new(uint32_t capacity, felter_producer *producer, felter_consumer *consumer);
+/* Makes a ring whose positions begin at `start`. Otherwise the call is the same as felter_many_to_one_new. Codes: also
+ * FELTER_BAD_START. */
 int32_t felter_many_to_one_new_at_numbered(uint64_t number, uint32_t capacity, uint64_t start,
                                            felter_producer *producer, felter_consumer *consumer);
-static inline int32_t felter_many_to_one_new(uint32_t capacity, felter_producer *producer, felter_consumer *consumer);
 static inline int32_t felter_many_to_one_new_at(uint32_t capacity, uint64_t start, felter_producer *producer,
                                                 felter_consumer *consumer);
-/* These calls make a one-to-one ring, whose only producer cannot be split. Otherwise they are the same as the calls
- * above. */
+/* Makes a one-to-one ring, whose only producer cannot be split. Otherwise the call is the same as
+ * felter_many_to_one_new. */
 int32_t felter_one_to_one_new_numbered(uint64_t number, uint32_t capacity, felter_producer *producer,
                                        felter_consumer *consumer);
+static inline int32_t felter_one_to_one_new(uint32_t capacity, felter_producer *producer, felter_consumer *consumer);
+/* Makes a one-to-one ring whose positions begin at `start`. Otherwise the call is the same as felter_one_to_one_new.
+ * Codes: also FELTER_BAD_START. */
 int32_t felter_one_to_one_new_at_numbered(uint64_t number, uint32_t capacity, uint64_t start,
                                           felter_producer *producer, felter_consumer *consumer);
-static inline int32_t felter_one_to_one_new(uint32_t capacity, felter_producer *producer, felter_consumer *consumer);
 static inline int32_t felter_one_to_one_new_at(uint32_t capacity, uint64_t start, felter_producer *producer,
                                                felter_consumer *consumer);
 
@@ -229,9 +233,9 @@ int32_t felter_claim(felter_producer *producer, int32_t type_id, size_t len, uin
 /* Puts bytes into an open claim of the producer, from the byte at `offset` on. Codes: FELTER_NO_CLAIM,
  * FELTER_PUT_RANGE. */
 int32_t felter_put(felter_producer *producer, uint64_t claim, size_t offset, const void *bytes, size_t len);
-/* These calls settle an open claim of the producer. After a commit the consumer is shown the message. After an abort
- * the consumer skips the claim. Codes: FELTER_NO_CLAIM. */
+/* Commits an open claim of the producer. The consumer is then shown the message. Codes: FELTER_NO_CLAIM. */
 int32_t felter_commit(felter_producer *producer, uint64_t claim);
+/* Aborts an open claim of the producer. The consumer then skips the claim. Codes: FELTER_NO_CLAIM. */
 int32_t felter_abort(felter_producer *producer, uint64_t claim);
 
 /* Makes `other` another producer of a many-to-one ring. `other` gets one share of `producer`. Open claims stay with
@@ -350,15 +354,17 @@ int32_t felter_finish(felter_consumer *consumer, uint64_t *left);
 /* Boards --------------------------------------------------------------------------------------------------------- */
 
 /* A board is a broadcast buffer. Its one transmitter never waits. Each receiver gets every message, or learns that the
- * transmitter overtook it.
- *
- * These calls make a board and its transmitter. A board has 65,536 shares, and the transmitter begins with all of them.
- * The capacity is a power of two from 256 to 2^24. Codes: FELTER_BAD_CAPACITY, FELTER_BAD_START, FELTER_OUT_OF_MEMORY,
- * FELTER_HANDLE_IN_USE. */
+ * transmitter overtook it. */
+
+/* Makes a board of `capacity` bytes and its transmitter. A board has 65,536 shares, and the transmitter begins with all
+ * of them. The capacity must be a power of two from 256 to 2^24. Positions begin at 0. Codes: FELTER_BAD_CAPACITY,
+ * FELTER_OUT_OF_MEMORY, FELTER_HANDLE_IN_USE. */
 int32_t felter_board_new_numbered(uint64_t number, uint32_t capacity, felter_transmitter *transmitter);
+static inline int32_t felter_board_new(uint32_t capacity, felter_transmitter *transmitter);
+/* Makes a board whose positions begin at `start`. Otherwise the call is the same as felter_board_new. Codes: also
+ * FELTER_BAD_START. */
 int32_t felter_board_new_at_numbered(uint64_t number, uint32_t capacity, uint64_t start,
                                      felter_transmitter *transmitter);
-static inline int32_t felter_board_new(uint32_t capacity, felter_transmitter *transmitter);
 static inline int32_t felter_board_new_at(uint32_t capacity, uint64_t start, felter_transmitter *transmitter);
 /* Transmits a message. Codes: FELTER_BAD_TYPE, FELTER_TOO_LONG, FELTER_POSITION_LIMIT. */
 int32_t felter_transmit(felter_transmitter *transmitter, int32_t type_id, const void *body, size_t len);
@@ -402,13 +408,17 @@ int32_t felter_validate(felter_raw_receiver *receiver);
 /* Writes how often felter_receive_next returned FELTER_LAPPED. */
 int32_t felter_raw_lapped_count(felter_raw_receiver *receiver, uint64_t *count);
 
-/* These calls do for a raw receiver what felter_receiver_place and felter_receiver_lap do for a receiver. */
+/* Writes the position at which the next call looks for a record. */
 int32_t felter_raw_receiver_place(felter_raw_receiver *receiver, uint64_t *place);
+/* Writes the place at which the raw receiver was lapped last, and the intent that showed the lap, as
+ * felter_receiver_lap does for a receiver. Codes: FELTER_NO_MESSAGE if the raw receiver was never lapped. */
 int32_t felter_raw_receiver_lap(felter_raw_receiver *receiver, uint64_t *place, uint64_t *intent);
 
-/* These calls take back a receiver or a raw receiver of this board, with its share, and empty the receiver's handle.
- * Codes: FELTER_OTHER_RING if the receiver is of another board, or if felter_conductor_subscribe made it. */
+/* Takes back a receiver of this board with its share, and empties the receiver's handle. Codes: FELTER_OTHER_RING if
+ * the receiver is of another board, or if felter_conductor_subscribe made it. */
 int32_t felter_board_join(felter_transmitter *transmitter, felter_receiver *receiver);
+/* Takes back a raw receiver of this board with its share, and empties the raw receiver's handle. Codes:
+ * FELTER_OTHER_RING if the raw receiver is of another board. */
 int32_t felter_board_join_raw(felter_transmitter *transmitter, felter_raw_receiver *receiver);
 /* Ends a board whose receivers of both kinds were all taken back or freed, and empties the transmitter's handle. Writes
  * the tail, which is the position at which the last transmission ended. Codes:
@@ -433,39 +443,46 @@ int32_t felter_counter_allocate(felter_counters *counters, uint64_t now, int32_t
 int32_t felter_counter_allocate_owned(felter_counters *counters, uint64_t now, int32_t type_id, const void *key,
                                       size_t key_len, const void *label, size_t label_len, uint64_t registration,
                                       uint64_t owner, uint32_t *id);
-/* Each call with an id can return FELTER_BAD_ID or FELTER_NOT_ALLOCATED. felter_counter_free frees a counter, and can
- * also return FELTER_BAD_MOMENT. */
+/* Frees a counter at the moment `now`. Codes: FELTER_BAD_ID, FELTER_NOT_ALLOCATED, FELTER_BAD_MOMENT. */
 int32_t felter_counter_free(felter_counters *counters, uint64_t now, uint32_t id);
+/* Sets the counter's value. Codes: FELTER_BAD_ID, FELTER_NOT_ALLOCATED. */
 int32_t felter_counter_set(felter_counters *counters, uint32_t id, int64_t value);
-/* Adds `delta` to the value, and writes the value before the addition. A sum that does not fit in 64 bits wraps. */
+/* Adds `delta` to the value, and writes the value before the addition. A sum that does not fit in 64 bits wraps. Codes:
+ * FELTER_BAD_ID, FELTER_NOT_ALLOCATED. */
 int32_t felter_counter_add(felter_counters *counters, uint32_t id, int64_t delta, int64_t *before);
-/* These calls do the same with 1 and with -1 as `delta`. */
+/* Adds 1 to the value as felter_counter_add does, with the same codes. */
 int32_t felter_counter_increment(felter_counters *counters, uint32_t id, int64_t *before);
+/* Adds -1 to the value as felter_counter_add does, with the same codes. */
 int32_t felter_counter_decrement(felter_counters *counters, uint32_t id, int64_t *before);
-/* Sets the value, and writes the value that the counter had before. */
+/* Sets the value, and writes the value that the counter had before. Codes: FELTER_BAD_ID, FELTER_NOT_ALLOCATED. */
 int32_t felter_counter_get_and_set(felter_counters *counters, uint32_t id, int64_t value, int64_t *before);
+/* Writes the counter's value. Codes: FELTER_BAD_ID, FELTER_NOT_ALLOCATED. */
 int32_t felter_counter_value(felter_counters *counters, uint32_t id, int64_t *value);
+/* Writes the counter's type id. Codes: FELTER_BAD_ID, FELTER_NOT_ALLOCATED. */
 int32_t felter_counter_type_id(felter_counters *counters, uint32_t id, int32_t *type_id);
+/* Writes the counter's registration id. Codes: FELTER_BAD_ID, FELTER_NOT_ALLOCATED. */
 int32_t felter_counter_registration(felter_counters *counters, uint32_t id, uint64_t *registration);
+/* Writes the counter's owner, which is 0 if the counter has no owner. Codes: FELTER_BAD_ID, FELTER_NOT_ALLOCATED. */
 int32_t felter_counter_owner(felter_counters *counters, uint32_t id, uint64_t *owner);
 /* Raises the counter's value to `value` if the old value was less. *raised is 1 if the value was raised, and otherwise
- * 0. */
+ * 0. Codes: FELTER_BAD_ID, FELTER_NOT_ALLOCATED. */
 int32_t felter_counter_propose_max(felter_counters *counters, uint32_t id, int64_t value, uint32_t *raised);
 /* Sets the counter's value to `value` if the old value is `expected`. *was_set is 1 if the value was set, and otherwise
- * 0. */
+ * 0. Codes: FELTER_BAD_ID, FELTER_NOT_ALLOCATED. */
 int32_t felter_counter_compare_and_set(felter_counters *counters, uint32_t id, int64_t expected, int64_t value,
                                        uint32_t *was_set);
-/* felter_counter_state writes the state of an id. The state is 0 if the id was never used, 1 if its counter is in use,
- * and -1 if its counter was freed. felter_counter_deadline writes the moment from which the id may be allocated again.
- * This moment is 0 if the id was never used, and 2^63 - 1 if its counter is in use. Both calls can return
- * FELTER_BAD_ID, but never FELTER_NOT_ALLOCATED. */
+/* Writes the state of an id. The state is 0 if the id was never used, 1 if its counter is in use, and -1 if its counter
+ * was freed. Codes: FELTER_BAD_ID. */
 int32_t felter_counter_state(felter_counters *counters, uint32_t id, int32_t *state);
+/* Writes the moment from which an id may be allocated again. This moment is 0 if the id was never used, and 2^63 - 1 if
+ * its counter is in use. Codes: FELTER_BAD_ID. */
 int32_t felter_counter_deadline(felter_counters *counters, uint32_t id, uint64_t *deadline);
 /* Copies the label, which has at most 380 bytes, and writes its length. No 0 is put at the end of the label. Codes:
- * FELTER_SHORT_BUFFER if the room is less than the length. After this code the length is written too. */
+ * FELTER_BAD_ID, FELTER_NOT_ALLOCATED, and FELTER_SHORT_BUFFER if the room is less than the length. After
+ * FELTER_SHORT_BUFFER the length is written too. */
 int32_t felter_counter_label(felter_counters *counters, uint32_t id, size_t *len, void *buffer, size_t room);
-/* Copies the key, which is filled up to 112 bytes with zeros. Codes: FELTER_SHORT_BUFFER if the room is less than 112
- * bytes. */
+/* Copies the key, which is filled up to 112 bytes with zeros. Codes: FELTER_BAD_ID, FELTER_NOT_ALLOCATED, and
+ * FELTER_SHORT_BUFFER if the room is less than 112 bytes. */
 int32_t felter_counter_key(felter_counters *counters, uint32_t id, void *buffer, size_t room);
 /* Finds the lowest id in use that has this type id and registration id. Codes: FELTER_NOT_ALLOCATED if there is no such
  * id. */
@@ -496,10 +513,10 @@ int32_t felter_counters_join(felter_counters *counters, felter_reader *reader);
 /* A shared counter is one number, to which any thread can add. Each thread adds with an adder of its own. The value of
  * the shared counter is the sum of all amounts that were added with all of its adders. A sum that does not fit in 64
  * bits wraps. A shared counter is not one of the counters above. It has no id and no readers. Like a ring, a shared
- * counter has a number, and rule 6 at the head of this file applies to this number.
- *
- * felter_adder_new makes a shared counter with the value 0, and its first adder. This adder holds all 65,536 shares of
- * the shared counter. Codes: FELTER_HANDLE_IN_USE, FELTER_OUT_OF_MEMORY. */
+ * counter has a number, and rule 6 at the head of this file applies to this number. */
+
+/* Makes a shared counter with the value 0, and its first adder. This adder holds all 65,536 shares of the shared
+ * counter. Codes: FELTER_HANDLE_IN_USE, FELTER_OUT_OF_MEMORY. */
 int32_t felter_adder_new_numbered(uint64_t number, felter_adder *adder);
 static inline int32_t felter_adder_new(felter_adder *adder);
 /* Makes `other` another adder of the same shared counter, for another thread. `other` gets one share of `adder`. If
@@ -521,13 +538,13 @@ int32_t felter_adder_shares(felter_adder *adder, uint32_t *shares);
 
 /* A conductor owns counters. Clients on other threads send commands to the conductor through a many-to-one ring. The
  * conductor applies each command to the counters, and transmits one reply on a board. The reply has the correlation id
- * of the command.
- *
- * These calls make a conductor. The ring for commands has `capacity` bytes, which must be a power of two from 128 to
- * 2^24. The board for replies has `replies` bytes, which must be a power of two from 256 to 2^24. The ids of the
- * counters are below `counters`, which must be from 1 to 4,096. A freed id is not allocated again for `reuse_ms`
- * milliseconds. Codes, in this order: FELTER_HANDLE_IN_USE, FELTER_BAD_CAPACITY for the ring, FELTER_BAD_CAPACITY for
- * the board, FELTER_BAD_COUNT, FELTER_OUT_OF_MEMORY. */
+ * of the command. */
+
+/* Makes a conductor. The ring for commands has `capacity` bytes, which must be a power of two from 128 to 2^24. The
+ * board for replies has `replies` bytes, which must be a power of two from 256 to 2^24. The ids of the counters are
+ * below `counters`, which must be from 1 to 4,096. A freed id is not allocated again for `reuse_ms` milliseconds.
+ * Codes, in this order: FELTER_HANDLE_IN_USE, FELTER_BAD_CAPACITY for the ring, FELTER_BAD_CAPACITY for the board,
+ * FELTER_BAD_COUNT, FELTER_OUT_OF_MEMORY. */
 int32_t felter_conductor_new_numbered(uint64_t number, uint32_t capacity, uint32_t replies, uint32_t counters,
                                       uint32_t reuse_ms, felter_conductor *conductor);
 static inline int32_t felter_conductor_new(uint32_t capacity, uint32_t replies, uint32_t counters, uint32_t reuse_ms,
@@ -551,22 +568,33 @@ enum felter_stop {
  * call then takes no command. */
 int32_t felter_conductor_work(felter_conductor *conductor, uint64_t now, uint32_t limit, uint64_t *messages,
                               int32_t *stopped);
-/* felter_conductor_set_heartbeat stores a heartbeat, which is any number. felter_client_heartbeat loads the heartbeat
- * that was stored last. The heartbeat is 0 before the conductor stores one. */
+/* Stores a heartbeat, which may be any number. */
 int32_t felter_conductor_set_heartbeat(felter_conductor *conductor, uint64_t value);
+/* Loads the heartbeat that the conductor stored last. The heartbeat is 0 before the conductor stores one. */
 int32_t felter_client_heartbeat(felter_client *client, uint64_t *value);
 
 /* These calls read the conductor's counters, on the thread that uses the conductor. Each of them does the same as the
- * call for felter_counters whose name has the same ending. */
+ * call for felter_counters whose name has the same ending, with the same codes. */
+
+/* Finds the lowest id in use that has this type id and registration id, as felter_counter_find does. */
 int32_t felter_conductor_find(felter_conductor *conductor, int32_t type_id, uint64_t registration, uint32_t *id);
+/* Writes the number of ids, whether they are in use or not, as felter_counters_count does. */
 int32_t felter_conductor_count(felter_conductor *conductor, uint32_t *count);
+/* Writes the value of a counter, as felter_counter_value does. */
 int32_t felter_conductor_value(felter_conductor *conductor, uint32_t id, int64_t *value);
+/* Writes the type id of a counter, as felter_counter_type_id does. */
 int32_t felter_conductor_type_id(felter_conductor *conductor, uint32_t id, int32_t *type_id);
+/* Writes the registration id of a counter, as felter_counter_registration does. */
 int32_t felter_conductor_registration(felter_conductor *conductor, uint32_t id, uint64_t *registration);
+/* Writes the owner of a counter, as felter_counter_owner does. */
 int32_t felter_conductor_owner(felter_conductor *conductor, uint32_t id, uint64_t *owner);
+/* Writes the state of an id, as felter_counter_state does. */
 int32_t felter_conductor_state(felter_conductor *conductor, uint32_t id, int32_t *state);
+/* Writes the moment from which an id may be allocated again, as felter_counter_deadline does. */
 int32_t felter_conductor_deadline(felter_conductor *conductor, uint32_t id, uint64_t *deadline);
+/* Copies the label of a counter, and writes its length, as felter_counter_label does. */
 int32_t felter_conductor_label(felter_conductor *conductor, uint32_t id, size_t *len, void *buffer, size_t room);
+/* Copies the key of a counter, as felter_counter_key does. */
 int32_t felter_conductor_key(felter_conductor *conductor, uint32_t id, void *buffer, size_t room);
 
 /* Makes a receiver of the replies, for felter_receive and felter_lapped_count. Otherwise the call is the same as
@@ -576,11 +604,14 @@ int32_t felter_conductor_subscribe(felter_conductor *conductor, felter_receiver 
  * felter_counters_reader. */
 int32_t felter_conductor_reader(felter_conductor *conductor, felter_reader *reader);
 
-/* These calls take back a client, a receiver or a reader of this conductor with its shares, and empty the handle. A
- * client that was taken back receives no further replies. Codes: FELTER_OTHER_RING if the handle is of another
- * conductor, or if felter_subscribe or felter_counters_reader made it. */
+/* Takes back a client of this conductor with its shares, and empties the client's handle. The client receives no
+ * further replies. Codes: FELTER_OTHER_RING if the client is of another conductor. */
 int32_t felter_conductor_join(felter_conductor *conductor, felter_client *client);
+/* Takes back a receiver of this conductor with its share, and empties the receiver's handle. Codes: FELTER_OTHER_RING
+ * if the receiver is of another conductor, or if felter_subscribe made it. */
 int32_t felter_conductor_join_receiver(felter_conductor *conductor, felter_receiver *receiver);
+/* Takes back a reader of this conductor with its share, and empties the reader's handle. Codes: FELTER_OTHER_RING if
+ * the reader is of another conductor, or if felter_counters_reader made it. */
 int32_t felter_conductor_join_reader(felter_conductor *conductor, felter_reader *reader);
 
 /* Ends a conductor whose clients, receivers and readers were all taken back or freed, and empties its handle. Writes
@@ -594,26 +625,26 @@ int32_t felter_conductor_join_reader(felter_conductor *conductor, felter_reader 
  *   - FELTER_IN_USE otherwise. */
 int32_t felter_conductor_finish(felter_conductor *conductor, uint64_t *received, uint64_t *left);
 
-/* Each of these calls tries once to send one command, and writes the correlation id that was drawn for it. The reply
- * says whether the conductor applied or refused the command. Codes:
+/* Tries once to send a command that allocates a counter with the value 0, and writes the correlation id that was drawn
+ * for the command. The reply says whether the conductor applied or refused the command. The registration id of the
+ * counter is the correlation id of the command. The command takes 20 bytes, plus the bytes of the key and the label.
+ * Codes:
  *   - FELTER_TOO_LONG if the command takes more than 520 bytes, or more than an eighth of the ring's capacity. No id is
  *     drawn for a command of more than 520 bytes;
  *   - FELTER_POSITION_LIMIT, FELTER_INSUFFICIENT_CAPACITY, FELTER_CONTENDED.
- * If one of these calls refuses a command for which an id was drawn, no other command gets that id.
- *
- * felter_send_allocate allocates a counter with the value 0. The registration id of the counter is the correlation id
- * of the command. The command takes 20 bytes, plus the bytes of the key and the label. */
+ * If the call refuses a command for which an id was drawn, no other command gets that id. */
 int32_t felter_send_allocate(felter_client *client, int32_t type_id, const void *key, size_t key_len,
                              const void *label, size_t label_len, uint64_t *id);
-/* Allocates a counter with an owner. Otherwise the call is the same as felter_send_allocate. The owner 0 means that the
- * counter has no owner. The command takes 8 bytes more. */
+/* Tries once to send a command that allocates a counter with an owner. Otherwise the call is the same as
+ * felter_send_allocate. The owner 0 means that the counter has no owner. The command takes 8 bytes more. */
 int32_t felter_send_allocate_owned(felter_client *client, int32_t type_id, uint64_t owner, const void *key,
                                    size_t key_len, const void *label, size_t label_len, uint64_t *id);
-/* Frees a counter. */
+/* Tries once to send a command that frees a counter, as felter_send_allocate sends one, with the same codes. */
 int32_t felter_send_free(felter_client *client, uint32_t counter, uint64_t *id);
-/* Sets a counter's value. */
+/* Tries once to send a command that sets a counter's value, as felter_send_allocate sends one, with the same codes. */
 int32_t felter_send_set(felter_client *client, uint32_t counter, int64_t value, uint64_t *id);
-/* Frees each counter of an owner. */
+/* Tries once to send a command that frees each counter of an owner, as felter_send_allocate sends one, with the same
+ * codes. */
 int32_t felter_send_close_owner(felter_client *client, uint64_t owner, uint64_t *id);
 
 /* The kinds of replies. Each number is the type id of the reply's message. */

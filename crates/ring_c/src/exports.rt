@@ -1,4 +1,5 @@
 //! What C calls.
+// Written by c/bindings from felter.h and exports.txt. To change this file, change them and run c/bindings.
 pub(crate) mod adding;
 pub(crate) mod asking;
 pub(crate) mod boards;

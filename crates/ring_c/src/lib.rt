@@ -5,15 +5,13 @@
 #![tactic(auto)]
 
 mod exports;
+mod work_on;
 
-// (in one group `rt fmt` lays out at most 100 names side by side)
+// The rest of this file is written by c/bindings.
 pub use exports::adding::{
     felter_adder_add, felter_adder_join, felter_adder_new_numbered, felter_adder_shares,
     felter_adder_split, felter_adder_value,
 };
-
-mod work_on;
-
 pub use exports::asking::{
     felter_conductor_count, felter_conductor_deadline, felter_conductor_find, felter_conductor_key,
     felter_conductor_label, felter_conductor_owner, felter_conductor_registration,
@@ -73,6 +71,8 @@ pub use exports::raw::{
     felter_validate,
 };
 pub use exports::reading::{felter_counters_reader, felter_reader_value};
+
+// (apart, since of more than 100 names in one group `rt fmt` puts each on a line of its own)
 pub use exports::records::{
     felter_counter_deadline, felter_counter_propose_max, felter_counter_state,
 };

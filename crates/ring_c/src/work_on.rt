@@ -1,4 +1,7 @@
 //! What calls of handles have in common.
+ghost use Rattle.ring_c.specs.Told.{ClosesHeld};
+
+use ring_handles::Held;
 
 /// Works on what a handle holds, if it is of this kind, and returns the code of that. An empty handle returns 100, and
 /// one of another kind 101.
@@ -171,3 +174,14 @@ pub(crate) use join_into;
 pub(crate) use make_for;
 pub(crate) use make_into;
 pub(crate) use work_on;
+
+/// Returns what is dropped of what a handle owned: the same, but every open claim of a producer is aborted, so that the
+/// consumer skips it. `felter_free` calls this. No clause can say it of a handle that is empty afterwards, so a test does.
+pub(crate) fn settled(mut held: Box<Held>) -> Box<Held>
+    ensures { ClosesHeld held.value result.value }
+{
+    if let Held::Producer(side) = &mut *held {
+        side.abort_open();
+    }
+    held
+}

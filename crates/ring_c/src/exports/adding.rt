@@ -1,14 +1,15 @@
 //! Shared counters, and their adders.
-ghost use Rattle.std.specs.Prelude.{◌≡◌};
-ghost use Rattle.ring_handles.specs.Adding.{IsOfAnother, IsOfThisCounter, SaysShares, SaysSum, SplitsAdder};
-ghost use Rattle.ring_handles.specs.{Adding.Summed, Adding.TakesAdder, Adding.WhyNotSplit, Kinds.an_adder};
+// Written by c/bindings from felter.h and exports.txt. To change this file, change them and run c/bindings.
 ghost use Rattle.ring_c.specs.Told.{GivesInto, JoinsInto, OpensAdder, WhereBoth, Yields};
+ghost use Rattle.ring_handles.specs.Adding.{WhyNotSplit, IsOfAnother, IsOfThisCounter, SaysShares, SaysSum};
+ghost use Rattle.ring_handles.specs.{Adding.SplitsAdder, Adding.Summed, Adding.TakesAdder, Kinds.an_adder};
 
 use crate::work_on::{fill, join_into, make_into, work_on};
 use ring_handles::{Handle, Identity, open_adder};
 use std::alloc::Global;
 
-/// Makes a shared counter of value 0, with an adder that holds all shares.
+/// Makes a shared counter with the value 0, and its first adder. This adder holds all 65,536 shares of the shared
+/// counter. Codes: FELTER_HANDLE_IN_USE, FELTER_OUT_OF_MEMORY.
 #[unsafe(no_mangle)]
 pub extern "C" fn felter_adder_new_numbered(alloc: Global, number: u64, adder: &mut Handle) -> i32
     ensures { OpensAdder number adder.old.held adder.new.held result }
@@ -16,7 +17,9 @@ pub extern "C" fn felter_adder_new_numbered(alloc: Global, number: u64, adder: &
     fill!(adder, alloc, open_adder(alloc, Identity { number }))
 }
 
-/// Makes another adder of the same shared counter, for another thread, with one share.
+/// Makes `other` another adder of the same shared counter, for another thread. `other` gets one share of `adder`. If
+/// `other` is freed without felter_adder_join, its additions stay in the value, and its shares are lost. Codes:
+/// FELTER_NO_SHARES if `adder` has one share, FELTER_OUT_OF_MEMORY, FELTER_HANDLE_IN_USE.
 #[unsafe(no_mangle)]
 pub extern "C" fn felter_adder_split(alloc: Global, adder: &mut Handle, other: &mut Handle) -> i32
     ensures { GivesInto an_adder an_adder SplitsAdder WhyNotSplit adder.old.held other.old.held adder.new.held
@@ -25,8 +28,8 @@ pub extern "C" fn felter_adder_split(alloc: Global, adder: &mut Handle, other: &
     make_into!(adder, alloc, Adder(side) => side.split(), other, Adder)
 }
 
-/// Takes another adder of the same shared counter in, with its shares, and empties its handle. Returns 108 for an adder
-/// of another shared counter, as its number says; both handles are unchanged then.
+/// Joins `other` to `adder`, which is an adder of the same shared counter. The shares of `other` go to `adder`, and the
+/// handle `other` is empty afterwards. Codes: FELTER_OTHER_RING.
 #[unsafe(no_mangle)]
 pub extern "C" fn felter_adder_join(alloc: Global, adder: &mut Handle, other: &mut Handle) -> i32
     requires { WhereBoth an_adder an_adder IsOfThisCounter adder.old.held other.old.held }
@@ -36,7 +39,7 @@ pub extern "C" fn felter_adder_join(alloc: Global, adder: &mut Handle, other: &m
     join_into!(adder, other, alloc, Adder(side), Adder(joining) => side.join(joining))
 }
 
-/// Adds to the shared counter, which wraps, and puts out the value before.
+/// Adds `delta` to the value of the shared counter, and writes the value before the addition.
 #[unsafe(no_mangle)]
 pub extern "C" fn felter_adder_add(
     alloc: Global,
@@ -49,7 +52,8 @@ pub extern "C" fn felter_adder_add(
     work_on!(adder, alloc, Adder(side) => side.add(delta, before))
 }
 
-/// Loads the value of the shared counter: the sum of all that was added.
+/// Loads the value. If the adder holds all 65,536 shares, no other adder exists. The value is then exactly the sum of
+/// the amounts that were added with this adder and with the adders that were joined to it.
 #[unsafe(no_mangle)]
 pub extern "C" fn felter_adder_value(alloc: Global, adder: &mut Handle, value: &mut i64) -> i32
     ensures { Yields an_adder (λ _ told. SaysSum told) value.old value.new adder.old.held adder.new.held result }
@@ -57,7 +61,7 @@ pub extern "C" fn felter_adder_value(alloc: Global, adder: &mut Handle, value: &
     work_on!(adder, alloc, Adder(side) => side.value(value))
 }
 
-/// Puts out how many shares the adder holds.
+/// Writes how many of the 65,536 shares the adder holds.
 #[unsafe(no_mangle)]
 pub extern "C" fn felter_adder_shares(alloc: Global, adder: &mut Handle, shares: &mut u32) -> i32
     ensures { Yields an_adder (λ _ told. SaysShares told) shares.old shares.new adder.old.held adder.new.held result }

@@ -1,14 +1,15 @@
 //! What a conductor's counters are asked.
-ghost use Rattle.ring_counters.specs.{Counter.deadline_of, Counter.state_of, Registry.counter_at};
-ghost use Rattle.ring_handles.specs.{Conducting.AsksIts, Kinds.a_conductor};
-ghost use Rattle.ring_handles.specs.Counting.{label_out, TellsCount, TellsFound, TellsKey, TellsLabel, TellsOf, TellsOfRecord};
+// Written by c/bindings from felter.h and exports.txt. To change this file, change them and run c/bindings.
 ghost use Rattle.ring_c.specs.Told.{Yields};
+ghost use Rattle.ring_counters.specs.{Counter.deadline_of, Counter.state_of, Registry.counter_at};
+ghost use Rattle.ring_handles.specs.{Conducting.AsksIts, Counting.TellsOfRecord, Kinds.a_conductor};
+ghost use Rattle.ring_handles.specs.Counting.{label_out, TellsCount, TellsFound, TellsKey, TellsLabel, TellsOf};
 
 use crate::work_on::work_on;
 use ring_handles::Handle;
 use std::alloc::Global;
 
-/// Finds the lowest id in use of a type and a registration id.
+/// Finds the lowest id in use that has this type id and registration id, as felter_counter_find does.
 #[unsafe(no_mangle)]
 pub extern "C" fn felter_conductor_find(
     alloc: Global,
@@ -23,20 +24,19 @@ pub extern "C" fn felter_conductor_find(
     work_on!(conductor, alloc, Conductor(side) => side.find(type_id, registration, id))
 }
 
-/// Puts out how many ids there are, in use or not.
+/// Writes the number of ids, whether they are in use or not, as felter_counters_count does.
 #[unsafe(no_mangle)]
 pub extern "C" fn felter_conductor_count(
     alloc: Global,
     conductor: &mut Handle,
     count: &mut u32,
 ) -> i32
-    ensures { Yields a_conductor (AsksIts TellsCount) count.old count.new conductor.old.held conductor.new.held
-        result }
+    ensures { Yields a_conductor (AsksIts TellsCount) count.old count.new conductor.old.held conductor.new.held result }
 {
     work_on!(conductor, alloc, Conductor(side) => side.count(count))
 }
 
-/// Copies a counter's label to the front of a buffer, and puts its length out.
+/// Copies the label of a counter, and writes its length, as felter_counter_label does.
 #[unsafe(no_mangle)]
 pub extern "C" fn felter_conductor_label(
     alloc: Global,
@@ -51,7 +51,7 @@ pub extern "C" fn felter_conductor_label(
     work_on!(conductor, alloc, Conductor(side) => side.label(id, len, buffer))
 }
 
-/// Copies a counter's key of 112 bytes, with zeros after a short one, to the front of a buffer.
+/// Copies the key of a counter, as felter_counter_key does.
 #[unsafe(no_mangle)]
 pub extern "C" fn felter_conductor_key(
     alloc: Global,
@@ -65,7 +65,7 @@ pub extern "C" fn felter_conductor_key(
     work_on!(conductor, alloc, Conductor(side) => side.key(id, buffer))
 }
 
-/// Puts out a counter's value.
+/// Writes the value of a counter, as felter_counter_value does.
 #[unsafe(no_mangle)]
 pub extern "C" fn felter_conductor_value(
     alloc: Global,
@@ -79,7 +79,7 @@ pub extern "C" fn felter_conductor_value(
     work_on!(conductor, alloc, Conductor(side) => side.value(id, value))
 }
 
-/// Puts out a counter's type.
+/// Writes the type id of a counter, as felter_counter_type_id does.
 #[unsafe(no_mangle)]
 pub extern "C" fn felter_conductor_type_id(
     alloc: Global,
@@ -87,13 +87,13 @@ pub extern "C" fn felter_conductor_type_id(
     id: u32,
     type_id: &mut i32,
 ) -> i32
-    ensures { Yields a_conductor (AsksIts (TellsOf (λ r. (counter_at r id).metadata.type_id) id)) type_id.old type_id.new
-        conductor.old.held conductor.new.held result }
+    ensures { Yields a_conductor (AsksIts (TellsOf (λ r. (counter_at r id).metadata.type_id) id)) type_id.old
+        type_id.new conductor.old.held conductor.new.held result }
 {
     work_on!(conductor, alloc, Conductor(side) => side.type_id(id, type_id))
 }
 
-/// Puts out a counter's registration id.
+/// Writes the registration id of a counter, as felter_counter_registration does.
 #[unsafe(no_mangle)]
 pub extern "C" fn felter_conductor_registration(
     alloc: Global,
@@ -101,13 +101,13 @@ pub extern "C" fn felter_conductor_registration(
     id: u32,
     registration: &mut u64,
 ) -> i32
-    ensures { Yields a_conductor (AsksIts (TellsOf (λ r. (counter_at r id).values.registration) id)) registration.old registration.new
-        conductor.old.held conductor.new.held result }
+    ensures { Yields a_conductor (AsksIts (TellsOf (λ r. (counter_at r id).values.registration) id)) registration.old
+        registration.new conductor.old.held conductor.new.held result }
 {
     work_on!(conductor, alloc, Conductor(side) => side.registration(id, registration))
 }
 
-/// Puts out a counter's owner, 0 for none.
+/// Writes the owner of a counter, as felter_counter_owner does.
 #[unsafe(no_mangle)]
 pub extern "C" fn felter_conductor_owner(
     alloc: Global,
@@ -121,7 +121,7 @@ pub extern "C" fn felter_conductor_owner(
     work_on!(conductor, alloc, Conductor(side) => side.owner(id, owner))
 }
 
-/// Puts out the state of a record: 0 if it was never used, 1 if the counter is in use, -1 if it was freed.
+/// Writes the state of an id, as felter_counter_state does.
 #[unsafe(no_mangle)]
 pub extern "C" fn felter_conductor_state(
     alloc: Global,
@@ -129,13 +129,13 @@ pub extern "C" fn felter_conductor_state(
     id: u32,
     state: &mut i32,
 ) -> i32
-    ensures { Yields a_conductor (AsksIts (TellsOfRecord (λ r. state_of (counter_at r id).metadata.status) id)) state.old state.new
-        conductor.old.held conductor.new.held result }
+    ensures { Yields a_conductor (AsksIts (TellsOfRecord (λ r. state_of (counter_at r id).metadata.status) id))
+        state.old state.new conductor.old.held conductor.new.held result }
 {
     work_on!(conductor, alloc, Conductor(side) => side.state(id, state))
 }
 
-/// Puts out the moment from which an id may be allocated again.
+/// Writes the moment from which an id may be allocated again, as felter_counter_deadline does.
 #[unsafe(no_mangle)]
 pub extern "C" fn felter_conductor_deadline(
     alloc: Global,
@@ -143,8 +143,8 @@ pub extern "C" fn felter_conductor_deadline(
     id: u32,
     deadline: &mut u64,
 ) -> i32
-    ensures { Yields a_conductor (AsksIts (TellsOfRecord (λ r. deadline_of (counter_at r id).metadata.status) id)) deadline.old deadline.new
-        conductor.old.held conductor.new.held result }
+    ensures { Yields a_conductor (AsksIts (TellsOfRecord (λ r. deadline_of (counter_at r id).metadata.status) id))
+        deadline.old deadline.new conductor.old.held conductor.new.held result }
 {
     work_on!(conductor, alloc, Conductor(side) => side.deadline(id, deadline))
 }

@@ -1,14 +1,16 @@
 //! What handles of a broadcast buffer do.
-ghost use Rattle.std.specs.Prelude.{◌≡◌};
-ghost use Rattle.ring_handles.specs.Boards.{heard_out, IsUnheard, Received, SaysLapped, Subscribes, Transmitted};
-ghost use Rattle.ring_handles.specs.Kinds.{a_receiver, a_transmitter};
+// Written by c/bindings from felter.h and exports.txt. To change this file, change them and run c/bindings.
 ghost use Rattle.ring_c.specs.Told.{GivesInto, OpensBoard, Uses, Yields};
+ghost use Rattle.ring_handles.specs.Boards.{IsUnheard, heard_out, Received, SaysLapped, Subscribes, Transmitted};
+ghost use Rattle.ring_handles.specs.Kinds.{a_receiver, a_transmitter};
 
 use crate::work_on::{fill, make_into, work_on};
 use ring_handles::{Handle, Identity, open_board};
 use std::alloc::Global;
 
-/// Makes a broadcast buffer that starts at 0, with its transmitter.
+/// Makes a board of `capacity` bytes and its transmitter. A board has 65,536 shares, and the transmitter begins with
+/// all of them. The capacity must be a power of two from 256 to 2^24. Positions begin at 0. Codes: FELTER_BAD_CAPACITY,
+/// FELTER_OUT_OF_MEMORY, FELTER_HANDLE_IN_USE.
 #[unsafe(no_mangle)]
 pub extern "C" fn felter_board_new_numbered(
     alloc: Global,
@@ -25,7 +27,8 @@ pub extern "C" fn felter_board_new_numbered(
     )
 }
 
-/// Makes a broadcast buffer that starts at a multiple of its capacity, with its transmitter.
+/// Makes a board whose positions begin at `start`. Otherwise the call is the same as felter_board_new. Codes: also
+/// FELTER_BAD_START.
 #[unsafe(no_mangle)]
 pub extern "C" fn felter_board_new_at_numbered(
     alloc: Global,
@@ -43,7 +46,7 @@ pub extern "C" fn felter_board_new_at_numbered(
     )
 }
 
-/// Transmits a message. It never waits.
+/// Transmits a message. Codes: FELTER_BAD_TYPE, FELTER_TOO_LONG, FELTER_POSITION_LIMIT.
 #[unsafe(no_mangle)]
 pub extern "C" fn felter_transmit(
     alloc: Global,
@@ -56,7 +59,10 @@ pub extern "C" fn felter_transmit(
     work_on!(transmitter, alloc, Transmitter(side) => side.transmit(type_id, body))
 }
 
-/// Makes a receiver, which starts with the record at latest.
+/// Makes a receiver, which starts with the message that was transmitted last. The receiver gets one share of the
+/// transmitter. This share is lost if the receiver is freed without felter_board_join. Codes: FELTER_NO_SHARES,
+/// FELTER_OUT_OF_MEMORY, FELTER_HANDLE_IN_USE. FELTER_NO_SHARES is returned, for example, after 65,535 receivers were
+/// freed in this way.
 #[unsafe(no_mangle)]
 pub extern "C" fn felter_subscribe(
     alloc: Global,
@@ -69,7 +75,12 @@ pub extern "C" fn felter_subscribe(
     make_into!(transmitter, alloc, Transmitter(side) => side.subscribe(alloc), receiver, Receiver)
 }
 
-/// Receives the next message into a buffer that has room for the longest one, or says how often it was lapped.
+/// Copies the next message into a buffer. Codes:
+/// - FELTER_NO_MESSAGE;
+/// - FELTER_LAPPED if the transmitter overtook the receiver. *lapped is then the number of times that the receiver was
+///   lapped. The next call goes on with the message that was transmitted last;
+/// - FELTER_SHORT_BUFFER if the room is less than an eighth of the capacity, even if the message is short. *len is then
+///   an eighth of the capacity, and no message is taken.
 #[unsafe(no_mangle)]
 pub extern "C" fn felter_receive(
     alloc: Global,
@@ -85,7 +96,7 @@ pub extern "C" fn felter_receive(
     work_on!(receiver, alloc, Receiver(side) => side.receive(type_id, len, lapped, buffer))
 }
 
-/// Says how often the receiver was lapped.
+/// Writes how often the receiver was lapped.
 #[unsafe(no_mangle)]
 pub extern "C" fn felter_lapped_count(alloc: Global, receiver: &mut Handle, count: &mut u64) -> i32
     ensures { Yields a_receiver (λ _ told. SaysLapped told) count.old count.new receiver.old.held receiver.new.held

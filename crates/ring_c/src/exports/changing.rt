@@ -1,14 +1,15 @@
 //! How a handle of counters changes a value, and puts out what it was.
-ghost use Rattle.std.specs.Prelude.{pos, negsuc};
+// Written by c/bindings from felter.h and exports.txt. To change this file, change them and run c/bindings.
+ghost use Rattle.ring_c.specs.Told.{Yields};
 ghost use Rattle.ring_handles.specs.Counting.{WasAdded, WasCompared, WasReplaced};
 ghost use Rattle.ring_handles.specs.Kinds.{some_counters};
-ghost use Rattle.ring_c.specs.Told.{Yields};
+ghost use Rattle.std.specs.Prelude.{pos, negsuc};
 
 use crate::work_on::work_on;
 use ring_handles::Handle;
 use std::alloc::Global;
 
-/// Adds 1 to a counter's value, which wraps, and puts out the value before.
+/// Adds 1 to the value as felter_counter_add does, with the same codes.
 #[unsafe(no_mangle)]
 pub extern "C" fn felter_counter_increment(
     alloc: Global,
@@ -22,7 +23,7 @@ pub extern "C" fn felter_counter_increment(
     work_on!(counters, alloc, Counters(side) => side.increment(id, before))
 }
 
-/// Subtracts 1 from a counter's value, which wraps, and puts out the value before.
+/// Adds -1 to the value as felter_counter_add does, with the same codes.
 #[unsafe(no_mangle)]
 pub extern "C" fn felter_counter_decrement(
     alloc: Global,
@@ -36,7 +37,7 @@ pub extern "C" fn felter_counter_decrement(
     work_on!(counters, alloc, Counters(side) => side.decrement(id, before))
 }
 
-/// Sets a counter's value, and puts out the value before.
+/// Sets the value, and writes the value that the counter had before. Codes: FELTER_BAD_ID, FELTER_NOT_ALLOCATED.
 #[unsafe(no_mangle)]
 pub extern "C" fn felter_counter_get_and_set(
     alloc: Global,
@@ -51,7 +52,8 @@ pub extern "C" fn felter_counter_get_and_set(
     work_on!(counters, alloc, Counters(side) => side.get_and_set(id, value, before))
 }
 
-/// Sets a counter's value if it is the expected one, and puts out 1, or otherwise 0.
+/// Sets the counter's value to `value` if the old value is `expected`. *was_set is 1 if the value was set, and
+/// otherwise 0. Codes: FELTER_BAD_ID, FELTER_NOT_ALLOCATED.
 #[unsafe(no_mangle)]
 pub extern "C" fn felter_counter_compare_and_set(
     alloc: Global,

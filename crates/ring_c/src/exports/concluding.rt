@@ -1,14 +1,20 @@
 //! Conductors that end.
+// Written by c/bindings from felter.h and exports.txt. To change this file, change them and run c/bindings.
 ghost use Rattle.ring_c.specs.Told.{counts, Ends};
 
 use crate::work_on::end_with;
 use ring_handles::Handle;
 use std::alloc::Global;
 
-/// Ends a conductor, empties its handle, and says how many commands it received and how many were left in the ring.
-/// Clients and receivers that were freed are not missed. If another handle has what the conductor shares, it returns 11
-/// if shares of the ring are missing, then 14 if shares of the broadcast buffer are, and otherwise 110; the handle is
-/// unchanged then.
+/// Ends a conductor whose clients, receivers and readers were all taken back or freed, and empties its handle. Writes
+/// how many commands the conductor received in all, and how many commands were still in the ring. Commands that were
+/// still in the ring get no reply.
+///
+/// If a client, a receiver or a reader is still in a handle, the call refuses, and can be made again later. Codes, in
+/// this order:
+/// - FELTER_PRODUCERS_OUT if a client is still in a handle;
+/// - FELTER_RECEIVERS_OUT if a receiver is still in a handle;
+/// - FELTER_IN_USE otherwise.
 #[unsafe(no_mangle)]
 pub extern "C" fn felter_conductor_finish(
     alloc: Global,
@@ -16,8 +22,8 @@ pub extern "C" fn felter_conductor_finish(
     received: &mut u64,
     left: &mut u64,
 ) -> i32
-    ensures { Ends (counts received.old left.old) (counts received.new left.new) conductor.old.held
-        conductor.new.held result }
+    ensures { Ends (counts received.old left.old) (counts received.new left.new) conductor.old.held conductor.new.held
+        result }
 {
     end_with!(conductor, alloc, Conductor(side) => side.finish(), ended => {
         *received = ended.received;

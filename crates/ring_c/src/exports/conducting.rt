@@ -1,14 +1,18 @@
 //! What handles of conductors do.
-ghost use Rattle.std.specs.Prelude.{◌≡◌};
+// Written by c/bindings from felter.h and exports.txt. To change this file, change them and run c/bindings.
+ghost use Rattle.ring_c.specs.Told.{GivesInto, OpensConductor, Uses, Yields};
 ghost use Rattle.ring_handles.specs.Conducting.{report_out, ConductorBeat, Hires, IsUnhired, Worked};
 ghost use Rattle.ring_handles.specs.Kinds.{a_client, a_conductor};
-ghost use Rattle.ring_c.specs.Told.{GivesInto, OpensConductor, Uses, Yields};
 
 use crate::work_on::{fill, make_into, work_on};
 use ring_handles::{Handle, Identity, Sizes, open_conductor};
 use std::alloc::Global;
 
-/// Makes a conductor, with a ring for the commands, a broadcast buffer for the replies, and counters.
+/// Makes a conductor. The ring for commands has `capacity` bytes, which must be a power of two from 128 to 2^24. The
+/// board for replies has `replies` bytes, which must be a power of two from 256 to 2^24. The ids of the counters are
+/// below `counters`, which must be from 1 to 4,096. A freed id is not allocated again for `reuse_ms` milliseconds.
+/// Codes, in this order: FELTER_HANDLE_IN_USE, FELTER_BAD_CAPACITY for the ring, FELTER_BAD_CAPACITY for the board,
+/// FELTER_BAD_COUNT, FELTER_OUT_OF_MEMORY.
 #[unsafe(no_mangle)]
 pub extern "C" fn felter_conductor_new_numbered(
     alloc: Global,
@@ -34,7 +38,10 @@ pub extern "C" fn felter_conductor_new_numbered(
     )
 }
 
-/// Makes a client, with one share of the ring and one of the broadcast buffer.
+/// Makes a client, which starts with the reply that was transmitted last. The ring and the board have 65,536 shares
+/// each, and the client gets one share of each. Both shares are lost if the client is freed without
+/// felter_conductor_join. The conductor can finish without such a client. If the call refuses, no share is lost. Codes:
+/// FELTER_HANDLE_IN_USE, FELTER_NO_SHARES for the ring or the board, FELTER_OUT_OF_MEMORY.
 #[unsafe(no_mangle)]
 pub extern "C" fn felter_conductor_client(
     alloc: Global,
@@ -47,7 +54,9 @@ pub extern "C" fn felter_conductor_client(
     make_into!(conductor, alloc, Conductor(side) => side.client(alloc), client, Client)
 }
 
-/// Takes up to `limit` commands at the moment `now`, and says how many it took and why it stopped.
+/// Takes up to `limit` commands. Each command is applied at the moment `now`, and the reply to it is transmitted.
+/// Writes how many commands were taken (possibly 0), and why the call stopped (enum felter_stop). Codes:
+/// FELTER_BAD_MOMENT. The call then takes no command.
 #[unsafe(no_mangle)]
 pub extern "C" fn felter_conductor_work(
     alloc: Global,
@@ -63,7 +72,7 @@ pub extern "C" fn felter_conductor_work(
     work_on!(conductor, alloc, Conductor(side) => side.work(now, limit, messages, stopped))
 }
 
-/// Stores the heartbeat that clients load.
+/// Stores a heartbeat, which may be any number.
 #[unsafe(no_mangle)]
 pub extern "C" fn felter_conductor_set_heartbeat(
     alloc: Global,

@@ -1,15 +1,17 @@
 //! What a handle of counters does.
-ghost use Rattle.ring_counters.specs.Registry.{counter_at};
-ghost use Rattle.ring_handles.specs.Counting.{label_out, Asked, Asks, OwnerClosed, TellsAvailable, TellsCount, TellsKey, TellsLabel};
-ghost use Rattle.ring_handles.specs.Counting.{WasAdded, WasAllocated, WasFound, WasFreed, WasSet};
-ghost use Rattle.ring_handles.specs.Kinds.{some_counters};
+// Written by c/bindings from felter.h and exports.txt. To change this file, change them and run c/bindings.
 ghost use Rattle.ring_c.specs.Told.{Uses, Yields};
+ghost use Rattle.ring_counters.specs.Registry.{counter_at};
+ghost use Rattle.ring_handles.specs.Counting.{label_out, Asked, Asks, OwnerClosed, TellsAvailable, TellsCount};
+ghost use Rattle.ring_handles.specs.Counting.{TellsKey, TellsLabel, WasAdded, WasAllocated, WasFound, WasFreed, WasSet};
+ghost use Rattle.ring_handles.specs.Kinds.{some_counters};
 
 use crate::work_on::work_on;
 use ring_handles::{Handle, Wanted};
 use std::alloc::Global;
 
-/// Allocates a counter of value 0, and says its id.
+/// Allocates a counter with the value 0 at the moment `now`, and writes its id. Codes: FELTER_KEY_TOO_LONG,
+/// FELTER_LABEL_TOO_LONG, FELTER_LABEL_NOT_ASCII, FELTER_NO_FREE_COUNTER.
 #[unsafe(no_mangle)]
 pub extern "C" fn felter_counter_allocate(
     alloc: Global,
@@ -35,7 +37,8 @@ pub extern "C" fn felter_counter_allocate(
     work_on!(counters, alloc, Counters(side) => side.allocate(wanted, id))
 }
 
-/// Allocates a counter of value 0 for an owner, and says its id.
+/// Allocates a counter with an owner. Otherwise the call is the same as felter_counter_allocate. The owner 0 means that
+/// the counter has no owner.
 #[unsafe(no_mangle)]
 pub extern "C" fn felter_counter_allocate_owned(
     alloc: Global,
@@ -62,7 +65,7 @@ pub extern "C" fn felter_counter_allocate_owned(
     work_on!(counters, alloc, Counters(side) => side.allocate(wanted, id))
 }
 
-/// Sets a counter's value.
+/// Sets the counter's value. Codes: FELTER_BAD_ID, FELTER_NOT_ALLOCATED.
 #[unsafe(no_mangle)]
 pub extern "C" fn felter_counter_set(
     alloc: Global,
@@ -75,7 +78,8 @@ pub extern "C" fn felter_counter_set(
     work_on!(counters, alloc, Counters(side) => side.set(id, value))
 }
 
-/// Adds to a counter's value, which wraps, and says the value before.
+/// Adds `delta` to the value, and writes the value before the addition. A sum that does not fit in 64 bits wraps.
+/// Codes: FELTER_BAD_ID, FELTER_NOT_ALLOCATED.
 #[unsafe(no_mangle)]
 pub extern "C" fn felter_counter_add(
     alloc: Global,
@@ -90,7 +94,7 @@ pub extern "C" fn felter_counter_add(
     work_on!(counters, alloc, Counters(side) => side.add(id, delta, before))
 }
 
-/// Frees a counter at a moment, in milliseconds and at most 2^62.
+/// Frees a counter at the moment `now`. Codes: FELTER_BAD_ID, FELTER_NOT_ALLOCATED, FELTER_BAD_MOMENT.
 #[unsafe(no_mangle)]
 pub extern "C" fn felter_counter_free(
     alloc: Global,
@@ -103,7 +107,7 @@ pub extern "C" fn felter_counter_free(
     work_on!(counters, alloc, Counters(side) => side.free(now, id))
 }
 
-/// Frees each counter of an owner, and says how many.
+/// Frees each counter of an owner, and writes how many counters were freed. Codes: FELTER_BAD_OWNER, FELTER_BAD_MOMENT.
 #[unsafe(no_mangle)]
 pub extern "C" fn felter_counters_close_owner(
     alloc: Global,
@@ -118,7 +122,8 @@ pub extern "C" fn felter_counters_close_owner(
     work_on!(counters, alloc, Counters(side) => side.close_owner(now, owner, freed))
 }
 
-/// Finds the lowest id in use of a type and a registration id.
+/// Finds the lowest id in use that has this type id and registration id. Codes: FELTER_NOT_ALLOCATED if there is no
+/// such id.
 #[unsafe(no_mangle)]
 pub extern "C" fn felter_counter_find(
     alloc: Global,
@@ -133,20 +138,21 @@ pub extern "C" fn felter_counter_find(
     work_on!(counters, alloc, Counters(side) => side.find(type_id, registration, id))
 }
 
-/// Says how many ids there are, in use or not.
+/// Writes the number of ids, whether they are in use or not. To list the counters in use, call felter_counter_type_id
+/// with each id. The call returns FELTER_NOT_ALLOCATED if the id is not in use.
 #[unsafe(no_mangle)]
 pub extern "C" fn felter_counters_count(
     alloc: Global,
     counters: &mut Handle,
     count: &mut u32,
 ) -> i32
-    ensures { Yields some_counters (Asks TellsCount) count.old count.new counters.old.held
-        counters.new.held result }
+    ensures { Yields some_counters (Asks TellsCount) count.old count.new counters.old.held counters.new.held result }
 {
     work_on!(counters, alloc, Counters(side) => side.count(count))
 }
 
-/// Says how many counters can be allocated at a moment.
+/// Writes the number of counters that can be allocated at the moment `now`. A freed id is counted only if `now` is at
+/// least the moment that felter_counter_deadline writes for the id.
 #[unsafe(no_mangle)]
 pub extern "C" fn felter_counters_available(
     alloc: Global,
@@ -160,7 +166,7 @@ pub extern "C" fn felter_counters_available(
     work_on!(counters, alloc, Counters(side) => side.available(now, available))
 }
 
-/// Says a counter's value.
+/// Writes the counter's value. Codes: FELTER_BAD_ID, FELTER_NOT_ALLOCATED.
 #[unsafe(no_mangle)]
 pub extern "C" fn felter_counter_value(
     alloc: Global,
@@ -174,7 +180,7 @@ pub extern "C" fn felter_counter_value(
     work_on!(counters, alloc, Counters(side) => side.value(id, value))
 }
 
-/// Says a counter's type.
+/// Writes the counter's type id. Codes: FELTER_BAD_ID, FELTER_NOT_ALLOCATED.
 #[unsafe(no_mangle)]
 pub extern "C" fn felter_counter_type_id(
     alloc: Global,
@@ -188,7 +194,7 @@ pub extern "C" fn felter_counter_type_id(
     work_on!(counters, alloc, Counters(side) => side.type_id(id, type_id))
 }
 
-/// Says a counter's registration id.
+/// Writes the counter's registration id. Codes: FELTER_BAD_ID, FELTER_NOT_ALLOCATED.
 #[unsafe(no_mangle)]
 pub extern "C" fn felter_counter_registration(
     alloc: Global,
@@ -196,13 +202,13 @@ pub extern "C" fn felter_counter_registration(
     id: u32,
     registration: &mut u64,
 ) -> i32
-    ensures { Yields some_counters (Asked (λ r. (counter_at r id).values.registration) id)
-        registration.old registration.new counters.old.held counters.new.held result }
+    ensures { Yields some_counters (Asked (λ r. (counter_at r id).values.registration) id) registration.old
+        registration.new counters.old.held counters.new.held result }
 {
     work_on!(counters, alloc, Counters(side) => side.registration(id, registration))
 }
 
-/// Says a counter's owner, 0 for none.
+/// Writes the counter's owner, which is 0 if the counter has no owner. Codes: FELTER_BAD_ID, FELTER_NOT_ALLOCATED.
 #[unsafe(no_mangle)]
 pub extern "C" fn felter_counter_owner(
     alloc: Global,
@@ -216,7 +222,9 @@ pub extern "C" fn felter_counter_owner(
     work_on!(counters, alloc, Counters(side) => side.owner(id, owner))
 }
 
-/// Copies a counter's label to the front of a buffer, and says its length.
+/// Copies the label, which has at most 380 bytes, and writes its length. No 0 is put at the end of the label. Codes:
+/// FELTER_BAD_ID, FELTER_NOT_ALLOCATED, and FELTER_SHORT_BUFFER if the room is less than the length. After
+/// FELTER_SHORT_BUFFER the length is written too.
 #[unsafe(no_mangle)]
 pub extern "C" fn felter_counter_label(
     alloc: Global,
@@ -231,7 +239,8 @@ pub extern "C" fn felter_counter_label(
     work_on!(counters, alloc, Counters(side) => side.label(id, len, buffer))
 }
 
-/// Copies a counter's key of 112 bytes, with zeros after a short one, to the front of a buffer.
+/// Copies the key, which is filled up to 112 bytes with zeros. Codes: FELTER_BAD_ID, FELTER_NOT_ALLOCATED, and
+/// FELTER_SHORT_BUFFER if the room is less than 112 bytes.
 #[unsafe(no_mangle)]
 pub extern "C" fn felter_counter_key(
     alloc: Global,
@@ -239,7 +248,8 @@ pub extern "C" fn felter_counter_key(
     id: u32,
     buffer: &mut [u8],
 ) -> i32
-    ensures { Yields some_counters (Asks (TellsKey id)) buffer.old buffer.new counters.old.held counters.new.held result }
+    ensures { Yields some_counters (Asks (TellsKey id)) buffer.old buffer.new counters.old.held counters.new.held
+        result }
 {
     work_on!(counters, alloc, Counters(side) => side.key(id, buffer))
 }

@@ -1,31 +1,36 @@
 //! Rings and broadcast buffers that end, and what broadcast buffers and counters take back.
-ghost use Rattle.ring_handles.specs.Finishing.{Finishes, IsNotLast, IsUnfinished, TakesLast};
-ghost use Rattle.ring_handles.specs.Returning.{BoardEndsAt, IsAstray, IsBoardKept, IsOfOthers, IsOfThese, IsOfThisBoard};
-ghost use Rattle.ring_handles.specs.Returning.{IsRawAstray, IsRawOfThisBoard, TakesListener, TakesLoads, TakesWatcher};
-ghost use Rattle.ring_handles.specs.{Side.IsOfThisRing, Kinds.some_counters};
-ghost use Rattle.ring_handles.specs.Kinds.{a_consumer, a_producer, a_raw_receiver, a_reader, a_receiver, a_transmitter};
+// Written by c/bindings from felter.h and exports.txt. To change this file, change them and run c/bindings.
 ghost use Rattle.ring_c.specs.Told.{EndsAs, JoinsInto, WhereBoth};
+ghost use Rattle.ring_handles.specs.Finishing.{Finishes, IsNotLast, IsUnfinished, TakesLast};
+ghost use Rattle.ring_handles.specs.Kinds.{a_consumer, a_producer, a_raw_receiver, a_reader, a_receiver, a_transmitter};
+ghost use Rattle.ring_handles.specs.{Kinds.some_counters, Side.IsOfThisRing};
+ghost use Rattle.ring_handles.specs.Returning.{BoardEndsAt, IsAstray, IsBoardKept, IsOfOthers, IsOfThese, TakesWatcher};
+ghost use Rattle.ring_handles.specs.Returning.{IsOfThisBoard, IsRawAstray, IsRawOfThisBoard, TakesListener, TakesLoads};
 
 use crate::work_on::{end_with, join_into};
 use ring_handles::Handle;
 use std::alloc::Global;
 
-/// Ends writing to a ring: takes the last producer of a consumer's ring in, if it has no open claim, and empties its
-/// handle. What is in the ring can be read as before. Producers that were freed are not missed. Returns 108 if the
-/// consumer has its ring's producer already, or if this is one of another ring, as kind and number say; then 10 if
-/// claims are open, then 11 if another producer is in a handle. Both handles are unchanged then.
+/// Closes a ring of either kind, and empties the handle of its last producer. Nothing can be written afterwards. The
+/// messages in the ring can still be read. Before this call, all other producers must have been joined by felter_join,
+/// or freed. Codes, in this order:
+/// - FELTER_OTHER_RING, also if the ring was closed before;
+/// - FELTER_CLAIMS_OPEN;
+/// - FELTER_PRODUCERS_OUT if another producer is still in a handle.
 #[unsafe(no_mangle)]
 pub extern "C" fn felter_close(alloc: Global, consumer: &mut Handle, producer: &mut Handle) -> i32
     requires { WhereBoth a_consumer a_producer IsOfThisRing consumer.old.held producer.old.held }
-    ensures { JoinsInto a_consumer a_producer TakesLast IsNotLast consumer.old.held producer.old.held
-        consumer.new.held producer.new.held result }
+    ensures { JoinsInto a_consumer a_producer TakesLast IsNotLast consumer.old.held producer.old.held consumer.new.held
+        producer.new.held result }
 {
     join_into!(consumer, producer, alloc, Consumer(side), Producer(joining) => side.close(joining))
 }
 
-/// Takes a ring apart, empties the consumer's handle, and says how many committed messages were left unread. Producers
-/// that were freed are not missed. Returns 11 if no producer was taken in and one is in a handle, or 110 if one was
-/// taken in and another handle has the ring; the handle is unchanged then.
+/// Ends a ring that was closed, or whose producers were all freed, and empties the consumer's handle. Writes how many
+/// committed messages were left unread. These messages are lost. Codes:
+/// - FELTER_PRODUCERS_OUT if the ring was not closed, and a producer is still in a handle;
+/// - FELTER_IN_USE if the ring was closed, and another handle of the ring still exists. This code does not occur if
+///   rule 1 was kept.
 #[unsafe(no_mangle)]
 pub extern "C" fn felter_finish(alloc: Global, consumer: &mut Handle, left: &mut u64) -> i32
     ensures { EndsAs a_consumer Finishes IsUnfinished left.old left.new consumer.old.held consumer.new.held result }
@@ -33,8 +38,8 @@ pub extern "C" fn felter_finish(alloc: Global, consumer: &mut Handle, left: &mut
     end_with!(consumer, alloc, Consumer(side) => side.finish(), count => *left = count)
 }
 
-/// Takes a receiver of a transmitter's broadcast buffer back, with its share, and empties its handle. Returns 108 for a
-/// conductor's receiver, and for one of another broadcast buffer, as its number says; both handles are unchanged then.
+/// Takes back a receiver of this board with its share, and empties the receiver's handle. Codes: FELTER_OTHER_RING if
+/// the receiver is of another board, or if felter_conductor_subscribe made it.
 #[unsafe(no_mangle)]
 pub extern "C" fn felter_board_join(
     alloc: Global,
@@ -48,8 +53,8 @@ pub extern "C" fn felter_board_join(
     join_into!(transmitter, receiver, alloc, Transmitter(side), Receiver(joining) => side.join(joining))
 }
 
-/// Takes a raw receiver of a transmitter's broadcast buffer back, with its share, and empties its handle. Returns 108
-/// for one of another broadcast buffer, as its number says; both handles are unchanged then.
+/// Takes back a raw receiver of this board with its share, and empties the raw receiver's handle. Codes:
+/// FELTER_OTHER_RING if the raw receiver is of another board.
 #[unsafe(no_mangle)]
 pub extern "C" fn felter_board_join_raw(
     alloc: Global,
@@ -63,9 +68,11 @@ pub extern "C" fn felter_board_join_raw(
     join_into!(transmitter, receiver, alloc, Transmitter(side), RawReceiver(joining) => side.join_raw(joining))
 }
 
-/// Takes a broadcast buffer apart, empties the transmitter's handle, and says where the last transmission ended.
-/// Receivers that were freed are not missed. If another handle has the broadcast buffer, it returns 14 if shares are
-/// missing, and 110 if none is; the handle is unchanged then.
+/// Ends a board whose receivers of both kinds were all taken back or freed, and empties the transmitter's handle.
+/// Writes the tail, which is the position at which the last transmission ended. Codes:
+/// - FELTER_RECEIVERS_OUT if a receiver is still in a handle;
+/// - FELTER_IN_USE if all receivers were taken back, and another handle of the board still exists. This code does not
+///   occur if rule 1 was kept.
 #[unsafe(no_mangle)]
 pub extern "C" fn felter_board_close(alloc: Global, transmitter: &mut Handle, tail: &mut u64) -> i32
     ensures { EndsAs a_transmitter BoardEndsAt IsBoardKept tail.old tail.new transmitter.old.held transmitter.new.held
@@ -74,8 +81,8 @@ pub extern "C" fn felter_board_close(alloc: Global, transmitter: &mut Handle, ta
     end_with!(transmitter, alloc, Transmitter(side) => side.close(), end => *tail = end)
 }
 
-/// Takes a reader of these counters' values back, with its share, and empties its handle. 108 for a conductor's reader,
-/// and for one of other counters, which its number says; both handles stay as they are then.
+/// Takes back a reader of these counters with its share, and empties the reader's handle. Codes: FELTER_OTHER_RING if
+/// the reader is of other counters, or if felter_conductor_reader made it.
 #[unsafe(no_mangle)]
 pub extern "C" fn felter_counters_join(
     alloc: Global,
@@ -83,8 +90,8 @@ pub extern "C" fn felter_counters_join(
     reader: &mut Handle,
 ) -> i32
     requires { WhereBoth some_counters a_reader IsOfThese counters.old.held reader.old.held }
-    ensures { JoinsInto some_counters a_reader TakesLoads IsOfOthers counters.old.held reader.old.held
-        counters.new.held reader.new.held result }
+    ensures { JoinsInto some_counters a_reader TakesLoads IsOfOthers counters.old.held reader.old.held counters.new.held
+        reader.new.held result }
 {
     join_into!(counters, reader, alloc, Counters(side), Reader(joining) => side.join(joining))
 }

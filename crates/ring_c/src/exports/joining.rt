@@ -1,14 +1,16 @@
 //! Producers that are put together.
-ghost use Rattle.ring_handles.specs.{Producing.IsApart, Producing.TakesIn, Side.AreOfOneRing, Kinds.a_producer};
+// Written by c/bindings from felter.h and exports.txt. To change this file, change them and run c/bindings.
 ghost use Rattle.ring_c.specs.Told.{JoinsInto, WhereBoth};
+ghost use Rattle.ring_handles.specs.{Kinds.a_producer, Producing.IsApart, Producing.TakesIn, Side.AreOfOneRing};
 
 use crate::work_on::join_into;
 use ring_handles::Handle;
 use std::alloc::Global;
 
-/// Takes another producer of the same ring in, with its shares and its open claims, and empties its handle. Returns 101
-/// if the ring is one-to-one, then 108 for a producer of another ring, as its number says, and 3 if there is no memory;
-/// both handles are unchanged then.
+/// Joins `other` to `producer`, which is a producer of the same many-to-one ring. The shares and the open claims of
+/// `other` go to `producer`, and the claims keep their numbers. The handle `other` is empty afterwards. Codes, in this
+/// order: FELTER_WRONG_HANDLE for a one-to-one ring, FELTER_OTHER_RING, and FELTER_OUT_OF_MEMORY if there is no memory
+/// to keep the open claims.
 #[unsafe(no_mangle)]
 pub extern "C" fn felter_join(alloc: Global, producer: &mut Handle, other: &mut Handle) -> i32
     requires { WhereBoth a_producer a_producer AreOfOneRing producer.old.held other.old.held }

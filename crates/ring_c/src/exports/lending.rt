@@ -1,16 +1,17 @@
 //! What conductors lend and take back.
-ghost use Rattle.std.specs.Prelude.{◌≡◌};
-ghost use Rattle.ring_handles.specs.Seating.{lends_client, lends_reader, lends_receiver};
-ghost use Rattle.ring_handles.specs.Seating.{IsForeign, IsUnheard, WhyNotSeated, LendsReader, LendsReceiver};
-ghost use Rattle.ring_handles.specs.Seating.{TakesClient, TakesReader, TakesReceiver};
-ghost use Rattle.ring_handles.specs.Kinds.{a_client, a_conductor, a_reader, a_receiver};
+// Written by c/bindings from felter.h and exports.txt. To change this file, change them and run c/bindings.
 ghost use Rattle.ring_c.specs.Told.{AreOfOneConductor, GivesInto, JoinsInto};
+ghost use Rattle.ring_handles.specs.Kinds.{a_client, a_conductor, a_reader, a_receiver};
+ghost use Rattle.ring_handles.specs.Seating.{IsUnheard, lends_client, lends_reader, lends_receiver, IsForeign};
+ghost use Rattle.ring_handles.specs.Seating.{LendsReader, LendsReceiver, TakesClient, TakesReader, TakesReceiver};
+ghost use Rattle.ring_handles.specs.Seating.{WhyNotSeated};
 
 use crate::work_on::{join_into, make_into};
 use ring_handles::Handle;
 use std::alloc::Global;
 
-/// Makes a receiver of the replies, which starts with the one at latest.
+/// Makes a receiver of the replies, for felter_receive and felter_lapped_count. Otherwise the call is the same as
+/// felter_subscribe.
 #[unsafe(no_mangle)]
 pub extern "C" fn felter_conductor_subscribe(
     alloc: Global,
@@ -23,7 +24,8 @@ pub extern "C" fn felter_conductor_subscribe(
     make_into!(conductor, alloc, Conductor(side) => side.subscribe(alloc), receiver, Receiver)
 }
 
-/// Makes a reader of the counters' values, for another thread, with one share.
+/// Makes a reader of the counters' values, for felter_reader_value. Otherwise the call is the same as
+/// felter_counters_reader.
 #[unsafe(no_mangle)]
 pub extern "C" fn felter_conductor_reader(
     alloc: Global,
@@ -36,8 +38,8 @@ pub extern "C" fn felter_conductor_reader(
     make_into!(conductor, alloc, Conductor(side) => side.reader(), reader, Reader)
 }
 
-/// Takes a client of this conductor's back, with its shares, and empties its handle. 108 for another conductor's, which
-/// its number says; both handles stay as they are then.
+/// Takes back a client of this conductor with its shares, and empties the client's handle. The client receives no
+/// further replies. Codes: FELTER_OTHER_RING if the client is of another conductor.
 #[unsafe(no_mangle)]
 pub extern "C" fn felter_conductor_join(
     alloc: Global,
@@ -51,8 +53,8 @@ pub extern "C" fn felter_conductor_join(
     join_into!(conductor, client, alloc, Conductor(side), Client(joining) => side.join(joining))
 }
 
-/// Takes a receiver of this conductor's back, with its share, and empties its handle. Returns 108 for a broadcast
-/// buffer's, and for another conductor's, as its number says; both handles are unchanged then.
+/// Takes back a receiver of this conductor with its share, and empties the receiver's handle. Codes: FELTER_OTHER_RING
+/// if the receiver is of another conductor, or if felter_subscribe made it.
 #[unsafe(no_mangle)]
 pub extern "C" fn felter_conductor_join_receiver(
     alloc: Global,
@@ -66,8 +68,8 @@ pub extern "C" fn felter_conductor_join_receiver(
     join_into!(conductor, receiver, alloc, Conductor(side), Receiver(joining) => side.join_receiver(joining))
 }
 
-/// Takes a reader of this conductor's back, with its share, and empties its handle. 108 for one of counters, and for
-/// another conductor's, which its number says; both handles stay as they are then.
+/// Takes back a reader of this conductor with its share, and empties the reader's handle. Codes: FELTER_OTHER_RING if
+/// the reader is of another conductor, or if felter_counters_reader made it.
 #[unsafe(no_mangle)]
 pub extern "C" fn felter_conductor_join_reader(
     alloc: Global,

@@ -1,14 +1,15 @@
 //! Where receivers are, how they were lapped last, and how large rings and boards are.
-ghost use Rattle.std.specs.Prelude.{◌≡◌, pos};
+// Written by c/bindings from felter.h and exports.txt. To change this file, change them and run c/bindings.
+ghost use Rattle.ring_c.specs.Told.{sizes, SaysSizes, Yields};
 ghost use Rattle.ring_handles.specs.Boards.{lap_out, SaysLap, SaysPlace};
 ghost use Rattle.ring_handles.specs.{Kinds.a_raw_receiver, Kinds.a_receiver, Raw.SaysRawLap, Raw.SaysRawPlace};
-ghost use Rattle.ring_c.specs.Told.{sizes, SaysSizes, Yields};
+ghost use Rattle.std.specs.Prelude.{◌≡◌, pos};
 
 use crate::work_on::work_on;
 use ring_handles::Handle;
 use std::alloc::Global;
 
-/// Puts out the position at which the receiver's next call looks for a message.
+/// Writes the position at which the next call looks for a message.
 #[unsafe(no_mangle)]
 pub extern "C" fn felter_receiver_place(
     alloc: Global,
@@ -21,7 +22,9 @@ pub extern "C" fn felter_receiver_place(
     work_on!(receiver, alloc, Receiver(side) => side.place(place))
 }
 
-/// Puts out where the receiver was when it was lapped last, and the intent that showed it.
+/// Writes the place at which the receiver was lapped last, and the intent that showed the lap. The intent is the
+/// position up to which the transmitter had begun to write. Right after FELTER_LAPPED, felter_receiver_place minus this
+/// place is the number of bytes that the receiver missed. Codes: FELTER_NO_MESSAGE if the receiver was never lapped.
 #[unsafe(no_mangle)]
 pub extern "C" fn felter_receiver_lap(
     alloc: Global,
@@ -29,40 +32,43 @@ pub extern "C" fn felter_receiver_lap(
     place: &mut u64,
     intent: &mut u64,
 ) -> i32
-    ensures { Yields a_receiver SaysLap (lap_out place.old intent.old) (lap_out place.new intent.new)
-        receiver.old.held receiver.new.held result }
+    ensures { Yields a_receiver SaysLap (lap_out place.old intent.old) (lap_out place.new intent.new) receiver.old.held
+        receiver.new.held result }
 {
     work_on!(receiver, alloc, Receiver(side) => side.lap(place, intent))
 }
 
-/// Puts out the position at which the raw receiver's next call looks for a record.
+/// Writes the position at which the next call looks for a record.
 #[unsafe(no_mangle)]
 pub extern "C" fn felter_raw_receiver_place(
     alloc: Global,
-    raw_receiver: &mut Handle,
+    receiver: &mut Handle,
     place: &mut u64,
 ) -> i32
-    ensures { Yields a_raw_receiver (λ _ told. SaysRawPlace told) place.old place.new raw_receiver.old.held
-        raw_receiver.new.held result }
+    ensures { Yields a_raw_receiver (λ _ told. SaysRawPlace told) place.old place.new receiver.old.held
+        receiver.new.held result }
 {
-    work_on!(raw_receiver, alloc, RawReceiver(side) => side.place(place))
+    work_on!(receiver, alloc, RawReceiver(side) => side.place(place))
 }
 
-/// Puts out where the raw receiver was when it was lapped last, and the intent that showed it.
+/// Writes the place at which the raw receiver was lapped last, and the intent that showed the lap, as
+/// felter_receiver_lap does for a receiver. Codes: FELTER_NO_MESSAGE if the raw receiver was never lapped.
 #[unsafe(no_mangle)]
 pub extern "C" fn felter_raw_receiver_lap(
     alloc: Global,
-    raw_receiver: &mut Handle,
+    receiver: &mut Handle,
     place: &mut u64,
     intent: &mut u64,
 ) -> i32
     ensures { Yields a_raw_receiver SaysRawLap (lap_out place.old intent.old) (lap_out place.new intent.new)
-        raw_receiver.old.held raw_receiver.new.held result }
+        receiver.old.held receiver.new.held result }
 {
-    work_on!(raw_receiver, alloc, RawReceiver(side) => side.lap(place, intent))
+    work_on!(receiver, alloc, RawReceiver(side) => side.lap(place, intent))
 }
 
-/// Puts out the capacity of the ring or board that a handle belongs to, and the length of its longest message.
+/// Writes the capacity of the ring or board of a handle, and the length of its longest message. This length is an
+/// eighth of the capacity. The handle is a producer, a consumer, a transmitter, or a receiver of either kind:
+/// felter_capacity(&producer.handle, ..).
 #[unsafe(no_mangle)]
 pub extern "C" fn felter_capacity(
     alloc: Global,
@@ -90,7 +96,8 @@ pub extern "C" fn felter_capacity(
     }
 }
 
-/// The version of this library: 10,000 times the major number, 100 times the minor one, and the patch.
+/// Returns the version of the library that the program runs with: 10,000 times the major number, plus 100 times the
+/// minor number, plus the patch number. The result is not a code.
 #[unsafe(no_mangle)]
 pub extern "C" fn felter_version() -> i32
     ensures { result ≡ pos 100 }

@@ -1,14 +1,17 @@
 //! What a producer's handle does.
-ghost use Rattle.ring_layout.specs.declared.message.ClaimState.TheVariants.{Aborted, Committed};
-ghost use Rattle.ring_handles.specs.Producing.{positions, Claimed, Counted, Drew, HeardBeat, Positioned, Put, Settled, Wrote};
-ghost use Rattle.ring_handles.specs.{Kinds.a_producer, WritingBatch.WroteBatch};
+// Written by c/bindings from felter.h and exports.txt. To change this file, change them and run c/bindings.
 ghost use Rattle.ring_c.specs.Told.{Uses, Yields};
+ghost use Rattle.ring_handles.specs.{Kinds.a_producer, WritingBatch.WroteBatch, Producing.Wrote};
+ghost use Rattle.ring_handles.specs.Producing.{positions, Claimed, Counted, Drew, HeardBeat, Positioned, Put, Settled};
+ghost use Rattle.ring_layout.specs.declared.message.ClaimState.TheVariants.{Aborted, Committed};
 
 use crate::work_on::work_on;
 use ring_handles::Handle;
 use std::alloc::Global;
 
-/// Writes a message, by one try.
+/// Tries once to write a message. The type id must be at least 1, and `len` must be at most an eighth of the capacity.
+/// Codes: FELTER_BAD_TYPE, FELTER_TOO_LONG, FELTER_POSITION_LIMIT, FELTER_INSUFFICIENT_CAPACITY, and FELTER_CONTENDED
+/// for a many-to-one ring.
 #[unsafe(no_mangle)]
 pub extern "C" fn felter_write(
     alloc: Global,
@@ -21,7 +24,18 @@ pub extern "C" fn felter_write(
     work_on!(producer, alloc, Producer(side) => side.write(type_id, body))
 }
 
-/// Writes the messages of a batch, and says how many were written.
+/// Writes the messages of a batch in their order. The buffer must have the layout that felter_read_batch writes. Only
+/// the padding after the last message may be missing. Messages that are next to one another in the ring are published
+/// by one store, so the consumer sees all of them at once. A batch of short messages costs less than single writes.
+///
+/// The call tests all records before it writes the first message. If it refuses a record, it writes no message. Then it
+/// writes messages until all are written, or a try to write the next one is refused as felter_write would refuse it.
+/// `written` is set to the number of messages that were written. If the call returns FELTER_OK, all messages were
+/// written. After FELTER_NO_HANDLE and FELTER_WRONG_HANDLE, `written` is unchanged. Codes, in this order:
+/// - FELTER_PUT_RANGE if a record is not completely inside the bytes, FELTER_BAD_TYPE, or FELTER_TOO_LONG. The first
+///   record that is refused decides. FELTER_PUT_RANGE also if there are 2^32 bytes or more;
+/// - FELTER_POSITION_LIMIT, FELTER_INSUFFICIENT_CAPACITY, and FELTER_CONTENDED for a many-to-one ring. The first
+///   messages of the batch may have been written.
 #[unsafe(no_mangle)]
 pub extern "C" fn felter_write_batch(
     alloc: Global,
@@ -35,7 +49,15 @@ pub extern "C" fn felter_write_batch(
     work_on!(producer, alloc, Producer(side) => side.write_batch(records, written))
 }
 
-/// Claims room for a message of `len` bytes, which are 0 until they are put, and says the claim's number.
+/// Tries once to claim room for a message of `len` bytes. Each byte is 0 until felter_put stores it. Writes the number
+/// of the claim, which is the claim's position in the ring. No other claim of the ring ever has this number.
+///
+/// Any number of claims may be open at once. They may be settled, which means committed or aborted, in any order. The
+/// time to settle a claim does not grow with the number of open claims. The consumer does not go past an open claim, so
+/// each claim must be settled.
+///
+/// Codes: those of felter_write. If there is no memory to keep one more claim, the call returns FELTER_OUT_OF_MEMORY,
+/// and does not try to make the claim.
 #[unsafe(no_mangle)]
 pub extern "C" fn felter_claim(
     alloc: Global,
@@ -49,7 +71,8 @@ pub extern "C" fn felter_claim(
     work_on!(producer, alloc, Producer(side) => side.claim(type_id, len, claim))
 }
 
-/// Puts bytes into an open claim, from the byte `offset` on.
+/// Puts bytes into an open claim of the producer, from the byte at `offset` on. Codes: FELTER_NO_CLAIM,
+/// FELTER_PUT_RANGE.
 #[unsafe(no_mangle)]
 pub extern "C" fn felter_put(
     alloc: Global,
@@ -63,7 +86,7 @@ pub extern "C" fn felter_put(
     work_on!(producer, alloc, Producer(side) => side.put(claim, offset, bytes))
 }
 
-/// Settles an open claim: the consumer is shown its message.
+/// Commits an open claim of the producer. The consumer is then shown the message. Codes: FELTER_NO_CLAIM.
 #[unsafe(no_mangle)]
 pub extern "C" fn felter_commit(alloc: Global, producer: &mut Handle, claim: u64) -> i32
     ensures { Uses a_producer (Settled Committed claim) producer.old.held producer.new.held result }
@@ -71,7 +94,7 @@ pub extern "C" fn felter_commit(alloc: Global, producer: &mut Handle, claim: u64
     work_on!(producer, alloc, Producer(side) => side.commit(claim))
 }
 
-/// Settles an open claim: the consumer passes it.
+/// Aborts an open claim of the producer. The consumer then skips the claim. Codes: FELTER_NO_CLAIM.
 #[unsafe(no_mangle)]
 pub extern "C" fn felter_abort(alloc: Global, producer: &mut Handle, claim: u64) -> i32
     ensures { Uses a_producer (Settled Aborted claim) producer.old.held producer.new.held result }
@@ -79,7 +102,7 @@ pub extern "C" fn felter_abort(alloc: Global, producer: &mut Handle, claim: u64)
     work_on!(producer, alloc, Producer(side) => side.abort(claim))
 }
 
-/// Loads the head, and then the tail.
+/// Loads the head of the ring, and then its tail.
 #[unsafe(no_mangle)]
 pub extern "C" fn felter_positions(
     alloc: Global,
@@ -87,8 +110,8 @@ pub extern "C" fn felter_positions(
     head: &mut u64,
     tail: &mut u64,
 ) -> i32
-    ensures { Yields a_producer (λ _ told. Positioned told) (positions head.old tail.old)
-        (positions head.new tail.new) producer.old.held producer.new.held result }
+    ensures { Yields a_producer (λ _ told. Positioned told) (positions head.old tail.old) (positions head.new tail.new)
+        producer.old.held producer.new.held result }
 {
     work_on!(producer, alloc, Producer(side) => side.positions(head, tail))
 }
@@ -101,7 +124,7 @@ pub extern "C" fn felter_next_id(alloc: Global, producer: &mut Handle, id: &mut 
     work_on!(producer, alloc, Producer(side) => side.next_id(id))
 }
 
-/// Loads the heartbeat that the consumer stored last, 0 before the first.
+/// Loads the heartbeat that the consumer stored last. The heartbeat is 0 before the consumer stores one.
 #[unsafe(no_mangle)]
 pub extern "C" fn felter_heartbeat(alloc: Global, producer: &mut Handle, value: &mut u64) -> i32
     ensures { Yields a_producer (λ _ told. HeardBeat told) value.old value.new producer.old.held producer.new.held
@@ -110,7 +133,7 @@ pub extern "C" fn felter_heartbeat(alloc: Global, producer: &mut Handle, value: 
     work_on!(producer, alloc, Producer(side) => side.heartbeat(value))
 }
 
-/// Says how many of the ring's 65,536 shares the producer holds.
+/// Writes how many of the ring's 65,536 shares the producer holds.
 #[unsafe(no_mangle)]
 pub extern "C" fn felter_shares(alloc: Global, producer: &mut Handle, shares: &mut u32) -> i32
     ensures { Yields a_producer (λ _ told. Counted told) shares.old shares.new producer.old.held producer.new.held

@@ -1,14 +1,15 @@
 //! What handles of raw receivers do.
-ghost use Rattle.std.specs.Prelude.{◌≡◌};
-ghost use Rattle.ring_handles.specs.Raw.{seen, BodyLoaded, IsUnwatched, NextSeen, SaysLaps, SubscribesRaw, Tested};
-ghost use Rattle.ring_handles.specs.Kinds.{a_raw_receiver, a_transmitter};
+// Written by c/bindings from felter.h and exports.txt. To change this file, change them and run c/bindings.
 ghost use Rattle.ring_c.specs.Told.{GivesInto, Uses, Yields};
+ghost use Rattle.ring_handles.specs.Kinds.{a_raw_receiver, a_transmitter};
+ghost use Rattle.ring_handles.specs.Raw.{seen, BodyLoaded, IsUnwatched, NextSeen, SaysLaps, SubscribesRaw, Tested};
 
 use crate::work_on::{make_into, work_on};
 use ring_handles::Handle;
 use std::alloc::Global;
 
-/// Makes a raw receiver, which starts with the record at latest.
+/// Makes a raw receiver, which returns each record without its body. Otherwise the call is the same as
+/// felter_subscribe.
 #[unsafe(no_mangle)]
 pub extern "C" fn felter_subscribe_raw(
     alloc: Global,
@@ -21,7 +22,8 @@ pub extern "C" fn felter_subscribe_raw(
     make_into!(transmitter, alloc, Transmitter(side) => side.subscribe_raw(), receiver, RawReceiver)
 }
 
-/// Returns the next record unread, by its type id and length, or says how often the receiver was lapped.
+/// Writes the type id of the next record and the length of its body, and moves past the record. No byte of the body is
+/// copied. Codes: FELTER_NO_MESSAGE, and FELTER_LAPPED as for felter_receive.
 #[unsafe(no_mangle)]
 pub extern "C" fn felter_receive_next(
     alloc: Global,
@@ -30,13 +32,15 @@ pub extern "C" fn felter_receive_next(
     len: &mut usize,
     lapped: &mut u64,
 ) -> i32
-    ensures { Yields a_raw_receiver NextSeen (seen type_id.old len.old lapped.old)
-        (seen type_id.new len.new lapped.new) receiver.old.held receiver.new.held result }
+    ensures { Yields a_raw_receiver NextSeen (seen type_id.old len.old lapped.old) (seen type_id.new len.new lapped.new)
+        receiver.old.held receiver.new.held result }
 {
     work_on!(receiver, alloc, RawReceiver(side) => side.receive_next(type_id, len, lapped))
 }
 
-/// Copies the body of the record that was returned last to the front of a buffer, without validation.
+/// Copies the body of the record that felter_receive_next returned last to the front of a buffer. The bytes are certain
+/// to be those of this record only if felter_validate then returns FELTER_OK. Codes: FELTER_NO_MESSAGE if no record was
+/// returned yet, FELTER_SHORT_BUFFER if the body is longer than the room.
 #[unsafe(no_mangle)]
 pub extern "C" fn felter_load_body(alloc: Global, receiver: &mut Handle, buffer: &mut [u8]) -> i32
     ensures { Yields a_raw_receiver BodyLoaded buffer.old buffer.new receiver.old.held receiver.new.held result }
@@ -44,7 +48,9 @@ pub extern "C" fn felter_load_body(alloc: Global, receiver: &mut Handle, buffer:
     work_on!(receiver, alloc, RawReceiver(side) => side.load_body(buffer))
 }
 
-/// Tests whether the record that was returned last was not yet overwritten.
+/// Tests whether the record that felter_receive_next returned last was overwritten. If the call returns FELTER_OK, each
+/// copy of the body that was made before is the body that was transmitted. Codes: FELTER_LAPPED if the record may be
+/// overwritten, FELTER_NO_MESSAGE if no record was returned yet.
 #[unsafe(no_mangle)]
 pub extern "C" fn felter_validate(alloc: Global, receiver: &mut Handle) -> i32
     ensures { Uses a_raw_receiver Tested receiver.old.held receiver.new.held result }
@@ -52,7 +58,7 @@ pub extern "C" fn felter_validate(alloc: Global, receiver: &mut Handle) -> i32
     work_on!(receiver, alloc, RawReceiver(side) => side.validate())
 }
 
-/// Says how often the raw receiver was lapped.
+/// Writes how often felter_receive_next returned FELTER_LAPPED.
 #[unsafe(no_mangle)]
 pub extern "C" fn felter_raw_lapped_count(
     alloc: Global,

@@ -1,14 +1,16 @@
 //! Readers of counters' values.
-ghost use Rattle.std.specs.Prelude.{◌≡◌};
-ghost use Rattle.ring_handles.specs.Lending.{WhyNotLent, Lends, SaysValue};
-ghost use Rattle.ring_handles.specs.Kinds.{a_reader, some_counters};
+// Written by c/bindings from felter.h and exports.txt. To change this file, change them and run c/bindings.
 ghost use Rattle.ring_c.specs.Told.{GivesInto, Yields};
+ghost use Rattle.ring_handles.specs.Kinds.{a_reader, some_counters};
+ghost use Rattle.ring_handles.specs.Lending.{Lends, SaysValue, WhyNotLent};
 
 use crate::work_on::{make_into, work_on};
 use ring_handles::Handle;
 use std::alloc::Global;
 
-/// Makes a reader of the counters' values, for another thread, with one share.
+/// Makes a reader of the counters' values, for another thread. The counters have 65,536 shares, and the reader gets one
+/// of them. This share is lost if the reader is freed without felter_counters_join. Codes: FELTER_NO_SHARES,
+/// FELTER_OUT_OF_MEMORY, FELTER_HANDLE_IN_USE.
 #[unsafe(no_mangle)]
 pub extern "C" fn felter_counters_reader(
     alloc: Global,
@@ -21,7 +23,8 @@ pub extern "C" fn felter_counters_reader(
     make_into!(counters, alloc, Counters(side) => side.reader(), reader, Reader)
 }
 
-/// Loads a counter's value: of an id that was never used 0, of a freed one its last value.
+/// Loads a value. The value of an id that was never used is 0. The value of a freed id is its last value. If a reader
+/// loads the value of an id twice, the second value was not written before the first one. Codes: FELTER_BAD_ID.
 #[unsafe(no_mangle)]
 pub extern "C" fn felter_reader_value(
     alloc: Global,

@@ -1,13 +1,15 @@
 //! What counters are asked of their records, and how a value is raised.
+// Written by c/bindings from felter.h and exports.txt. To change this file, change them and run c/bindings.
+ghost use Rattle.ring_c.specs.Told.{Yields};
 ghost use Rattle.ring_counters.specs.{Counter.deadline_of, Counter.state_of, Registry.counter_at};
 ghost use Rattle.ring_handles.specs.{Counting.Asks, Counting.TellsOfRecord, Counting.WasProposed, Kinds.some_counters};
-ghost use Rattle.ring_c.specs.Told.{Yields};
 
 use crate::work_on::work_on;
 use ring_handles::Handle;
 use std::alloc::Global;
 
-/// Raises a counter's value to this one if it is below it, and puts out 1, or otherwise 0.
+/// Raises the counter's value to `value` if the old value was less. *raised is 1 if the value was raised, and otherwise
+/// 0. Codes: FELTER_BAD_ID, FELTER_NOT_ALLOCATED.
 #[unsafe(no_mangle)]
 pub extern "C" fn felter_counter_propose_max(
     alloc: Global,
@@ -22,7 +24,8 @@ pub extern "C" fn felter_counter_propose_max(
     work_on!(counters, alloc, Counters(side) => side.propose_max(id, value, raised))
 }
 
-/// Puts out the state of a record: 0 if it was never used, 1 if the counter is in use, -1 if it was freed.
+/// Writes the state of an id. The state is 0 if the id was never used, 1 if its counter is in use, and -1 if its
+/// counter was freed. Codes: FELTER_BAD_ID.
 #[unsafe(no_mangle)]
 pub extern "C" fn felter_counter_state(
     alloc: Global,
@@ -30,13 +33,14 @@ pub extern "C" fn felter_counter_state(
     id: u32,
     state: &mut i32,
 ) -> i32
-    ensures { Yields some_counters (Asks (TellsOfRecord (λ r. state_of (counter_at r id).metadata.status) id))
-        state.old state.new counters.old.held counters.new.held result }
+    ensures { Yields some_counters (Asks (TellsOfRecord (λ r. state_of (counter_at r id).metadata.status) id)) state.old
+        state.new counters.old.held counters.new.held result }
 {
     work_on!(counters, alloc, Counters(side) => side.state(id, state))
 }
 
-/// Puts out the moment from which an id may be allocated again.
+/// Writes the moment from which an id may be allocated again. This moment is 0 if the id was never used, and 2^63 - 1
+/// if its counter is in use. Codes: FELTER_BAD_ID.
 #[unsafe(no_mangle)]
 pub extern "C" fn felter_counter_deadline(
     alloc: Global,

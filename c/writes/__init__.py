@@ -1,0 +1,1 @@
+"""What c/bindings writes, file by file."""
