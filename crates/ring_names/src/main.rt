@@ -44,6 +44,7 @@ fn say_all<R: AllocGlobal + Print + Threads + Wait>(rt: &R) -> anyhow::Result<()
     say(rt, "ring_ends", ends::many_to_one(rt, rt.alloc()))?;
     say(rt, "ring_ends", ends::refused(rt.alloc()))?;
     say(rt, "ring_ends", ends::put_together(rt.alloc()))?;
+    say(rt, "ring_ends", ends::counters(rt.alloc()))?;
     say(rt, "ring_ends", numbering::settle(rt.alloc()))?;
     say(rt, "ring_ends", numbering::board(rt.alloc()))?;
     say(rt, "ring_ends", numbering::kept(rt.alloc()))?;
