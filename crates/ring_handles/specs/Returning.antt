@@ -8,7 +8,7 @@ use Rattle.ring_counters.specs.{Manager.registry_of, Manager.shares_of, Manager.
 use Rattle.ring_counters.specs.Seats.{loads_of, made_of}
 use Rattle.ring_handles.specs.declared.counters.{CountersSide.CountersSide, ReaderSide.ReaderSide}
 use Rattle.ring_handles.specs.{Boards.knowing, Boards.tail_in, Boards.Listening, Boards.Sending, Raw.Watching}
-use Rattle.ring_handles.specs.Serving.{conductor_of, values_in}
+use Rattle.ring_ends.specs.Lending.{conductor_of, values_in}
 use Rattle.ring_layout.specs.declared.refusal_codes.TheConstants.{RECEIVERS_OUT}
 use Rattle.ring_handles.specs.declared.code.TheConstants.{IN_USE, OTHER_RING}
 
