@@ -1,12 +1,11 @@
 -- What the return value of an export says of the handles before and after it.
 use Rattle.std.specs.Prelude.{◌≡◌, ◌≢◌, ◌⊎◌, ◌/◌, ℕ, ℤ, MatchOption, Bool}
 use Rattle.std.specs.declared.option.Option.{Option, TheVariants.None, TheVariants.Some}
-use Rattle.ring_handles.specs.{declared.held.Held.Held, Serving.Sharing, Conducting.IsConductorCode}
-use Rattle.ring_handles.specs.{Closing.TellsEnd, Closing.WhyNotFinished, Producing.closing, Seating.IsOfThisConductor}
+use Rattle.ring_handles.specs.{declared.held.Held.Held, Serving.Sharing, Seating.IsOfThisConductor, Side.identity_of}
+use Rattle.ring_handles.specs.{Conducting.IsConductorCode, Closing.TellsEnd, Closing.WhyNotFinished, Producing.closing}
 use Rattle.ring_handles.specs.Kinds.{a_conductor, a_producer, capacity_held, HoldsOne}
 use Rattle.ring_handles.specs.Opening.{HoldFirstAdder, HoldFresh, HoldFreshCounters, HoldNewBoard, HoldNewConductor}
 use Rattle.ring_handles.specs.Opening.{IsAdderCode, IsBoardCode, IsCountersCode, IsMakeCode}
-use Rattle.ring_handles.specs.Side.{identity_of}
 use Rattle.ring_layout.specs.declared.refusal_codes.TheConstants.{OUT_OF_MEMORY}
 use Rattle.ring_handles.specs.declared.code.TheConstants.{DONE, HANDLE_IN_USE, NO_HANDLE, WRONG_HANDLE}
 

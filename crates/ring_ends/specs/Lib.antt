@@ -1,3 +1,4 @@
+pub mod BoardEnd
 pub mod Claiming
 pub mod Claims
 pub mod Counters

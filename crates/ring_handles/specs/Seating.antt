@@ -3,15 +3,16 @@
 use Rattle.std.specs.Prelude.{◌≡◌, ◌⊎◌, ◌≤◌, ◌+◌, ℤ, [], IfSome, Option, None, Some}
 use Rattle.std.specs.Option.{option_map}
 use Rattle.ring_rings.specs.{Joining.Joins, Seats.capacity_of as ring_bytes, Seats.view_of}
-use Rattle.ring_board.specs.{declared.fault.SubscribeFault.TheVariants.NoShares, Runs.AreRuns, Seats.capacity_of}
+use Rattle.ring_board.specs.{declared.fault.SubscribeFault.TheVariants.NoShares, Runs.AreRuns}
 use Rattle.ring_board.specs.{Refusals.subscribe_refusal_of, Views.Sat, Views.fewer, Views.joined, Views.newcomer}
 use Rattle.ring_counters.specs.{Manager.registry_of, Manager.writes_of, Seats.loads_of, Seats.made_of, Seats.seen_by}
 use Rattle.ring_counters.specs.ValueWrites.{AreLoads}
 use Rattle.ring_service.specs.Asking.{client_seat, client_view}
 use Rattle.ring_service.specs.Conducting.{board_view, manager_in, value_shares_of, KeepsSeats, KeepsTheRest}
-use Rattle.ring_handles.specs.declared.client.ClientSide.{ClientSide}
+use Rattle.ring_handles.specs.{declared.client.ClientSide.ClientSide, Boards.lender_of, Boards.Listening}
 use Rattle.ring_handles.specs.declared.{conductor.ConductorSide.ConductorSide, counters.ReaderSide.ReaderSide}
-use Rattle.ring_handles.specs.{Boards.table_of, Boards.Listening, Conducting.KeepsProducer}
+use Rattle.ring_ends.specs.BoardEnd.{end_at}
+use Rattle.ring_handles.specs.Conducting.{KeepsProducer}
 use Rattle.ring_handles.specs.Serving.{numbered, shared_by, shared_with, sharing_in, IsNumberedOtherwise, Sharing}
 use Rattle.ring_layout.specs.declared.refusal_codes.TheConstants.{NO_SHARES, OUT_OF_MEMORY}
 use Rattle.ring_handles.specs.declared.code.TheConstants.{OTHER_RING}
@@ -24,7 +25,7 @@ abbrev pub lends_reader : ReaderSide → Option Sharing
 lends_reader r = sharing_in r.identity r.values
 
 abbrev pub lends_receiver : Listening → Option Sharing
-lends_receiver r = option_map (numbered r.identity) r.lender
+lends_receiver r = option_map (numbered r.identity) (lender_of r)
 
 -- Lending ------------------------------------------------------------------------
 
@@ -37,15 +38,13 @@ pub record MovesShare (c d : ConductorSide) (m : Sat) : Type 0 where
 
 -- it was, and the receiver is one of this conductor's replies
 pub record LendsReceiver (c d : ConductorSide) (r : Listening) : Type 0 where
-  pub moved : MovesShare c d r.seat
+  pub moved : MovesShare c d r.end.knows
   pub lent : let s = shared_by c in
       r ≡ record {
-        table = table_of s.shared.board;
+        end = end_at s.shared.board r.end.knows;
         identity = s.identity;
-        capacity = capacity_of s.shared.board;
-        lender = Some s.shared;
-        seat = r.seat;
         lap = None;
+        own = Some s.shared;
       }
 
 -- why a receiver is not made: the conductor needs its last share, or memory runs out
@@ -91,7 +90,7 @@ pub record TakesClient (c : ConductorSide) (k : ClientSide) (d : ConductorSide) 
 -- a receiver of this conductor's replies was taken back
 pub record TakesReceiver (c : ConductorSide) (r : Listening) (d : ConductorSide) : Type 0 where
   pub lender : lends_receiver r ≡ Some (shared_by c)
-  pub receiver : TakesSeat c d r.seat
+  pub receiver : TakesSeat c d r.end.knows
   pub rest : KeepsProducer c d
 
 -- a reader of this conductor's values was taken back, with its share: what it loaded are values after first parts of

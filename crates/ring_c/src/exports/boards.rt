@@ -1,6 +1,6 @@
 //! What handles of a broadcast buffer do.
 ghost use Rattle.std.specs.Prelude.{◌≡◌};
-ghost use Rattle.ring_handles.specs.Boards.{heard_out, IsUnheard, Received, SaysLapped, Subscribes, Transmitted};
+ghost use Rattle.ring_handles.specs.Boards.{heard_out, CopiesOut, IsUnheard, Received, SaysLapped, Subscribes, TransmitsOut, Transmitted};
 ghost use Rattle.ring_handles.specs.Kinds.{a_receiver, a_transmitter};
 ghost use Rattle.ring_c.specs.Told.{GivesInto, OpensBoard, Uses, Yields};
 
@@ -51,7 +51,9 @@ pub extern "C" fn felter_transmit(
     type_id: i32,
     body: &[u8],
 ) -> i32
-    ensures { Uses a_transmitter (Transmitted type_id body.now) transmitter.old.held transmitter.new.held result }
+    ensures transmitted { Uses a_transmitter (TransmitsOut type_id body.now) transmitter.old.held transmitter.new.held
+        result }
+    ensures does { Uses a_transmitter (Transmitted type_id body.now) transmitter.old.held transmitter.new.held result }
 {
     work_on!(transmitter, alloc, Transmitter(side) => side.transmit(type_id, body))
 }
@@ -79,7 +81,9 @@ pub extern "C" fn felter_receive(
     lapped: &mut u64,
     buffer: &mut [u8],
 ) -> i32
-    ensures { Yields a_receiver Received (heard_out type_id.old len.old lapped.old buffer.old)
+    ensures copied { Yields a_receiver CopiesOut (heard_out type_id.old len.old lapped.old buffer.old)
+        (heard_out type_id.new len.new lapped.new buffer.new) receiver.old.held receiver.new.held result }
+    ensures does { Yields a_receiver Received (heard_out type_id.old len.old lapped.old buffer.old)
         (heard_out type_id.new len.new lapped.new buffer.new) receiver.old.held receiver.new.held result }
 {
     work_on!(receiver, alloc, Receiver(side) => side.receive(type_id, len, lapped, buffer))

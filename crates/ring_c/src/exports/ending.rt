@@ -1,7 +1,7 @@
 //! Rings and broadcast buffers that end, and what broadcast buffers and counters take back.
 ghost use Rattle.ring_handles.specs.Finishing.{Finishes, IsNotLast, IsUnfinished, TakesLast};
-ghost use Rattle.ring_handles.specs.Returning.{BoardEndsAt, IsAstray, IsBoardKept, IsOfOthers, IsOfThese, IsOfThisBoard};
-ghost use Rattle.ring_handles.specs.Returning.{IsRawAstray, IsRawOfThisBoard, TakesListener, TakesLoads, TakesWatcher};
+ghost use Rattle.ring_handles.specs.Returning.{BoardEndsAt, IsAstray, IsAtBoard, IsBoardKept, IsOfOthers, IsOfThese, IsOfThisBoard};
+ghost use Rattle.ring_handles.specs.Returning.{IsRawAstray, TakesListener, TakesLoads, TakesWatcher};
 ghost use Rattle.ring_handles.specs.{Side.IsOfThisRing, Kinds.some_counters};
 ghost use Rattle.ring_handles.specs.Kinds.{a_consumer, a_producer, a_raw_receiver, a_reader, a_receiver, a_transmitter};
 ghost use Rattle.ring_c.specs.Told.{EndsAs, JoinsInto, WhereBoth};
@@ -56,7 +56,7 @@ pub extern "C" fn felter_board_join_raw(
     transmitter: &mut Handle,
     receiver: &mut Handle,
 ) -> i32
-    requires { WhereBoth a_transmitter a_raw_receiver IsRawOfThisBoard transmitter.old.held receiver.old.held }
+    requires { WhereBoth a_transmitter a_raw_receiver IsAtBoard transmitter.old.held receiver.old.held }
     ensures { JoinsInto a_transmitter a_raw_receiver TakesWatcher IsRawAstray transmitter.old.held receiver.old.held
         transmitter.new.held receiver.new.held result }
 {

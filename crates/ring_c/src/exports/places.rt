@@ -1,7 +1,7 @@
 //! Where receivers are, how they were lapped last, and how large rings and boards are.
 ghost use Rattle.std.specs.Prelude.{◌≡◌, pos};
 ghost use Rattle.ring_handles.specs.Boards.{lap_out, SaysLap, SaysPlace};
-ghost use Rattle.ring_handles.specs.{Kinds.a_raw_receiver, Kinds.a_receiver, Raw.SaysRawLap, Raw.SaysRawPlace};
+ghost use Rattle.ring_handles.specs.Kinds.{a_raw_receiver, a_receiver};
 ghost use Rattle.ring_c.specs.Told.{sizes, SaysSizes, Yields};
 
 use crate::work_on::work_on;
@@ -42,7 +42,7 @@ pub extern "C" fn felter_raw_receiver_place(
     raw_receiver: &mut Handle,
     place: &mut u64,
 ) -> i32
-    ensures { Yields a_raw_receiver (λ _ told. SaysRawPlace told) place.old place.new raw_receiver.old.held
+    ensures { Yields a_raw_receiver (λ _ told. SaysPlace told) place.old place.new raw_receiver.old.held
         raw_receiver.new.held result }
 {
     work_on!(raw_receiver, alloc, RawReceiver(side) => side.place(place))
@@ -56,7 +56,7 @@ pub extern "C" fn felter_raw_receiver_lap(
     place: &mut u64,
     intent: &mut u64,
 ) -> i32
-    ensures { Yields a_raw_receiver SaysRawLap (lap_out place.old intent.old) (lap_out place.new intent.new)
+    ensures { Yields a_raw_receiver SaysLap (lap_out place.old intent.old) (lap_out place.new intent.new)
         raw_receiver.old.held raw_receiver.new.held result }
 {
     work_on!(raw_receiver, alloc, RawReceiver(side) => side.lap(place, intent))

@@ -1,7 +1,7 @@
 //! What handles of raw receivers do.
 ghost use Rattle.std.specs.Prelude.{◌≡◌};
-ghost use Rattle.ring_handles.specs.Raw.{seen, BodyLoaded, IsUnwatched, NextSeen, SaysLaps, SubscribesRaw, Tested};
-ghost use Rattle.ring_handles.specs.Kinds.{a_raw_receiver, a_transmitter};
+ghost use Rattle.ring_handles.specs.{Boards.seen, Boards.SaysLapped, Kinds.a_raw_receiver, Kinds.a_transmitter};
+ghost use Rattle.ring_handles.specs.Raw.{BodyLoaded, IsUnwatched, NextSeen, ReturnsOut, SubscribesRaw, Tested};
 ghost use Rattle.ring_c.specs.Told.{GivesInto, Uses, Yields};
 
 use crate::work_on::{make_into, work_on};
@@ -30,7 +30,9 @@ pub extern "C" fn felter_receive_next(
     len: &mut usize,
     lapped: &mut u64,
 ) -> i32
-    ensures { Yields a_raw_receiver NextSeen (seen type_id.old len.old lapped.old)
+    ensures copied { Yields a_raw_receiver (λ _ told. ReturnsOut told) (seen type_id.old len.old lapped.old)
+        (seen type_id.new len.new lapped.new) receiver.old.held receiver.new.held result }
+    ensures does { Yields a_raw_receiver NextSeen (seen type_id.old len.old lapped.old)
         (seen type_id.new len.new lapped.new) receiver.old.held receiver.new.held result }
 {
     work_on!(receiver, alloc, RawReceiver(side) => side.receive_next(type_id, len, lapped))
@@ -59,7 +61,7 @@ pub extern "C" fn felter_raw_lapped_count(
     receiver: &mut Handle,
     count: &mut u64,
 ) -> i32
-    ensures { Yields a_raw_receiver (λ _ told. SaysLaps told) count.old count.new receiver.old.held receiver.new.held
+    ensures { Yields a_raw_receiver (λ _ told. SaysLapped told) count.old count.new receiver.old.held receiver.new.held
         result }
 {
     work_on!(receiver, alloc, RawReceiver(side) => side.lapped_count(count))

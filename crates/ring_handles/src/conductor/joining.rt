@@ -54,17 +54,12 @@ impl ConductorSide {
         ensures refused { IfErr result (λ r. (self.new ≡ self.old) × (r.1 ≡ receiver)
             × IsForeign self.old (lends_receiver receiver) r.0) }
     {
-        if !self.lends(&receiver.board, receiver.identity) {
+        if !self.lends(receiver.end.lender(), receiver.identity) {
             return Err((OTHER_RING, receiver));
         }
-        let ReceiverSide {
-            board: _,
-            identity: _,
-            receiver,
-            lap: _,
-        } = receiver;
         let shared: &Shared = &self.shared;
-        self.conductor.join_receiver(&shared.board, receiver);
+        self.conductor
+            .join_receiver(&shared.board, receiver.end.into_receiver());
         self.shares += 1;
         Ok(())
     }

@@ -10,7 +10,7 @@ use crate::code::{NO_SHARES, OUT_OF_MEMORY};
 use crate::conductor::ConductorSide;
 use crate::counters::ReaderSide;
 use ring_board::CopyReceiver;
-use ring_ends::{Lender, Shared};
+use ring_ends::{Lender, ReceiverEnd, Shared};
 use std::alloc::Global;
 use std::sync::Arc;
 
@@ -45,9 +45,8 @@ impl ConductorSide {
     {
         let (shared, receiver) = self.lend_receiver(alloc)?;
         Ok(ReceiverSide {
+            end: ReceiverEnd::of(Lender::Lent(shared), receiver),
             identity: self.identity,
-            board: Lender::Lent(shared),
-            receiver,
             lap: None,
         })
     }
