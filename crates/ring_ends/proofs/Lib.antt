@@ -1,3 +1,4 @@
+mod BoardLemmas
 mod ClaimLemmas
 mod CopyLemmas
 pub mod EndLemmas

@@ -1,9 +1,12 @@
+pub mod BoardEnd
 pub mod Claiming
 pub mod Claims
+pub mod Counters
 pub mod End
 pub mod Ending
 pub mod Handlers
 pub mod Held
+pub mod Lending
 pub mod Next
 pub mod Receivers
 pub mod Slots

@@ -4,6 +4,7 @@ mod ConsumerLemmas
 mod CountingLemmas
 mod EndingLemmas
 pub mod HandleValues
+mod ReceiverLemmas
 mod RecoveringLemmas
 pub mod Values
 mod WritingLemmas

@@ -1,11 +1,11 @@
 -- What a handle holds, if it is of one kind.
 use Rattle.std.specs.Prelude.{ℕ, MatchOption}
 use Rattle.std.specs.declared.option.Option.{Option, TheVariants.None, TheVariants.Some}
-use Rattle.ring_handles.specs.{declared.adders.AdderSide.AdderSide, declared.held.Held.Held, Side.Reading, Side.Side}
-use Rattle.ring_handles.specs.declared.{client.ClientSide.ClientSide, conductor.ConductorSide.ConductorSide}
+use Rattle.ring_handles.specs.declared.{adders.AdderSide.AdderSide, held.Held.Held, client.ClientSide.ClientSide}
+use Rattle.ring_handles.specs.{Side.Reading, Side.Side, Boards.Listening, Boards.Watching}
+use Rattle.ring_handles.specs.declared.{conductor.ConductorSide.ConductorSide, boards.TransmitterSide.TransmitterSide}
 use Rattle.ring_handles.specs.declared.counters.{CountersSide.CountersSide, ReaderSide.ReaderSide}
 use Rattle.ring_handles.specs.declared.held.Held.TheVariants.{Producer, Consumer, Transmitter, Receiver, RawReceiver, Counters, Reader, Adder, Conductor, Client}
-use Rattle.ring_handles.specs.{Boards.Listening, Boards.Sending, Raw.Watching}
 
 abbrev pub a_producer : Held → Option Side
 a_producer (Producer p) = Some p
@@ -15,7 +15,7 @@ abbrev pub a_consumer : Held → Option Reading
 a_consumer (Consumer c) = Some c
 a_consumer _ = None
 
-abbrev pub a_transmitter : Held → Option Sending
+abbrev pub a_transmitter : Held → Option TransmitterSide
 a_transmitter (Transmitter t) = Some t
 a_transmitter _ = None
 
@@ -55,7 +55,7 @@ HoldsOne kind P held = MatchOption held ⊥ (λ h. MatchOption (kind h) ⊥ P)
 abbrev pub capacity_held : Held → Option ℕ
 capacity_held (Producer p) = Some p.capacity
 capacity_held (Consumer c) = Some c.end.capacity
-capacity_held (Transmitter t) = Some t.capacity
-capacity_held (Receiver r) = Some r.capacity
-capacity_held (RawReceiver r) = Some r.capacity
+capacity_held (Transmitter t) = Some t.end.capacity
+capacity_held (Receiver r) = Some r.end.capacity
+capacity_held (RawReceiver r) = Some r.end.capacity
 capacity_held _ = None

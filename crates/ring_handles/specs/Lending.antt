@@ -6,7 +6,7 @@ use Rattle.ring_counters.specs.{Manager.registry_of, Manager.shares_of, Manager.
 use Rattle.ring_counters.specs.{Seats.loads_of, Seats.made_of, Seats.seen_by, Seats.values_count, Views.value_load}
 use Rattle.ring_layout.specs.Lists.{Begins}
 use Rattle.ring_handles.specs.declared.counters.{CountersSide.CountersSide, ReaderSide.ReaderSide}
-use Rattle.ring_handles.specs.Serving.{conductor_of, values_in}
+use Rattle.ring_ends.specs.Lending.{conductor_of, values_in}
 use Rattle.ring_layout.specs.declared.refusal_codes.TheConstants.{BAD_ID, NO_SHARES, OUT_OF_MEMORY}
 use Rattle.ring_handles.specs.declared.code.TheConstants.{DONE}
 

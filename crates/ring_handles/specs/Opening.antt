@@ -59,8 +59,10 @@ IsBoardCode C start code =
 -- the transmitter holds all shares of a board on which nothing was transmitted
 abbrev pub HoldNewBoard : Identity → ℕ → ℕ → Option Held → Type 0
 HoldNewBoard i C start h =
-    HoldsOne a_transmitter (λ p.
-    p ≡ record { table = p.table; identity = i; capacity = C; view = opening_view C start }) h
+    HoldsOne a_transmitter (λ p. p ≡ record {
+      end = record { table = p.end.table; capacity = C; start = start; knows = opening_view C start };
+      identity = i;
+    }) h
 
 -- Counters ----------------------------------------------------------------------
 

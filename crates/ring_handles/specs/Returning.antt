@@ -2,63 +2,57 @@
 -- c are the counters before, d after, r is a receiver or a reader, and the code is what is returned.
 use Rattle.std.specs.Prelude.{◌≡◌, ◌≢◌, ℕ, ◌+◌, ℤ, MatchOption, None}
 use Rattle.std.specs.Arc.{arc_value}
-use Rattle.atomic_table.specs.Seated.{TableId}
-use Rattle.ring_board.specs.{Closing.close_refusal_of, Runs.AreAllRuns, Runs.AreRuns, Views.Sat, Views.joined}
+use Rattle.ring_board.specs.{Closing.close_refusal_of, Runs.AreAllRuns, Views.Sat}
 use Rattle.ring_counters.specs.{Manager.registry_of, Manager.shares_of, Manager.writes_of, ValueWrites.AreLoads}
 use Rattle.ring_counters.specs.Seats.{loads_of, made_of}
 use Rattle.ring_handles.specs.declared.counters.{CountersSide.CountersSide, ReaderSide.ReaderSide}
-use Rattle.ring_handles.specs.{Boards.knowing, Boards.tail_in, Boards.Listening, Boards.Sending, Raw.Watching}
-use Rattle.ring_handles.specs.Serving.{conductor_of, values_in}
+use Rattle.ring_handles.specs.declared.boards.TransmitterSide.{TransmitterSide}
+use Rattle.ring_handles.specs.Boards.{lender_of, Hearing, Listening, Watching}
+use Rattle.ring_ends.specs.BoardEnd.{heard_by, tail_in, transmitted, AreOfOneBoard, TakesIn}
+use Rattle.ring_ends.specs.Lending.{conductor_of, values_in}
 use Rattle.ring_layout.specs.declared.refusal_codes.TheConstants.{RECEIVERS_OUT}
 use Rattle.ring_handles.specs.declared.code.TheConstants.{IN_USE, OTHER_RING}
 
 -- Receivers ----------------------------------------------------------------------
 
--- a receiver with this seat was taken back, with its share, and its copies are runs of the transmitted list
-pub record TakesBack (p : Sending) (m : Sat) (q : Sending) : Type 0 where
-  pub joined_is : q ≡ knowing (joined p.view m.0) p
-  pub shares : q.view.shares ≡ p.view.shares + 1
-  pub runs : AreRuns p.view.sent m.0.from m.0.copies
+-- a receiver that knows this was taken back, with its share, and its copies are runs of the transmitted list
+abbrev pub TakesBack : TransmitterSide → Sat → TransmitterSide → Type 0
+TakesBack p m q = (q ≡ record p { end = q.end }) × TakesIn p.end m q.end
 
--- a receiver with this seat at such a board is of the transmitter's board
-abbrev pub IsAtBoard : Sending → TableId → ℕ → Sat → Type 0
-IsAtBoard p table capacity m = (p.table ≡ table) × (p.capacity ≡ capacity) × (p.view.start ≡ m.0.start)
+-- if it has the same number, the receiver is of the transmitter's broadcast buffer
+abbrev pub IsAtBoard : {M : Type 0} → TransmitterSide → Hearing M → Type 0
+IsAtBoard p r = p.identity ≡ r.identity → AreOfOneBoard p.end r.end
 
--- if it has the same number and is no conductor's, the receiver is of the transmitter's broadcast buffer
-abbrev pub IsOfThisBoard : Sending → Listening → Type 0
-IsOfThisBoard p r =
-    MatchOption r.lender (p.identity ≡ r.identity → IsAtBoard p r.table r.capacity r.seat) (λ _. Unit {0})
-
--- it is no conductor's, has the same number, and was taken back
-abbrev pub TakesListener : Sending → Listening → Sending → Type 0
-TakesListener p r q = (r.lender ≡ None) × (p.identity ≡ r.identity) × TakesBack p r.seat q
-
--- it is a conductor's, or the numbers differ
-abbrev pub IsAstray : Sending → Listening → ℤ → Type 0
-IsAstray p r code = (code ≡ OTHER_RING) × MatchOption r.lender (p.identity ≢ r.identity) (λ _. Unit {0})
-
--- if it has the same number, the raw receiver is of the transmitter's broadcast buffer
-abbrev pub IsRawOfThisBoard : Sending → Watching → Type 0
-IsRawOfThisBoard p r = p.identity ≡ r.identity → IsAtBoard p r.table r.capacity r.seat
+-- the same, unless it is a conductor's
+abbrev pub IsOfThisBoard : TransmitterSide → Listening → Type 0
+IsOfThisBoard p r = MatchOption (lender_of r) (IsAtBoard p r) (λ _. Unit {0})
 
 -- it has the same number, and was taken back
-abbrev pub TakesWatcher : Sending → Watching → Sending → Type 0
-TakesWatcher p r q = (p.identity ≡ r.identity) × TakesBack p r.seat q
+abbrev pub TakesWatcher : {M : Type 0} → TransmitterSide → Hearing M → TransmitterSide → Type 0
+TakesWatcher p r q = (p.identity ≡ r.identity) × TakesBack p r.end.knows q
+
+-- the same, and it is no conductor's
+abbrev pub TakesListener : TransmitterSide → Listening → TransmitterSide → Type 0
+TakesListener p r q = (lender_of r ≡ None) × TakesWatcher p r q
+
+-- it is a conductor's, or the numbers differ
+abbrev pub IsAstray : TransmitterSide → Listening → ℤ → Type 0
+IsAstray p r code = (code ≡ OTHER_RING) × MatchOption (lender_of r) (p.identity ≢ r.identity) (λ _. Unit {0})
 
 -- the numbers differ
-abbrev pub IsRawAstray : Sending → Watching → ℤ → Type 0
+abbrev pub IsRawAstray : TransmitterSide → Watching → ℤ → Type 0
 IsRawAstray p r code = (code ≡ OTHER_RING) × (p.identity ≢ r.identity)
 
 -- The end of a board -------------------------------------------------------------
 
 -- the last transmission ended here, and what each receiver that was taken back copied are runs of the transmitted list
-pub record BoardEndsAt (p : Sending) (tail : ℕ) : Type 0 where
-  pub tail_is : tail ≡ tail_in p
-  pub runs : AreAllRuns p.view.sent p.view.heard
+pub record BoardEndsAt (p : TransmitterSide) (tail : ℕ) : Type 0 where
+  pub tail_is : tail ≡ tail_in p.end.knows
+  pub runs : AreAllRuns (transmitted p.end) (heard_by p.end)
 
 -- another handle holds the board: that of a receiver, if shares are missing
-abbrev pub IsBoardKept : Sending → ℤ → Type 0
-IsBoardKept p code = MatchOption (close_refusal_of p.view.shares) (code ≡ IN_USE) (λ _. code ≡ RECEIVERS_OUT)
+abbrev pub IsBoardKept : TransmitterSide → ℤ → Type 0
+IsBoardKept p code = MatchOption (close_refusal_of p.end.knows.shares) (code ≡ IN_USE) (λ _. code ≡ RECEIVERS_OUT)
 
 -- Readers ------------------------------------------------------------------------
 

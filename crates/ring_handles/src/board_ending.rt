@@ -1,14 +1,13 @@
 //! What a transmitter takes back, and how its broadcast buffer ends.
 ghost use Rattle.std.specs.Prelude.{◌≡◌, IfErr, IfOk, OnOk};
-ghost use Rattle.ring_handles.specs.Returning.{BoardEndsAt, IsAstray, IsBoardKept, IsOfThisBoard};
-ghost use Rattle.ring_handles.specs.Returning.{IsRawAstray, IsRawOfThisBoard, TakesListener, TakesWatcher};
+ghost use Rattle.ring_handles.specs.Returning.{BoardEndsAt, IsAstray, IsAtBoard, IsBoardKept, IsOfThisBoard};
+ghost use Rattle.ring_handles.specs.Returning.{IsRawAstray, TakesListener, TakesWatcher};
 
 use crate::boards::{ReceiverSide, TransmitterSide};
 use crate::code::{IN_USE, OTHER_RING, RECEIVERS_OUT};
-use crate::lending::Lender;
 use crate::raw::RawReceiverSide;
+use ring_ends::Lender;
 use ring_layout::ALL_SHARES;
-use std::sync::Arc;
 
 impl TransmitterSide {
     /// Takes a receiver of the broadcast buffer back, with its share. Otherwise it comes back.
@@ -18,25 +17,19 @@ impl TransmitterSide {
         ensures refused { IfErr result (λ r. (self.new ≡ self.old) × (r.1 ≡ receiver)
             × IsAstray self.old receiver r.0) }
     {
-        let Lender::Own(_) = &receiver.board else {
+        let Lender::Own(_) = receiver.end.lender() else {
             return Err((OTHER_RING, receiver));
         };
         if !self.identity.is(receiver.identity) {
             return Err((OTHER_RING, receiver));
         }
-        let ReceiverSide {
-            board: _,
-            identity: _,
-            receiver,
-            lap: _,
-        } = receiver;
-        self.board.join(&mut self.transmitter, receiver);
+        self.end.join(receiver.end);
         Ok(())
     }
 
     /// Takes a raw receiver of the broadcast buffer back, with its share. Otherwise it comes back.
     pub fn join_raw(&mut self, raw: RawReceiverSide) -> Result<(), (i32, RawReceiverSide)>
-        requires { IsRawOfThisBoard self.old raw }
+        requires { IsAtBoard self.old raw }
         ensures joined { OnOk result (TakesWatcher self.old raw self.new) }
         ensures refused { IfErr result (λ r. (self.new ≡ self.old) × (r.1 ≡ raw)
             × IsRawAstray self.old raw r.0) }
@@ -44,14 +37,7 @@ impl TransmitterSide {
         if !self.identity.is(raw.identity) {
             return Err((OTHER_RING, raw));
         }
-        let RawReceiverSide {
-            board: _,
-            identity: _,
-            receiver,
-            latest: _,
-            lap: _,
-        } = raw;
-        self.board.join_raw(&mut self.transmitter, receiver);
+        self.end.join_raw(raw.end);
         Ok(())
     }
 
@@ -61,25 +47,16 @@ impl TransmitterSide {
         ensures closed { IfOk result (BoardEndsAt self) }
         ensures refused { IfErr result (λ r. (r.1 ≡ self) × IsBoardKept self r.0) }
     {
-        let TransmitterSide {
-            board,
-            identity,
-            transmitter,
-        } = self;
-        match Arc::try_unwrap(board) {
-            Ok(board) => Ok(board.rescue(transmitter).tail()),
-            Err(board) => {
-                let code = if transmitter.shares() == ALL_SHARES {
+        let TransmitterSide { end, identity } = self;
+        match end.close() {
+            Ok(closed) => Ok(closed.tail()),
+            Err(end) => {
+                let code = if end.shares() == ALL_SHARES {
                     IN_USE
                 } else {
                     RECEIVERS_OUT
                 };
-                let kept = TransmitterSide {
-                    board,
-                    identity,
-                    transmitter,
-                };
-                Err((code, kept))
+                Err((code, TransmitterSide { end, identity }))
             }
         }
     }

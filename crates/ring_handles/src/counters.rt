@@ -2,11 +2,11 @@
 ghost use Rattle.std.specs.Prelude.{◌≡◌};
 ghost use Rattle.std.specs.Arc.{arc_value};
 ghost use Rattle.ring_counters.specs.{Manager.IsManagerOf, Seats.IsReaderOf};
-ghost use Rattle.ring_handles.specs.Serving.{values_in};
+ghost use Rattle.ring_ends.specs.Lending.{values_in};
 
 use crate::identity::Identity;
-use crate::lending::Lender;
 use ring_counters::{CounterValues, CountersManager, ValueReader};
+use ring_ends::Lender;
 use std::sync::Arc;
 
 /// The counters' manager, with their values.

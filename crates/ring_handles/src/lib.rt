@@ -7,7 +7,7 @@
 //!   bytes into a buffer.
 //! - `boards`, `raw`, `board_ending`: handles of a broadcast buffer. `counters`, `counting`, `reading`: of counters and
 //!   their readers. `adders`, `adding`: of shared counters.
-//! - `conductor`, `client`, `lending`, `finishing`: a conductor, its clients, and what it lends.
+//! - `conductor`, `client`, `finishing`: a conductor, its clients, and what it lends.
 //! - `recovering`: the messages of a ring whose process died. They need no handle.
 //!
 //! One thread at a time calls with a handle, which may move between threads.
@@ -31,7 +31,6 @@ mod finishing;
 mod handle;
 mod held;
 mod identity;
-mod lending;
 mod loose;
 mod opening;
 mod producer;

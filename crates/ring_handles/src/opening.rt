@@ -19,7 +19,6 @@ use crate::identity::Identity;
 use crate::producer::ProducerSide;
 use crate::ring::{AnyConsumer, AnyProducer};
 use ring_adders::SharedCounter;
-use ring_board::Board;
 use ring_counters::CountersManager;
 use ring_ends::{NumberedEnd, open};
 use ring_rings::{InSlots, ManyToOne, OneToOne};
@@ -138,21 +137,10 @@ pub fn open_board(
     ensures code { MatchResult result (λ _. IsBoardCode capacity start DONE)
         (λ code. IsBoardCode capacity start code × (code ≢ DONE)) }
 {
-    let (board, transmitter) = match Board::new_at(alloc, capacity, start) {
-        Ok(made) => made,
-        Err(fault) => return Err(fault.code()),
-    };
-    let Ok(board) = Arc::new(alloc, board) else {
-        return Err(OUT_OF_MEMORY);
-    };
-    boxed(
-        alloc,
-        Held::Transmitter(TransmitterSide {
-            board,
-            identity,
-            transmitter,
-        }),
-    )
+    match ring_ends::open_board(alloc, capacity, start) {
+        Ok(end) => boxed(alloc, Held::Transmitter(TransmitterSide { end, identity })),
+        Err(fault) => Err(fault.code()),
+    }
 }
 
 /// Makes this many counters, of which none is used, with all shares of their values. Their ids are used again

@@ -5,7 +5,7 @@ ghost use Rattle.ring_handles.specs.Returning.{IsOfOthers, IsOfThese, TakesLoads
 
 use crate::code::{BAD_ID, DONE, NO_SHARES, OTHER_RING, OUT_OF_MEMORY};
 use crate::counters::{CountersSide, ReaderSide};
-use crate::lending::Lender;
+use ring_ends::Lender;
 use std::sync::Arc;
 
 impl CountersSide {

@@ -138,3 +138,22 @@ pub fn put_together(alloc: Global) -> anyhow::Result<Option<u32>> {
     end.try_write(1, b"first")?;
     Ok(Some(end.into_producer().shares()))
 }
+
+/// A counter is set and added to, and a reader loads its value. Returns that, with the shares before and after the
+/// reader is joined.
+pub fn counters(alloc: Global) -> anyhow::Result<Option<(i64, [u32; 2])>> {
+    let mut counters: ring_ends::CountersEnd = ring_ends::CountersEnd::new(alloc, 2, 0)?;
+    let id = counters.allocate_owned(0, 1, &[], b"count", 0, 0)?;
+    counters.set(id, 6)?;
+    counters.increment(id)?;
+    let lent: Result<ring_ends::ReaderEnd, ring_ends::SplitFault> = counters.reader();
+    let Ok(mut reader) = lent else {
+        return Ok(None);
+    };
+    let Ok(value) = reader.load(id) else {
+        return Ok(None);
+    };
+    let left = counters.counters().value_shares();
+    counters.join(reader);
+    Ok(Some((value, [left, counters.counters().value_shares()])))
+}

@@ -10,6 +10,7 @@ mod ends;
 mod memory;
 mod numbering;
 mod places;
+mod receivers;
 mod sharing;
 mod solo;
 
@@ -44,6 +45,8 @@ fn say_all<R: AllocGlobal + Print + Threads + Wait>(rt: &R) -> anyhow::Result<()
     say(rt, "ring_ends", ends::many_to_one(rt, rt.alloc()))?;
     say(rt, "ring_ends", ends::refused(rt.alloc()))?;
     say(rt, "ring_ends", ends::put_together(rt.alloc()))?;
+    say(rt, "ring_ends", ends::counters(rt.alloc()))?;
+    say(rt, "ring_ends", receivers::receive(rt.alloc()))?;
     say(rt, "ring_ends", numbering::settle(rt.alloc()))?;
     say(rt, "ring_ends", numbering::board(rt.alloc()))?;
     say(rt, "ring_ends", numbering::kept(rt.alloc()))?;

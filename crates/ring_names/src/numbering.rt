@@ -93,18 +93,25 @@ pub fn board(alloc: Global) -> anyhow::Result<Option<Came>> {
     }))
 }
 
-/// What is kept by number: the number, what is kept, and whether claims or a receiver are.
-pub fn kept(alloc: Global) -> anyhow::Result<(usize, Option<u32>, [bool; 2])> {
+/// What is kept by number: the number, what is kept, and whether claims, a receiver or what a conductor lends are.
+pub fn kept(alloc: Global) -> anyhow::Result<(usize, Option<u32>, [bool; 4])> {
     let mut numbered = ring_ends::Numbered::new(alloc);
     numbered.reserve()?;
     let number = numbered.hold(5u32);
     let claims: Option<ring_ends::OpenClaims> = None;
+    let shared: Option<ring_ends::Shared> = None;
+    let lender: Option<ring_ends::Lender<ring_board::Board>> = None;
     let (board, _transmitter) = ring_board::Board::new(alloc, 256)?;
     let mut receivers = ring_ends::Numbered::new(alloc);
     let received = ring_ends::receive_at(alloc, &board, &mut receivers, 1);
     Ok((
         number,
         numbered.take(number),
-        [claims.is_some(), received.is_some()],
+        [
+            claims.is_some(),
+            received.is_some(),
+            shared.is_some(),
+            lender.is_some(),
+        ],
     ))
 }

@@ -1,8 +1,8 @@
 //! What handles of a broadcast buffer do.
 // Written by c/bindings from felter.h and exports.txt. To change this file, change them and run c/bindings.
 ghost use Rattle.ring_c.specs.Told.{GivesInto, OpensBoard, Uses, Yields};
-ghost use Rattle.ring_handles.specs.Boards.{IsUnheard, heard_out, Received, SaysLapped, Subscribes, Transmitted};
-ghost use Rattle.ring_handles.specs.Kinds.{a_receiver, a_transmitter};
+ghost use Rattle.ring_handles.specs.Boards.{CopiesOut, IsUnheard, heard_out, Received, SaysLapped, Subscribes};
+ghost use Rattle.ring_handles.specs.{Boards.TransmitsOut, Boards.Transmitted, Kinds.a_receiver, Kinds.a_transmitter};
 
 use crate::work_on::{fill, make_into, work_on};
 use ring_handles::{Handle, Identity, open_board};
@@ -54,7 +54,9 @@ pub extern "C" fn felter_transmit(
     type_id: i32,
     body: &[u8],
 ) -> i32
-    ensures { Uses a_transmitter (Transmitted type_id body.now) transmitter.old.held transmitter.new.held result }
+    ensures transmitted { Uses a_transmitter (TransmitsOut type_id body.now) transmitter.old.held transmitter.new.held
+        result }
+    ensures does { Uses a_transmitter (Transmitted type_id body.now) transmitter.old.held transmitter.new.held result }
 {
     work_on!(transmitter, alloc, Transmitter(side) => side.transmit(type_id, body))
 }
@@ -90,7 +92,9 @@ pub extern "C" fn felter_receive(
     lapped: &mut u64,
     buffer: &mut [u8],
 ) -> i32
-    ensures { Yields a_receiver Received (heard_out type_id.old len.old lapped.old buffer.old)
+    ensures copied { Yields a_receiver CopiesOut (heard_out type_id.old len.old lapped.old buffer.old)
+        (heard_out type_id.new len.new lapped.new buffer.new) receiver.old.held receiver.new.held result }
+    ensures does { Yields a_receiver Received (heard_out type_id.old len.old lapped.old buffer.old)
         (heard_out type_id.new len.new lapped.new buffer.new) receiver.old.held receiver.new.held result }
 {
     work_on!(receiver, alloc, Receiver(side) => side.receive(type_id, len, lapped, buffer))

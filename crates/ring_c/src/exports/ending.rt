@@ -4,8 +4,8 @@ ghost use Rattle.ring_c.specs.Told.{EndsAs, JoinsInto, WhereBoth};
 ghost use Rattle.ring_handles.specs.Finishing.{Finishes, IsNotLast, IsUnfinished, TakesLast};
 ghost use Rattle.ring_handles.specs.Kinds.{a_consumer, a_producer, a_raw_receiver, a_reader, a_receiver, a_transmitter};
 ghost use Rattle.ring_handles.specs.{Kinds.some_counters, Side.IsOfThisRing};
-ghost use Rattle.ring_handles.specs.Returning.{BoardEndsAt, IsAstray, IsBoardKept, IsOfOthers, IsOfThese, TakesWatcher};
-ghost use Rattle.ring_handles.specs.Returning.{IsOfThisBoard, IsRawAstray, IsRawOfThisBoard, TakesListener, TakesLoads};
+ghost use Rattle.ring_handles.specs.Returning.{BoardEndsAt, IsAstray, IsAtBoard, IsBoardKept, IsOfOthers, IsOfThese};
+ghost use Rattle.ring_handles.specs.Returning.{IsOfThisBoard, IsRawAstray, TakesListener, TakesLoads, TakesWatcher};
 
 use crate::work_on::{end_with, join_into};
 use ring_handles::Handle;
@@ -61,7 +61,7 @@ pub extern "C" fn felter_board_join_raw(
     transmitter: &mut Handle,
     receiver: &mut Handle,
 ) -> i32
-    requires { WhereBoth a_transmitter a_raw_receiver IsRawOfThisBoard transmitter.old.held receiver.old.held }
+    requires { WhereBoth a_transmitter a_raw_receiver IsAtBoard transmitter.old.held receiver.old.held }
     ensures { JoinsInto a_transmitter a_raw_receiver TakesWatcher IsRawAstray transmitter.old.held receiver.old.held
         transmitter.new.held receiver.new.held result }
 {

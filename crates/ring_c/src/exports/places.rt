@@ -2,7 +2,7 @@
 // Written by c/bindings from felter.h and exports.txt. To change this file, change them and run c/bindings.
 ghost use Rattle.ring_c.specs.Told.{sizes, SaysSizes, Yields};
 ghost use Rattle.ring_handles.specs.Boards.{lap_out, SaysLap, SaysPlace};
-ghost use Rattle.ring_handles.specs.{Kinds.a_raw_receiver, Kinds.a_receiver, Raw.SaysRawLap, Raw.SaysRawPlace};
+ghost use Rattle.ring_handles.specs.Kinds.{a_raw_receiver, a_receiver};
 ghost use Rattle.std.specs.Prelude.{◌≡◌, pos};
 
 use crate::work_on::work_on;
@@ -45,8 +45,8 @@ pub extern "C" fn felter_raw_receiver_place(
     receiver: &mut Handle,
     place: &mut u64,
 ) -> i32
-    ensures { Yields a_raw_receiver (λ _ told. SaysRawPlace told) place.old place.new receiver.old.held
-        receiver.new.held result }
+    ensures { Yields a_raw_receiver (λ _ told. SaysPlace told) place.old place.new receiver.old.held receiver.new.held
+        result }
 {
     work_on!(receiver, alloc, RawReceiver(side) => side.place(place))
 }
@@ -60,7 +60,7 @@ pub extern "C" fn felter_raw_receiver_lap(
     place: &mut u64,
     intent: &mut u64,
 ) -> i32
-    ensures { Yields a_raw_receiver SaysRawLap (lap_out place.old intent.old) (lap_out place.new intent.new)
+    ensures { Yields a_raw_receiver SaysLap (lap_out place.old intent.old) (lap_out place.new intent.new)
         receiver.old.held receiver.new.held result }
 {
     work_on!(receiver, alloc, RawReceiver(side) => side.lap(place, intent))

@@ -1,8 +1,8 @@
 //! What handles of raw receivers do.
 // Written by c/bindings from felter.h and exports.txt. To change this file, change them and run c/bindings.
 ghost use Rattle.ring_c.specs.Told.{GivesInto, Uses, Yields};
-ghost use Rattle.ring_handles.specs.Kinds.{a_raw_receiver, a_transmitter};
-ghost use Rattle.ring_handles.specs.Raw.{seen, BodyLoaded, IsUnwatched, NextSeen, SaysLaps, SubscribesRaw, Tested};
+ghost use Rattle.ring_handles.specs.{Boards.seen, Boards.SaysLapped, Kinds.a_raw_receiver, Kinds.a_transmitter};
+ghost use Rattle.ring_handles.specs.Raw.{BodyLoaded, IsUnwatched, NextSeen, ReturnsOut, SubscribesRaw, Tested};
 
 use crate::work_on::{make_into, work_on};
 use ring_handles::Handle;
@@ -32,8 +32,10 @@ pub extern "C" fn felter_receive_next(
     len: &mut usize,
     lapped: &mut u64,
 ) -> i32
-    ensures { Yields a_raw_receiver NextSeen (seen type_id.old len.old lapped.old) (seen type_id.new len.new lapped.new)
-        receiver.old.held receiver.new.held result }
+    ensures copied { Yields a_raw_receiver (λ _ told. ReturnsOut told) (seen type_id.old len.old lapped.old)
+        (seen type_id.new len.new lapped.new) receiver.old.held receiver.new.held result }
+    ensures does { Yields a_raw_receiver NextSeen (seen type_id.old len.old lapped.old)
+        (seen type_id.new len.new lapped.new) receiver.old.held receiver.new.held result }
 {
     work_on!(receiver, alloc, RawReceiver(side) => side.receive_next(type_id, len, lapped))
 }
@@ -65,7 +67,7 @@ pub extern "C" fn felter_raw_lapped_count(
     receiver: &mut Handle,
     count: &mut u64,
 ) -> i32
-    ensures { Yields a_raw_receiver (λ _ told. SaysLaps told) count.old count.new receiver.old.held receiver.new.held
+    ensures { Yields a_raw_receiver (λ _ told. SaysLapped told) count.old count.new receiver.old.held receiver.new.held
         result }
 {
     work_on!(receiver, alloc, RawReceiver(side) => side.lapped_count(count))

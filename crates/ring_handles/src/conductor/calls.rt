@@ -6,7 +6,7 @@ use crate::client::ClientSide;
 use crate::code::{BAD_MOMENT, DONE, NO_SHARES};
 use crate::conductor::ConductorSide;
 use crate::counting::LAST_MOMENT;
-use crate::lending::Shared;
+use ring_ends::Shared;
 use ring_service::{Client, WorkStop};
 use std::alloc::Global;
 
@@ -38,6 +38,7 @@ impl ConductorSide {
         };
         Ok(ClientSide {
             shared,
+            identity: self.identity,
             client: Client::new(producer, receiver),
         })
     }
