@@ -1,12 +1,11 @@
 -- What the return value of an export says of the handles before and after it.
 use Rattle.std.specs.Prelude.{◌≡◌, ◌≢◌, ◌⊎◌, ◌/◌, ℕ, ℤ, MatchOption, Bool}
 use Rattle.std.specs.declared.option.Option.{Option, TheVariants.None, TheVariants.Some}
-use Rattle.ring_handles.specs.{declared.held.Held.Held, declared.lending.Shared.Shared, Conducting.IsConductorCode}
-use Rattle.ring_handles.specs.{Closing.TellsEnd, Closing.WhyNotFinished, Producing.closing, Seating.IsOfThisConductor}
+use Rattle.ring_handles.specs.{declared.held.Held.Held, Serving.Sharing, Seating.IsOfThisConductor, Side.identity_of}
+use Rattle.ring_handles.specs.{Conducting.IsConductorCode, Closing.TellsEnd, Closing.WhyNotFinished, Producing.closing}
 use Rattle.ring_handles.specs.Kinds.{a_conductor, a_producer, capacity_held, HoldsOne}
 use Rattle.ring_handles.specs.Opening.{HoldFirstAdder, HoldFresh, HoldFreshCounters, HoldNewBoard, HoldNewConductor}
 use Rattle.ring_handles.specs.Opening.{IsAdderCode, IsBoardCode, IsCountersCode, IsMakeCode}
-use Rattle.ring_handles.specs.Side.{identity_of}
 use Rattle.ring_layout.specs.declared.refusal_codes.TheConstants.{OUT_OF_MEMORY}
 use Rattle.ring_handles.specs.declared.code.TheConstants.{DONE, HANDLE_IN_USE, NO_HANDLE, WRONG_HANDLE}
 
@@ -92,7 +91,7 @@ abbrev pub WhereBoth : {S T : Type 0} → (Held → Option S) → (Held → Opti
 WhereBoth kind other P p o = IfHolds kind (λ s. IfHolds other (P s) o) p
 
 -- the same of a conductor and what another handle of this kind holds
-abbrev pub AreOfOneConductor : {S : Type 0} → (Held → Option S) → (S → Option Shared) → Option Held → Option Held
+abbrev pub AreOfOneConductor : {S : Type 0} → (Held → Option S) → (S → Option Sharing) → Option Held → Option Held
     → Type 0
 AreOfOneConductor other lender p o = WhereBoth a_conductor other (λ c r. IsOfThisConductor c (lender r)) p o
 

@@ -8,7 +8,8 @@ use Rattle.ring_board.specs.{declared.shared.view.View.View, Seats.next_record, 
 use Rattle.ring_board.specs.{Receiving.GotCopy, Receiving.GotLapped, Receiving.GotNothing, TransmitterSteps.sent_on}
 use Rattle.ring_board.specs.Records.{end_of}
 use Rattle.ring_board.specs.Refusals.{subscribe_refusal_of, transmit_code, transmit_refusal_of}
-use Rattle.ring_handles.specs.declared.{identity.Identity.Identity, lending.Shared.Shared}
+use Rattle.ring_ends.specs.declared.lending.Shared.{Shared}
+use Rattle.ring_handles.specs.declared.identity.Identity.{Identity}
 use Rattle.ring_layout.specs.declared.refusal_codes.TheConstants.{LAPPED, NO_SHARES, OUT_OF_MEMORY}
 use Rattle.ring_handles.specs.declared.code.TheConstants.{DONE, NO_MESSAGE, SHORT_BUFFER}
 

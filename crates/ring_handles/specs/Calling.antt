@@ -1,7 +1,6 @@
 -- What calls of clients do: k is the client before, l after, m is its seat at the board before, n after, and the code
 -- is what is returned.
 use Rattle.std.specs.Prelude.{◌≡◌, ◌⊎◌, ℕ, ℤ, pos, true}
-use Rattle.std.specs.Arc.{arc_value}
 use Rattle.ring_table.specs.ServiceSteps.{LoadsHeartbeat}
 use Rattle.ring_rings.specs.{Claiming.RefusesTry, Claiming.Writes, Claiming.try_code, Seats.capacity_of}
 use Rattle.ring_board.specs.{declared.fault.Lapped.Lapped, Views.Sat}
@@ -11,13 +10,13 @@ use Rattle.ring_service.specs.declared.client.Polled.TheVariants as told
 use Rattle.ring_service.specs.declared.client.SendFault.{SendFault}
 use Rattle.ring_service.specs.declared.client.SendFault.TheVariants as fault
 use Rattle.ring_service.specs.Asking.{client_seat, client_view, receiver_of, producer_of, IsHeard, IsSendable, RefusesSend, Sends}
-use Rattle.ring_handles.specs.declared.client.ClientSide.{ClientSide}
+use Rattle.ring_handles.specs.{Serving.shared_with, declared.client.ClientSide.ClientSide}
 use Rattle.ring_layout.specs.declared.refusal_codes.TheConstants.{LAPPED, TOO_LONG}
 use Rattle.ring_handles.specs.declared.code.TheConstants.{DONE, NO_MESSAGE, OTHER_REPLY}
 
 -- the bytes of the ring into which its commands go
 abbrev pub ring_bytes : ClientSide → ℕ
-ring_bytes k = capacity_of (arc_value k.shared).ring
+ring_bytes k = capacity_of (shared_with k).shared.ring
 
 -- Sending ------------------------------------------------------------------------
 
@@ -34,7 +33,7 @@ pub record NotSent (request : Request) (k l : ClientSide) (code : ℤ) : Type 0 
 
 -- it is as before, but for its producer
 pub record KeepsReceiver (k l : ClientSide) : Type 0 where
-  pub shared : arc_value l.shared ≡ arc_value k.shared
+  pub shared : shared_with l ≡ shared_with k
   pub receiver : receiver_of l.client ≡ receiver_of k.client
 
 -- a command was sent with an id that was drawn for it, and the id is put out; or it was refused
@@ -87,7 +86,7 @@ IsPolled correlation before after m n code = ((code ≡ DONE) × HearsOwn correl
 
 -- it is as before, but for its receiver
 pub record KeepsSender (k l : ClientSide) : Type 0 where
-  pub shared : arc_value l.shared ≡ arc_value k.shared
+  pub shared : shared_with l ≡ shared_with k
   pub producer : producer_of l.client ≡ producer_of k.client
 
 abbrev pub Polled : ℕ → PollOut → PollOut → ClientSide → ClientSide → ℤ → Type 0

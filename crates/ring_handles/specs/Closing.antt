@@ -5,8 +5,9 @@ use Rattle.ring_board.specs.Runs.{AreAllRuns}
 use Rattle.ring_service.specs.declared.conductor.Conductor.{Conductor}
 use Rattle.ring_service.specs.Conducting.{manager_in, received_of, ring_view}
 use Rattle.ring_service.specs.Finishing.{finish_code, joined_by, refusal_to, replies_of, IsFoldOfReceived}
-use Rattle.ring_handles.specs.declared.{conductor.ConductorSide.ConductorSide, lending.Shared.Shared}
-use Rattle.ring_handles.specs.{Conducting.shared_by, Finishing.LeavesCommitted, Finishing.LeavesUnread}
+use Rattle.ring_ends.specs.declared.lending.Shared.{Shared}
+use Rattle.ring_handles.specs.declared.conductor.ConductorSide.{ConductorSide}
+use Rattle.ring_handles.specs.{Finishing.LeavesCommitted, Finishing.LeavesUnread, Serving.shared_by}
 use Rattle.ring_handles.specs.declared.code.TheConstants.{IN_USE}
 
 -- This many commands were received, and Unread holds of the number that were left. What was received makes of fresh
@@ -26,7 +27,7 @@ Concludes s c p = EndsWith (λ left. MatchOption (refusal_to c p)
     (λ _. LeavesCommitted (capacity_of s.ring) (start_of s.ring) (ring_view c) left)) c
 
 abbrev pub TellsEnd : ConductorSide → ℕ → ℕ → Type 0
-TellsEnd c = Concludes (shared_by c) c.conductor c.producer
+TellsEnd c = Concludes (shared_by c).shared c.conductor c.producer
 
 -- another handle holds what it shares: that of a client or a receiver, if shares are missing
 abbrev pub WhyNotFinished : ConductorSide → ℤ → Type 0

@@ -1,6 +1,6 @@
 -- What calls of conductors do: c is the conductor before, d after, and the code is what is returned.
 use Rattle.std.specs.Prelude.{◌≡◌, ◌⊎◌, ◌<◌, ◌≤◌, ◌^◌, ◌&&◌, ℕ, ℤ, pos, [], MatchOption, Option, Some, if◌then◌else◌}
-use Rattle.std.specs.{Arc.arc_value, Option.option_map}
+use Rattle.std.specs.Option.{option_map}
 use Rattle.ring_layout.specs.{Places.is_board_capacity, Places.is_capacity, Refusals.all_shares}
 use Rattle.ring_table.specs.Views.{beaten, producer_alone, with_consumer, without_share}
 use Rattle.ring_rings.specs.Opening.{first_consumer, first_producer}
@@ -16,13 +16,9 @@ use Rattle.ring_service.specs.declared.conductor.WorkStop.TheVariants.{Limit, Bl
 use Rattle.ring_service.specs.Asking.{client_seat, client_view}
 use Rattle.ring_service.specs.Conducting.{board_view, manager_in, ledger_of, ring_view, value_shares_of, KeepsTheRest, KeepsWhatItServes, Works}
 use Rattle.ring_handles.specs.declared.{client.ClientSide.ClientSide, conductor.ConductorSide.ConductorSide}
-use Rattle.ring_handles.specs.declared.{identity.Identity.Identity, lending.Shared.Shared}
+use Rattle.ring_handles.specs.{Serving.shared_by, Serving.shared_with, declared.identity.Identity.Identity}
 use Rattle.ring_layout.specs.declared.refusal_codes.TheConstants.{BAD_CAPACITY, NO_SHARES, OUT_OF_MEMORY}
 use Rattle.ring_handles.specs.declared.code.TheConstants.{BAD_MOMENT, DONE}
-
--- what a conductor shares with its handles
-abbrev pub shared_by : ConductorSide → Shared
-shared_by c = arc_value c.shared
 
 -- it shares the same, and the producer from which those of clients are split is as before
 pub record KeepsProducer (c d : ConductorSide) : Type 0 where
@@ -44,8 +40,8 @@ IsConductorCode C R count code =
 -- nothing was sent, no reply given and no counter used, and all shares are here
 pub record IsNewConductor (i : Identity) (C R count reuse_ms : ℕ) (c : ConductorSide) : Type 0 where
   pub identity : (shared_by c).identity ≡ i
-  pub ring : (capacity_of (shared_by c).ring ≡ C) × (start_of (shared_by c).ring ≡ 0)
-  pub board : (board_capacity_of (shared_by c).board ≡ R) × (board_start_of (shared_by c).board ≡ 0)
+  pub ring : (capacity_of (shared_by c).shared.ring ≡ C) × (start_of (shared_by c).shared.ring ≡ 0)
+  pub board : (board_capacity_of (shared_by c).shared.board ≡ R) × (board_start_of (shared_by c).shared.board ≡ 0)
   pub producer : view_of c.producer ≡ first_producer C 0
   pub consumer : ring_view c.conductor ≡ first_consumer C 0
   pub transmitter : board_view c.conductor ≡ opening_view R 0
@@ -57,7 +53,7 @@ pub record IsNewConductor (i : Identity) (C R count reuse_ms : ℕ) (c : Conduct
 
 -- a share of the ring and one of the board were moved to a client, whose receiver starts at the reply at latest
 pub record Hires (c d : ConductorSide) (k : ClientSide) : Type 0 where
-  pub shared : (shared_by d ≡ shared_by c) × (arc_value k.shared ≡ shared_by c)
+  pub shared : (shared_by d ≡ shared_by c) × (shared_with k ≡ shared_by c)
   pub left : view_of d.producer ≡ without_share (view_of c.producer)
   pub right : client_view k.client ≡ producer_alone (view_of c.producer)
   pub replies_left : board_view d.conductor ≡ fewer (board_view c.conductor)

@@ -1,20 +1,30 @@
 -- Seats that a conductor gives and takes back: c is the conductor before, d after, k is a client, r a receiver or a
 -- reader, and the code is what is returned.
 use Rattle.std.specs.Prelude.{◌≡◌, ◌⊎◌, ◌≤◌, ◌+◌, ℤ, [], IfSome, Option, None, Some}
-use Rattle.std.specs.Arc.{arc_value}
+use Rattle.std.specs.Option.{option_map}
 use Rattle.ring_rings.specs.{Joining.Joins, Seats.capacity_of as ring_bytes, Seats.view_of}
 use Rattle.ring_board.specs.{declared.fault.SubscribeFault.TheVariants.NoShares, Runs.AreRuns, Seats.capacity_of}
 use Rattle.ring_board.specs.{Refusals.subscribe_refusal_of, Views.Sat, Views.fewer, Views.joined, Views.newcomer}
-use Rattle.ring_counters.specs.{Manager.registry_of, Manager.writes_of, Seats.loads_of, Seats.made_of, Seats.seen_by}
-use Rattle.ring_counters.specs.ValueWrites.{AreLoads}
+use Rattle.ring_counters.specs.Manager.{registry_of, writes_of}
+use Rattle.ring_counters.specs.{Seats.loads_of, Seats.made_of, Seats.IsNewReaderOf, ValueWrites.AreLoads}
 use Rattle.ring_service.specs.Asking.{client_seat, client_view}
 use Rattle.ring_service.specs.Conducting.{board_view, manager_in, value_shares_of, KeepsSeats, KeepsTheRest}
-use Rattle.ring_handles.specs.declared.{client.ClientSide.ClientSide, lending.Shared.Shared}
+use Rattle.ring_handles.specs.{declared.client.ClientSide.ClientSide, Boards.table_of, Boards.Listening}
 use Rattle.ring_handles.specs.declared.{conductor.ConductorSide.ConductorSide, counters.ReaderSide.ReaderSide}
-use Rattle.ring_handles.specs.{Boards.table_of, Boards.Listening, Serving.conductor_of, Serving.IsNumberedOtherwise}
-use Rattle.ring_handles.specs.Conducting.{shared_by, KeepsProducer}
+use Rattle.ring_handles.specs.Conducting.{KeepsProducer}
+use Rattle.ring_handles.specs.Serving.{numbered, shared_by, shared_with, sharing_in, IsNumberedOtherwise, Sharing}
 use Rattle.ring_layout.specs.declared.refusal_codes.TheConstants.{NO_SHARES, OUT_OF_MEMORY}
 use Rattle.ring_handles.specs.declared.code.TheConstants.{OTHER_RING}
+
+-- what a conductor shares, if the client, the receiver or the reader is one's
+abbrev pub lends_client : ClientSide → Option Sharing
+lends_client k = Some (shared_with k)
+
+abbrev pub lends_reader : ReaderSide → Option Sharing
+lends_reader r = option_map (numbered r.identity) r.end.lender
+
+abbrev pub lends_receiver : Listening → Option Sharing
+lends_receiver r = option_map (numbered r.identity) r.lender
 
 -- Lending ------------------------------------------------------------------------
 
@@ -30,10 +40,10 @@ pub record LendsReceiver (c d : ConductorSide) (r : Listening) : Type 0 where
   pub moved : MovesShare c d r.seat
   pub lent : let s = shared_by c in
       r ≡ record {
-        table = table_of s.board;
+        table = table_of s.shared.board;
         identity = s.identity;
-        capacity = capacity_of s.board;
-        lender = Some s;
+        capacity = capacity_of s.shared.board;
+        lender = Some s.shared;
         seat = r.seat;
         lap = None;
       }
@@ -53,10 +63,8 @@ pub record KeepsSideCounters (c d : ConductorSide) : Type 0 where
 -- a share of the values was moved to a reader, which has seen every write so far
 pub record LendsReader (c d : ConductorSide) (r : ReaderSide) : Type 0 where
   pub shares : value_shares_of d.conductor + 1 ≡ value_shares_of c.conductor
-  pub lender : conductor_of r.values ≡ Some (shared_by c)
-  pub made : made_of r.reader ≡ writes_of (manager_in c.conductor)
-  pub seen : seen_by r.reader ≡ writes_of (manager_in c.conductor)
-  pub loads : loads_of r.reader ≡ []
+  pub lender : lends_reader r ≡ Some (shared_by c)
+  pub reader : IsNewReaderOf r.end.values (writes_of (manager_in c.conductor)) r.end.reader
   pub keeps : KeepsSideCounters c d
 
 -- why a reader is not made: the conductor needs its last share, or memory runs out
@@ -73,39 +81,30 @@ pub record TakesSeat (c d : ConductorSide) (m : Sat) : Type 0 where
 
 -- a client of this conductor was taken back: its claims are the conductor's producer's
 pub record TakesClient (c : ConductorSide) (k : ClientSide) (d : ConductorSide) : Type 0 where
-  pub lender : arc_value k.shared ≡ shared_by c
+  pub lender : shared_with k ≡ shared_by c
   pub shared : shared_by d ≡ shared_by c
-  pub producer : Joins (ring_bytes (shared_by c).ring) (view_of c.producer) (client_view k.client) (view_of d.producer)
+  pub producer : Joins (ring_bytes (shared_by c).shared.ring) (view_of c.producer) (client_view k.client)
+      (view_of d.producer)
   pub receiver : TakesSeat c d (client_seat k.client)
 
 -- a receiver of this conductor's replies was taken back
 pub record TakesReceiver (c : ConductorSide) (r : Listening) (d : ConductorSide) : Type 0 where
-  pub lender : r.lender ≡ Some (shared_by c)
+  pub lender : lends_receiver r ≡ Some (shared_by c)
   pub receiver : TakesSeat c d r.seat
   pub rest : KeepsProducer c d
 
 -- a reader of this conductor's values was taken back, with its share: what it loaded are values after first parts of
 -- the writes
 pub record TakesReader (c : ConductorSide) (r : ReaderSide) (d : ConductorSide) : Type 0 where
-  pub lender : conductor_of r.values ≡ Some (shared_by c)
+  pub lender : lends_reader r ≡ Some (shared_by c)
   pub shares : value_shares_of d.conductor ≡ value_shares_of c.conductor + 1
-  pub loads : AreLoads (made_of r.reader) (loads_of r.reader) (writes_of (manager_in d.conductor))
+  pub loads : AreLoads (made_of r.end.reader) (loads_of r.end.reader) (writes_of (manager_in d.conductor))
   pub keeps : KeepsSideCounters c d
 
 -- it is no conductor's, or that of one with another number
-abbrev pub IsForeign : ConductorSide → Option Shared → ℤ → Type 0
+abbrev pub IsForeign : ConductorSide → Option Sharing → ℤ → Type 0
 IsForeign c lender code = (code ≡ OTHER_RING) × IsNumberedOtherwise (shared_by c).identity lender
 
--- what a conductor shares, if the client, the receiver or the reader is one's
-abbrev pub lends_client : ClientSide → Option Shared
-lends_client k = Some (arc_value k.shared)
-
-abbrev pub lends_reader : ReaderSide → Option Shared
-lends_reader r = conductor_of r.values
-
-abbrev pub lends_receiver : Listening → Option Shared
-lends_receiver r = r.lender
-
 -- if it is a conductor's of the same number, it is this one's
-abbrev pub IsOfThisConductor : ConductorSide → Option Shared → Type 0
+abbrev pub IsOfThisConductor : ConductorSide → Option Sharing → Type 0
 IsOfThisConductor c lender = IfSome lender (λ s. s.identity ≡ (shared_by c).identity → s ≡ shared_by c)

@@ -1,30 +1,34 @@
 -- What a conductor shares with its handles, and what of it they hold.
-use Rattle.std.specs.Prelude.{◌≡◌, ◌≢◌, IfSome, MatchOption, Option, None, Some}
-use Rattle.std.specs.Arc.{arc_value}
-use Rattle.ring_board.specs.declared.board.Board.{Board}
-use Rattle.ring_counters.specs.declared.values.seats.CounterValues.{CounterValues}
-use Rattle.ring_handles.specs.declared.{identity.Identity.Identity, lending.Shared.Shared}
-use Rattle.ring_handles.specs.declared.lending.Lender.{Lender, TheVariants.Own, TheVariants.Lent}
+use Rattle.std.specs.Prelude.{◌≡◌, ◌≢◌, IfSome, MatchOption, Option}
+use Rattle.std.specs.{Arc.arc_value, Option.option_map}
+use Rattle.ring_ends.specs.{Lending.conductor_of, declared.lending.Lender.Lender, declared.lending.Shared.Shared}
+use Rattle.ring_handles.specs.declared.{client.ClientSide.ClientSide, conductor.ConductorSide.ConductorSide}
+use Rattle.ring_handles.specs.declared.identity.Identity.{Identity}
 
--- the broadcast buffer of a receiver
-abbrev pub board_in : Lender Board → Board
-board_in (Own board) = arc_value board
-board_in (Lent shared) = (arc_value shared).board
+-- what a conductor shares, and its number
+pub record Sharing : Type 0 where
+  pub identity : Identity
+  pub shared : Shared
 
--- the values that a reader reads
-abbrev pub values_in : Lender CounterValues → CounterValues
-values_in (Own values) = arc_value values
-values_in (Lent shared) = (arc_value shared).values
+abbrev pub numbered : Identity → Shared → Sharing
+numbered identity shared = record { identity = identity; shared = shared }
 
--- what a conductor shares, if the lender is one
-abbrev pub conductor_of : {T : Type 0} → Lender T → Option Shared
-conductor_of (Own own) = None
-conductor_of (Lent shared) = Some (arc_value shared)
+-- what a conductor shares with its handles
+abbrev pub shared_by : ConductorSide → Sharing
+shared_by c = numbered c.identity (arc_value c.shared)
+
+-- what a client has of its conductor
+abbrev pub shared_with : ClientSide → Sharing
+shared_with k = numbered k.identity (arc_value k.shared)
+
+-- what a receiver or a reader with this number has of its conductor, if it is one's
+abbrev pub sharing_in : {T : Type 0} → Identity → Lender T → Option Sharing
+sharing_in identity lender = option_map (numbered identity) (conductor_of lender)
 
 -- it is a conductor's of this number
-abbrev pub IsNumbered : Identity → Option Shared → Type 0
+abbrev pub IsNumbered : Identity → Option Sharing → Type 0
 IsNumbered identity lender = MatchOption lender ⊥ (λ s. s.identity ≡ identity)
 
 -- it is no conductor's, or one's of another number
-abbrev pub IsNumberedOtherwise : Identity → Option Shared → Type 0
+abbrev pub IsNumberedOtherwise : Identity → Option Sharing → Type 0
 IsNumberedOtherwise identity lender = IfSome lender (λ s. s.identity ≢ identity)

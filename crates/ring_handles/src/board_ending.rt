@@ -5,8 +5,8 @@ ghost use Rattle.ring_handles.specs.Returning.{IsRawAstray, IsRawOfThisBoard, Ta
 
 use crate::boards::{ReceiverSide, TransmitterSide};
 use crate::code::{IN_USE, OTHER_RING, RECEIVERS_OUT};
-use crate::lending::Lender;
 use crate::raw::RawReceiverSide;
+use ring_ends::Lender;
 use ring_layout::ALL_SHARES;
 use std::sync::Arc;
 

@@ -7,8 +7,8 @@ ghost use Rattle.ring_handles.specs.Boards.{heard_out, lap_out, IsUnheard, Recei
 use crate::code::{DONE, LAPPED, NO_MESSAGE, OUT_OF_MEMORY, SHORT_BUFFER};
 use crate::copying::copy_at;
 use crate::identity::Identity;
-use crate::lending::Lender;
 use ring_board::{Board, CopyReceiver, Lapped, Transmitter};
+use ring_ends::Lender;
 use std::alloc::Global;
 use std::marker::Model;
 use std::sync::Arc;
@@ -53,7 +53,8 @@ pub struct ReceiverSide {
 
 impl Model for ReceiverSide {
     ghost use Rattle.ring_board.specs.Seats.{capacity_of, receiver_seat, IsReceiverOf};
-    ghost use Rattle.ring_handles.specs.{Boards.table_of, Boards.Listening, Serving.board_in, Serving.conductor_of};
+    ghost use Rattle.ring_ends.specs.Lending.{board_in, conductor_of};
+    ghost use Rattle.ring_handles.specs.Boards.{table_of, Listening};
 
     ghost Value = { Listening };
 

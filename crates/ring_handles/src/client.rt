@@ -7,7 +7,8 @@ ghost use Rattle.ring_rings.specs.Seats.{open_claims_of, IsProducerOf};
 ghost use Rattle.ring_board.specs.Seats.{IsReceiverOf};
 ghost use Rattle.ring_service.specs.Asking.{producer_of, receiver_of};
 
-use crate::lending::Shared;
+use crate::identity::Identity;
+use ring_ends::Shared;
 use ring_service::Client;
 use std::sync::Arc;
 
@@ -15,6 +16,8 @@ use std::sync::Arc;
 #[derive(Drop)]
 pub struct ClientSide {
     pub(crate) shared: Arc<Shared>,
+    /// Its conductor's.
+    pub(crate) identity: Identity,
     pub(crate) client: Client,
     ghost produces: { IsProducerOf (arc_value shared).ring (producer_of client) },
     ghost settled: { open_claims_of (producer_of client) ≡ 0 },

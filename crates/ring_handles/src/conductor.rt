@@ -1,5 +1,4 @@
 //! A conductor in a handle.
-pub(crate) mod asking;
 pub(crate) mod calls;
 pub(crate) mod joining;
 pub(crate) mod lending;
@@ -11,7 +10,8 @@ ghost use Rattle.ring_rings.specs.Seats.{open_claims_of, IsConsumerOf, IsProduce
 ghost use Rattle.ring_board.specs.Seats.{shares_of as board_shares_of};
 ghost use Rattle.ring_service.specs.Conducting.{transmitter_of, IsConductorOf};
 
-use crate::lending::Shared;
+use crate::identity::Identity;
+use ring_ends::Shared;
 use ring_rings::Producer;
 use ring_service::Conductor;
 use std::sync::Arc;
@@ -20,6 +20,8 @@ use std::sync::Arc;
 #[derive(Drop)]
 pub struct ConductorSide {
     pub(crate) shared: Arc<Shared>,
+    /// The conductor's.
+    pub(crate) identity: Identity,
     pub(crate) conductor: Conductor,
     pub(crate) producer: Producer,
     /// How many shares of the broadcast buffer are not with receivers.

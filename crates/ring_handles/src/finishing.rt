@@ -9,7 +9,7 @@ ghost use Rattle.ring_handles.specs.Finishing.{LeavesCommitted, LeavesUnread};
 
 use crate::code::{IN_USE, PRODUCERS_OUT, RECEIVERS_OUT};
 use crate::conductor::ConductorSide;
-use crate::lending::Shared;
+use ring_ends::Shared;
 use ring_layout::ALL_SHARES;
 use ring_rings::Producer;
 use ring_service::{Conductor, finish};
@@ -32,7 +32,6 @@ fn end_all(parts: Shared, conductor: Conductor, producer: Producer) -> Ended
         (received_of conductor)) conductor result.received result.left }
 {
     let Shared {
-        identity: _,
         ring,
         board,
         values,
@@ -54,7 +53,6 @@ fn end_without(parts: Shared, conductor: Conductor) -> Ended
         conductor result.received result.left }
 {
     let Shared {
-        identity: _,
         ring,
         board,
         values,
@@ -108,6 +106,7 @@ impl ConductorSide {
         let tested = self.test();
         let ConductorSide {
             shared,
+            identity,
             conductor,
             producer,
             shares,
@@ -121,6 +120,7 @@ impl ConductorSide {
                 };
                 let kept = ConductorSide {
                     shared,
+                    identity,
                     conductor,
                     producer,
                     shares,

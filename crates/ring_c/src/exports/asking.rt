@@ -5,7 +5,7 @@ ghost use Rattle.ring_handles.specs.Counting.{label_out, TellsCount, TellsFound,
 ghost use Rattle.ring_c.specs.Told.{Yields};
 
 use crate::work_on::work_on;
-use ring_handles::Handle;
+use ring_handles::{Handle, asking};
 use std::alloc::Global;
 
 /// Finds the lowest id in use of a type and a registration id.
@@ -20,7 +20,7 @@ pub extern "C" fn felter_conductor_find(
     ensures { Yields a_conductor (AsksIts (TellsFound type_id registration)) id.old id.new conductor.old.held
         conductor.new.held result }
 {
-    work_on!(conductor, alloc, Conductor(side) => side.find(type_id, registration, id))
+    work_on!(conductor, alloc, Conductor(side) => asking::find(side.counters(), type_id, registration, id))
 }
 
 /// Puts out how many ids there are, in use or not.
@@ -33,7 +33,7 @@ pub extern "C" fn felter_conductor_count(
     ensures { Yields a_conductor (AsksIts TellsCount) count.old count.new conductor.old.held conductor.new.held
         result }
 {
-    work_on!(conductor, alloc, Conductor(side) => side.count(count))
+    work_on!(conductor, alloc, Conductor(side) => asking::count(side.counters(), count))
 }
 
 /// Copies a counter's label to the front of a buffer, and puts its length out.
@@ -48,7 +48,7 @@ pub extern "C" fn felter_conductor_label(
     ensures { Yields a_conductor (AsksIts (TellsLabel id)) (label_out len.old buffer.old) (label_out len.new buffer.new)
         conductor.old.held conductor.new.held result }
 {
-    work_on!(conductor, alloc, Conductor(side) => side.label(id, len, buffer))
+    work_on!(conductor, alloc, Conductor(side) => asking::label(side.counters(), id, len, buffer))
 }
 
 /// Copies a counter's key of 112 bytes, with zeros after a short one, to the front of a buffer.
@@ -62,7 +62,7 @@ pub extern "C" fn felter_conductor_key(
     ensures { Yields a_conductor (AsksIts (TellsKey id)) buffer.old buffer.new conductor.old.held conductor.new.held
         result }
 {
-    work_on!(conductor, alloc, Conductor(side) => side.key(id, buffer))
+    work_on!(conductor, alloc, Conductor(side) => asking::key(side.counters(), id, buffer))
 }
 
 /// Puts out a counter's value.
@@ -76,7 +76,7 @@ pub extern "C" fn felter_conductor_value(
     ensures { Yields a_conductor (AsksIts (TellsOf (λ r. (counter_at r id).values.value) id)) value.old value.new
         conductor.old.held conductor.new.held result }
 {
-    work_on!(conductor, alloc, Conductor(side) => side.value(id, value))
+    work_on!(conductor, alloc, Conductor(side) => asking::value(side.counters(), id, value))
 }
 
 /// Puts out a counter's type.
@@ -90,7 +90,7 @@ pub extern "C" fn felter_conductor_type_id(
     ensures { Yields a_conductor (AsksIts (TellsOf (λ r. (counter_at r id).metadata.type_id) id)) type_id.old type_id.new
         conductor.old.held conductor.new.held result }
 {
-    work_on!(conductor, alloc, Conductor(side) => side.type_id(id, type_id))
+    work_on!(conductor, alloc, Conductor(side) => asking::type_id(side.counters(), id, type_id))
 }
 
 /// Puts out a counter's registration id.
@@ -104,7 +104,7 @@ pub extern "C" fn felter_conductor_registration(
     ensures { Yields a_conductor (AsksIts (TellsOf (λ r. (counter_at r id).values.registration) id)) registration.old registration.new
         conductor.old.held conductor.new.held result }
 {
-    work_on!(conductor, alloc, Conductor(side) => side.registration(id, registration))
+    work_on!(conductor, alloc, Conductor(side) => asking::registration(side.counters(), id, registration))
 }
 
 /// Puts out a counter's owner, 0 for none.
@@ -118,7 +118,7 @@ pub extern "C" fn felter_conductor_owner(
     ensures { Yields a_conductor (AsksIts (TellsOf (λ r. (counter_at r id).values.owner) id)) owner.old owner.new
         conductor.old.held conductor.new.held result }
 {
-    work_on!(conductor, alloc, Conductor(side) => side.owner(id, owner))
+    work_on!(conductor, alloc, Conductor(side) => asking::owner(side.counters(), id, owner))
 }
 
 /// Puts out the state of a record: 0 if it was never used, 1 if the counter is in use, -1 if it was freed.
@@ -132,7 +132,7 @@ pub extern "C" fn felter_conductor_state(
     ensures { Yields a_conductor (AsksIts (TellsOfRecord (λ r. state_of (counter_at r id).metadata.status) id)) state.old state.new
         conductor.old.held conductor.new.held result }
 {
-    work_on!(conductor, alloc, Conductor(side) => side.state(id, state))
+    work_on!(conductor, alloc, Conductor(side) => asking::state(side.counters(), id, state))
 }
 
 /// Puts out the moment from which an id may be allocated again.
@@ -146,5 +146,5 @@ pub extern "C" fn felter_conductor_deadline(
     ensures { Yields a_conductor (AsksIts (TellsOfRecord (λ r. deadline_of (counter_at r id).metadata.status) id)) deadline.old deadline.new
         conductor.old.held conductor.new.held result }
 {
-    work_on!(conductor, alloc, Conductor(side) => side.deadline(id, deadline))
+    work_on!(conductor, alloc, Conductor(side) => asking::deadline(side.counters(), id, deadline))
 }

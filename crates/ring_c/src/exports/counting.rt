@@ -6,7 +6,7 @@ ghost use Rattle.ring_handles.specs.Kinds.{some_counters};
 ghost use Rattle.ring_c.specs.Told.{Uses, Yields};
 
 use crate::work_on::work_on;
-use ring_handles::{Handle, Wanted};
+use ring_handles::{Handle, Wanted, asking};
 use std::alloc::Global;
 
 /// Allocates a counter of value 0, and says its id.
@@ -130,7 +130,7 @@ pub extern "C" fn felter_counter_find(
     ensures { Yields some_counters (WasFound type_id registration) id.old id.new counters.old.held counters.new.held
         result }
 {
-    work_on!(counters, alloc, Counters(side) => side.find(type_id, registration, id))
+    work_on!(counters, alloc, Counters(side) => asking::find(side.counters(), type_id, registration, id))
 }
 
 /// Says how many ids there are, in use or not.
@@ -143,7 +143,7 @@ pub extern "C" fn felter_counters_count(
     ensures { Yields some_counters (Asks TellsCount) count.old count.new counters.old.held
         counters.new.held result }
 {
-    work_on!(counters, alloc, Counters(side) => side.count(count))
+    work_on!(counters, alloc, Counters(side) => asking::count(side.counters(), count))
 }
 
 /// Says how many counters can be allocated at a moment.
@@ -157,7 +157,7 @@ pub extern "C" fn felter_counters_available(
     ensures { Yields some_counters (Asks (TellsAvailable now)) available.old available.new counters.old.held
         counters.new.held result }
 {
-    work_on!(counters, alloc, Counters(side) => side.available(now, available))
+    work_on!(counters, alloc, Counters(side) => asking::available(side.counters(), now, available))
 }
 
 /// Says a counter's value.
@@ -171,7 +171,7 @@ pub extern "C" fn felter_counter_value(
     ensures { Yields some_counters (Asked (λ r. (counter_at r id).values.value) id) value.old value.new
         counters.old.held counters.new.held result }
 {
-    work_on!(counters, alloc, Counters(side) => side.value(id, value))
+    work_on!(counters, alloc, Counters(side) => asking::value(side.counters(), id, value))
 }
 
 /// Says a counter's type.
@@ -185,7 +185,7 @@ pub extern "C" fn felter_counter_type_id(
     ensures { Yields some_counters (Asked (λ r. (counter_at r id).metadata.type_id) id) type_id.old type_id.new
         counters.old.held counters.new.held result }
 {
-    work_on!(counters, alloc, Counters(side) => side.type_id(id, type_id))
+    work_on!(counters, alloc, Counters(side) => asking::type_id(side.counters(), id, type_id))
 }
 
 /// Says a counter's registration id.
@@ -199,7 +199,7 @@ pub extern "C" fn felter_counter_registration(
     ensures { Yields some_counters (Asked (λ r. (counter_at r id).values.registration) id)
         registration.old registration.new counters.old.held counters.new.held result }
 {
-    work_on!(counters, alloc, Counters(side) => side.registration(id, registration))
+    work_on!(counters, alloc, Counters(side) => asking::registration(side.counters(), id, registration))
 }
 
 /// Says a counter's owner, 0 for none.
@@ -213,7 +213,7 @@ pub extern "C" fn felter_counter_owner(
     ensures { Yields some_counters (Asked (λ r. (counter_at r id).values.owner) id) owner.old owner.new
         counters.old.held counters.new.held result }
 {
-    work_on!(counters, alloc, Counters(side) => side.owner(id, owner))
+    work_on!(counters, alloc, Counters(side) => asking::owner(side.counters(), id, owner))
 }
 
 /// Copies a counter's label to the front of a buffer, and says its length.
@@ -228,7 +228,7 @@ pub extern "C" fn felter_counter_label(
     ensures { Yields some_counters (Asks (TellsLabel id)) (label_out len.old buffer.old) (label_out len.new buffer.new)
         counters.old.held counters.new.held result }
 {
-    work_on!(counters, alloc, Counters(side) => side.label(id, len, buffer))
+    work_on!(counters, alloc, Counters(side) => asking::label(side.counters(), id, len, buffer))
 }
 
 /// Copies a counter's key of 112 bytes, with zeros after a short one, to the front of a buffer.
@@ -241,5 +241,5 @@ pub extern "C" fn felter_counter_key(
 ) -> i32
     ensures { Yields some_counters (Asks (TellsKey id)) buffer.old buffer.new counters.old.held counters.new.held result }
 {
-    work_on!(counters, alloc, Counters(side) => side.key(id, buffer))
+    work_on!(counters, alloc, Counters(side) => asking::key(side.counters(), id, buffer))
 }

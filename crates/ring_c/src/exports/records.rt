@@ -4,7 +4,7 @@ ghost use Rattle.ring_handles.specs.{Counting.Asks, Counting.TellsOfRecord, Coun
 ghost use Rattle.ring_c.specs.Told.{Yields};
 
 use crate::work_on::work_on;
-use ring_handles::Handle;
+use ring_handles::{Handle, asking};
 use std::alloc::Global;
 
 /// Raises a counter's value to this one if it is below it, and puts out 1, or otherwise 0.
@@ -33,7 +33,7 @@ pub extern "C" fn felter_counter_state(
     ensures { Yields some_counters (Asks (TellsOfRecord (λ r. state_of (counter_at r id).metadata.status) id))
         state.old state.new counters.old.held counters.new.held result }
 {
-    work_on!(counters, alloc, Counters(side) => side.state(id, state))
+    work_on!(counters, alloc, Counters(side) => asking::state(side.counters(), id, state))
 }
 
 /// Puts out the moment from which an id may be allocated again.
@@ -47,5 +47,5 @@ pub extern "C" fn felter_counter_deadline(
     ensures { Yields some_counters (Asks (TellsOfRecord (λ r. deadline_of (counter_at r id).metadata.status) id))
         deadline.old deadline.new counters.old.held counters.new.held result }
 {
-    work_on!(counters, alloc, Counters(side) => side.deadline(id, deadline))
+    work_on!(counters, alloc, Counters(side) => asking::deadline(side.counters(), id, deadline))
 }

@@ -1,16 +1,29 @@
 //! What a conductor takes back.
-ghost use Rattle.std.specs.Prelude.{◌≡◌, IfErr, OnOk};
+ghost use Rattle.std.specs.Prelude.{◌≡◌, false, true, IfErr, OnOk};
 ghost use Rattle.ring_handles.specs.Seating.{lends_client, lends_reader, lends_receiver};
 ghost use Rattle.ring_handles.specs.Seating.{IsForeign, IsOfThisConductor, TakesClient, TakesReader, TakesReceiver};
+ghost use Rattle.ring_handles.specs.Serving.{sharing_in, IsNumbered, IsNumberedOtherwise};
 
 use crate::boards::ReceiverSide;
 use crate::client::ClientSide;
 use crate::code::OTHER_RING;
 use crate::conductor::ConductorSide;
 use crate::counters::ReaderSide;
-use crate::lending::Shared;
+use crate::identity::Identity;
+use ring_ends::{Lender, Shared};
 
 impl ConductorSide {
+    /// Tests whether a lender with this number is a conductor of the same number.
+    fn lends<T>(&self, lender: &Lender<T>, identity: Identity) -> bool
+        ensures lent { result ≡ true → IsNumbered self.now.identity (sharing_in identity lender.now) }
+        ensures foreign { result ≡ false → IsNumberedOtherwise self.now.identity (sharing_in identity lender.now) }
+    {
+        match lender {
+            Lender::Own(_) => false,
+            Lender::Lent(_) => identity.is(self.identity),
+        }
+    }
+
     /// Takes a client back, with its shares of ring and broadcast buffer. Otherwise it comes back.
     pub fn join(&mut self, client: ClientSide) -> Result<(), (i32, ClientSide)>
         requires { IsOfThisConductor self.old (lends_client client) }
@@ -18,10 +31,14 @@ impl ConductorSide {
         ensures refused { IfErr result (λ r. (self.new ≡ self.old) × (r.1 ≡ client)
             × IsForeign self.old (lends_client client) r.0) }
     {
-        if !self.shared.identity.is(client.shared.identity) {
+        if !self.identity.is(client.identity) {
             return Err((OTHER_RING, client));
         }
-        let ClientSide { shared: _, client } = client;
+        let ClientSide {
+            shared: _,
+            identity: _,
+            client,
+        } = client;
         let (producer, receiver) = client.into_parts();
         let shared: &Shared = &self.shared;
         shared.ring.join(&mut self.producer, producer);
@@ -37,7 +54,7 @@ impl ConductorSide {
         ensures refused { IfErr result (λ r. (self.new ≡ self.old) × (r.1 ≡ receiver)
             × IsForeign self.old (lends_receiver receiver) r.0) }
     {
-        if !self.shared.lends(&receiver.board) {
+        if !self.lends(&receiver.board, receiver.identity) {
             return Err((OTHER_RING, receiver));
         }
         let ReceiverSide {
@@ -59,14 +76,11 @@ impl ConductorSide {
         ensures refused { IfErr result (λ r. (self.new ≡ self.old) × (r.1 ≡ reader)
             × IsForeign self.old (lends_reader reader) r.0) }
     {
-        if !self.shared.lends(&reader.values) {
+        if !reader.end.is_lent() || !self.identity.is(reader.identity) {
             return Err((OTHER_RING, reader));
         }
-        let ReaderSide {
-            values: _,
-            identity: _,
-            reader,
-        } = reader;
+        let ReaderSide { end, identity: _ } = reader;
+        let reader = end.into_reader();
         let shared: &Shared = &self.shared;
         self.conductor.join_value_reader(&shared.values, reader);
         Ok(())

@@ -2,15 +2,15 @@
 ghost use Rattle.std.specs.Arc.{arc_value};
 ghost use Rattle.std.specs.Prelude.{◌≡◌, IfErr, IfOk};
 ghost use Rattle.ring_board.specs.Seats.{receiver_seat, IsReceiverOf};
-ghost use Rattle.ring_handles.specs.Conducting.{shared_by};
+ghost use Rattle.ring_handles.specs.Serving.{shared_by};
 ghost use Rattle.ring_handles.specs.Seating.{IsUnheard, LendsReader, LendsReceiver, MovesShare, WhyNotSeated};
 
 use crate::boards::ReceiverSide;
 use crate::code::{NO_SHARES, OUT_OF_MEMORY};
 use crate::conductor::ConductorSide;
 use crate::counters::ReaderSide;
-use crate::lending::{Lender, Shared};
 use ring_board::CopyReceiver;
+use ring_ends::{Lender, ReaderEnd, Shared};
 use std::alloc::Global;
 use std::sync::Arc;
 
@@ -21,8 +21,8 @@ impl ConductorSide {
         &mut self,
         alloc: Global,
     ) -> Result<(Arc<Shared>, CopyReceiver), i32>
-        ensures shared { IfOk result (λ r. arc_value r.0 ≡ shared_by self.old) }
-        ensures receiver { IfOk result (λ r. IsReceiverOf (shared_by self.old).board r.1) }
+        ensures shared { IfOk result (λ r. arc_value r.0 ≡ (shared_by self.old).shared) }
+        ensures receiver { IfOk result (λ r. IsReceiverOf (shared_by self.old).shared.board r.1) }
         ensures moved { IfOk result (λ r. MovesShare self.old self.new (receiver_seat r.1)) }
         ensures refused { IfErr result (λ code. (self.new ≡ self.old) × IsUnheard self.old code) }
     {
@@ -45,7 +45,7 @@ impl ConductorSide {
     {
         let (shared, receiver) = self.lend_receiver(alloc)?;
         Ok(ReceiverSide {
-            identity: shared.identity,
+            identity: self.identity,
             board: Lender::Lent(shared),
             receiver,
             lap: None,
@@ -62,9 +62,8 @@ impl ConductorSide {
         };
         match self.conductor.value_reader(&shared.values) {
             Ok(reader) => Ok(ReaderSide {
-                identity: shared.identity,
-                values: Lender::Lent(shared),
-                reader,
+                end: ReaderEnd::of(Lender::Lent(shared), reader),
+                identity: self.identity,
             }),
             Err(_) => Err(NO_SHARES),
         }

@@ -5,9 +5,9 @@ ghost use Rattle.ring_handles.specs.Conducting.{sizes_refused, IsConductorCode, 
 use crate::code::{BAD_CAPACITY, BAD_COUNT, DONE, OUT_OF_MEMORY};
 use crate::conductor::ConductorSide;
 use crate::identity::Identity;
-use crate::lending::Shared;
 use ring_board::Board;
 use ring_counters::CountersManager;
+use ring_ends::Shared;
 use ring_layout::counter_descriptor::MAX_COUNTERS;
 use ring_layout::{ALL_SHARES, is_board_capacity, is_capacity};
 use ring_rings::PlainManyToOneRing;
@@ -63,7 +63,6 @@ impl ConductorSide {
             return Err(OUT_OF_MEMORY);
         };
         let shared = Shared {
-            identity,
             ring,
             board,
             values,
@@ -73,6 +72,7 @@ impl ConductorSide {
         };
         Ok(ConductorSide {
             shared,
+            identity,
             conductor: Conductor::new(consumer, transmitter, counters),
             producer,
             shares: ALL_SHARES,

@@ -1,5 +1,6 @@
 use Rattle.std.proofs.Common.{subst}
-use Rattle.ring_handles.specs.{Closing.Concludes, declared.lending.Shared.Shared}
+use Rattle.ring_ends.specs.declared.lending.Shared.{Shared}
+use Rattle.ring_handles.specs.Closing.{Concludes}
 use Rattle.ring_handles.proofs.conductor.ConductorSide.finish.Goals as goal
 
 pub returns-clause-ended : goal.returns-clause-ended
