@@ -1,7 +1,6 @@
 mod BatchLemmas
 mod ProducerLemmas
 mod ConsumerLemmas
-mod CountingLemmas
 mod EndingLemmas
 pub mod HandleValues
 mod ReceiverLemmas

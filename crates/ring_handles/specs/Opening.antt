@@ -75,9 +75,9 @@ IsCountersCode count code =
 -- counters of which none was used, with all shares
 pub record AreNew (i : Identity) (count reuse_ms : ℕ) (c : CountersSide) : Type 0 where
   pub identity : c.identity ≡ i
-  pub registry : registry_of c.manager ≡ fresh_registry count reuse_ms
-  pub writes : writes_of c.manager ≡ []
-  pub shares : shares_of c.manager ≡ all_shares
+  pub registry : registry_of c.end.manager ≡ fresh_registry count reuse_ms
+  pub writes : writes_of c.end.manager ≡ []
+  pub shares : shares_of c.end.manager ≡ all_shares
 
 abbrev pub HoldFreshCounters : Identity → ℕ → ℕ → Option Held → Type 0
 HoldFreshCounters i count reuse_ms h = HoldsOne some_counters (AreNew i count reuse_ms) h

@@ -1,15 +1,12 @@
 -- What broadcast buffers and counters take back, and how a broadcast buffer ends: p is the transmitter before, q after,
 -- c are the counters before, d after, r is a receiver or a reader, and the code is what is returned.
 use Rattle.std.specs.Prelude.{◌≡◌, ◌≢◌, ℕ, ◌+◌, ℤ, MatchOption, None}
-use Rattle.std.specs.Arc.{arc_value}
 use Rattle.ring_board.specs.{Closing.close_refusal_of, Runs.AreAllRuns, Views.Sat}
-use Rattle.ring_counters.specs.{Manager.registry_of, Manager.shares_of, Manager.writes_of, ValueWrites.AreLoads}
-use Rattle.ring_counters.specs.Seats.{loads_of, made_of}
 use Rattle.ring_handles.specs.declared.counters.{CountersSide.CountersSide, ReaderSide.ReaderSide}
 use Rattle.ring_handles.specs.declared.boards.TransmitterSide.{TransmitterSide}
 use Rattle.ring_handles.specs.Boards.{lender_of, Hearing, Listening, Watching}
 use Rattle.ring_ends.specs.BoardEnd.{heard_by, tail_in, transmitted, AreOfOneBoard, TakesIn}
-use Rattle.ring_ends.specs.Lending.{conductor_of, values_in}
+use Rattle.ring_ends.specs.Counters.{TakesReader}
 use Rattle.ring_layout.specs.declared.refusal_codes.TheConstants.{RECEIVERS_OUT}
 use Rattle.ring_handles.specs.declared.code.TheConstants.{IN_USE, OTHER_RING}
 
@@ -58,21 +55,17 @@ IsBoardKept p code = MatchOption (close_refusal_of p.end.knows.shares) (code ≡
 
 -- if it has the same number and is no conductor's, the reader is of these counters
 abbrev pub IsOfThese : CountersSide → ReaderSide → Type 0
-IsOfThese c r = MatchOption (conductor_of r.values)
-    (c.identity ≡ r.identity → values_in r.values ≡ arc_value c.values) (λ _. Unit {0})
+IsOfThese c r = MatchOption r.end.lender
+    (c.identity ≡ r.identity → r.end.values ≡ c.end.values) (λ _. Unit {0})
 
--- a reader of the same number was taken back, with its share: what it loaded are values after first parts of the writes
+-- a reader of the same number, which is no conductor's, was taken back
 pub record TakesLoads (c : CountersSide) (r : ReaderSide) (d : CountersSide) : Type 0 where
-  pub own : conductor_of r.values ≡ None
+  pub own : r.end.lender ≡ None
   pub same : c.identity ≡ r.identity
-  pub shares : shares_of d.manager ≡ shares_of c.manager + 1
-  pub loads : AreLoads (made_of r.reader) (loads_of r.reader) (writes_of d.manager)
-  pub registry : registry_of d.manager ≡ registry_of c.manager
-  pub writes : writes_of d.manager ≡ writes_of c.manager
-  pub values : arc_value d.values ≡ arc_value c.values
+  pub end : TakesReader c.end r.end d.end
   pub identity : d.identity ≡ c.identity
 
 -- it is a conductor's, or the numbers differ
 abbrev pub IsOfOthers : CountersSide → ReaderSide → ℤ → Type 0
 IsOfOthers c r code =
-    (code ≡ OTHER_RING) × MatchOption (conductor_of r.values) (c.identity ≢ r.identity) (λ _. Unit {0})
+    (code ≡ OTHER_RING) × MatchOption r.end.lender (c.identity ≢ r.identity) (λ _. Unit {0})

@@ -5,15 +5,15 @@ use Rattle.std.specs.Option.{option_map}
 use Rattle.ring_rings.specs.{Joining.Joins, Seats.capacity_of as ring_bytes, Seats.view_of}
 use Rattle.ring_board.specs.{declared.fault.SubscribeFault.TheVariants.NoShares, Runs.AreRuns}
 use Rattle.ring_board.specs.{Refusals.subscribe_refusal_of, Views.Sat, Views.fewer, Views.joined, Views.newcomer}
-use Rattle.ring_counters.specs.{Manager.registry_of, Manager.writes_of, Seats.loads_of, Seats.made_of, Seats.seen_by}
-use Rattle.ring_counters.specs.ValueWrites.{AreLoads}
+use Rattle.ring_counters.specs.Manager.{registry_of, writes_of}
+use Rattle.ring_counters.specs.{Seats.loads_of, Seats.made_of, Seats.IsNewReaderOf, ValueWrites.AreLoads}
 use Rattle.ring_service.specs.Asking.{client_seat, client_view}
 use Rattle.ring_service.specs.Conducting.{board_view, manager_in, value_shares_of, KeepsSeats, KeepsTheRest}
 use Rattle.ring_handles.specs.{declared.client.ClientSide.ClientSide, Boards.lender_of, Boards.Listening}
 use Rattle.ring_handles.specs.declared.{conductor.ConductorSide.ConductorSide, counters.ReaderSide.ReaderSide}
 use Rattle.ring_ends.specs.BoardEnd.{end_at}
 use Rattle.ring_handles.specs.Conducting.{KeepsProducer}
-use Rattle.ring_handles.specs.Serving.{numbered, shared_by, shared_with, sharing_in, IsNumberedOtherwise, Sharing}
+use Rattle.ring_handles.specs.Serving.{numbered, shared_by, shared_with, IsNumberedOtherwise, Sharing}
 use Rattle.ring_layout.specs.declared.refusal_codes.TheConstants.{NO_SHARES, OUT_OF_MEMORY}
 use Rattle.ring_handles.specs.declared.code.TheConstants.{OTHER_RING}
 
@@ -22,7 +22,7 @@ abbrev pub lends_client : ClientSide → Option Sharing
 lends_client k = Some (shared_with k)
 
 abbrev pub lends_reader : ReaderSide → Option Sharing
-lends_reader r = sharing_in r.identity r.values
+lends_reader r = option_map (numbered r.identity) r.end.lender
 
 abbrev pub lends_receiver : Listening → Option Sharing
 lends_receiver r = option_map (numbered r.identity) (lender_of r)
@@ -63,9 +63,7 @@ pub record KeepsSideCounters (c d : ConductorSide) : Type 0 where
 pub record LendsReader (c d : ConductorSide) (r : ReaderSide) : Type 0 where
   pub shares : value_shares_of d.conductor + 1 ≡ value_shares_of c.conductor
   pub lender : lends_reader r ≡ Some (shared_by c)
-  pub made : made_of r.reader ≡ writes_of (manager_in c.conductor)
-  pub seen : seen_by r.reader ≡ writes_of (manager_in c.conductor)
-  pub loads : loads_of r.reader ≡ []
+  pub reader : IsNewReaderOf r.end.values (writes_of (manager_in c.conductor)) r.end.reader
   pub keeps : KeepsSideCounters c d
 
 -- why a reader is not made: the conductor needs its last share, or memory runs out
@@ -84,7 +82,8 @@ pub record TakesSeat (c d : ConductorSide) (m : Sat) : Type 0 where
 pub record TakesClient (c : ConductorSide) (k : ClientSide) (d : ConductorSide) : Type 0 where
   pub lender : shared_with k ≡ shared_by c
   pub shared : shared_by d ≡ shared_by c
-  pub producer : Joins (ring_bytes (shared_by c).shared.ring) (view_of c.producer) (client_view k.client) (view_of d.producer)
+  pub producer : Joins (ring_bytes (shared_by c).shared.ring) (view_of c.producer) (client_view k.client)
+      (view_of d.producer)
   pub receiver : TakesSeat c d (client_seat k.client)
 
 -- a receiver of this conductor's replies was taken back
@@ -98,7 +97,7 @@ pub record TakesReceiver (c : ConductorSide) (r : Listening) (d : ConductorSide)
 pub record TakesReader (c : ConductorSide) (r : ReaderSide) (d : ConductorSide) : Type 0 where
   pub lender : lends_reader r ≡ Some (shared_by c)
   pub shares : value_shares_of d.conductor ≡ value_shares_of c.conductor + 1
-  pub loads : AreLoads (made_of r.reader) (loads_of r.reader) (writes_of (manager_in d.conductor))
+  pub loads : AreLoads (made_of r.end.reader) (loads_of r.end.reader) (writes_of (manager_in d.conductor))
   pub keeps : KeepsSideCounters c d
 
 -- it is no conductor's, or that of one with another number

@@ -1,5 +1,4 @@
 //! A conductor in a handle.
-pub(crate) mod asking;
 pub(crate) mod calls;
 pub(crate) mod joining;
 pub(crate) mod lending;

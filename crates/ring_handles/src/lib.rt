@@ -6,7 +6,7 @@
 //! - `producer`, `claims`, `writing_batch`, `consumer`, `batch`, `closing`, `ring`: handles of a ring. `copying` copies
 //!   bytes into a buffer.
 //! - `boards`, `raw`, `board_ending`: handles of a broadcast buffer. `counters`, `counting`, `reading`: of counters and
-//!   their readers. `adders`, `adding`: of shared counters.
+//!   their readers. `asking`: what is asked of counters. `adders`, `adding`: of shared counters.
 //! - `conductor`, `client`, `finishing`: a conductor, its clients, and what it lends.
 //! - `recovering`: the messages of a ring whose process died. They need no handle.
 //!
@@ -15,6 +15,7 @@
 
 mod adders;
 mod adding;
+pub mod asking;
 mod batch;
 mod board_ending;
 mod boards;

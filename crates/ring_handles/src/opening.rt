@@ -19,8 +19,7 @@ use crate::identity::Identity;
 use crate::producer::ProducerSide;
 use crate::ring::{AnyConsumer, AnyProducer};
 use ring_adders::SharedCounter;
-use ring_counters::CountersManager;
-use ring_ends::{NumberedEnd, open};
+use ring_ends::{CountersEnd, NumberedEnd, open};
 use ring_rings::{InSlots, ManyToOne, OneToOne};
 use std::alloc::Global;
 use std::sync::Arc;
@@ -157,21 +156,10 @@ pub fn open_counters(
     ensures code { MatchResult result (λ _. IsCountersCode count DONE)
         (λ code. IsCountersCode count code × (code ≢ DONE)) }
 {
-    let (values, manager) = match CountersManager::new(alloc, count, reuse_ms) {
-        Ok(made) => made,
-        Err(fault) => return Err(fault.code()),
-    };
-    let Ok(values) = Arc::new(alloc, values) else {
-        return Err(OUT_OF_MEMORY);
-    };
-    boxed(
-        alloc,
-        Held::Counters(CountersSide {
-            values,
-            identity,
-            manager,
-        }),
-    )
+    match CountersEnd::new(alloc, count, reuse_ms) {
+        Ok(end) => boxed(alloc, Held::Counters(CountersSide { end, identity })),
+        Err(fault) => Err(fault.code()),
+    }
 }
 
 /// Makes a shared counter of value 0, with an adder that holds all shares. 3 if there is no memory.

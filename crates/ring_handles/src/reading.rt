@@ -5,8 +5,7 @@ ghost use Rattle.ring_handles.specs.Returning.{IsOfOthers, IsOfThese, TakesLoads
 
 use crate::code::{BAD_ID, DONE, NO_SHARES, OTHER_RING, OUT_OF_MEMORY};
 use crate::counters::{CountersSide, ReaderSide};
-use ring_ends::Lender;
-use std::sync::Arc;
+use ring_ends::SplitFault;
 
 impl CountersSide {
     /// Makes a reader of the values.
@@ -14,16 +13,13 @@ impl CountersSide {
         ensures lent { IfOk result (Lends self.old self.new) }
         ensures refused { IfErr result (λ code. (self.new ≡ self.old) × WhyNotLent self.old code) }
     {
-        let Ok(values) = Arc::try_clone(&self.values) else {
-            return Err(OUT_OF_MEMORY);
-        };
-        match self.manager.reader(&self.values) {
-            Ok(reader) => Ok(ReaderSide {
-                values: Lender::Own(values),
+        match self.end.reader() {
+            Ok(end) => Ok(ReaderSide {
+                end,
                 identity: self.identity,
-                reader,
             }),
-            Err(_) => Err(NO_SHARES),
+            Err(SplitFault::OneShare) => Err(NO_SHARES),
+            Err(SplitFault::OutOfMemory) => Err(OUT_OF_MEMORY),
         }
     }
 
@@ -33,18 +29,11 @@ impl CountersSide {
         ensures joined { OnOk result (TakesLoads self.old reader self.new) }
         ensures refused { IfErr result (λ r. (self.new ≡ self.old) × (r.1 ≡ reader) × IsOfOthers self.old reader r.0) }
     {
-        let Lender::Own(_) = &reader.values else {
-            return Err((OTHER_RING, reader));
-        };
-        if !self.identity.is(reader.identity) {
+        if reader.end.is_lent() || !self.identity.is(reader.identity) {
             return Err((OTHER_RING, reader));
         }
-        let ReaderSide {
-            values: _,
-            identity: _,
-            reader,
-        } = reader;
-        self.manager.join_reader(&self.values, reader);
+        let ReaderSide { end, identity: _ } = reader;
+        self.end.join(end);
         Ok(())
     }
 }
@@ -54,7 +43,7 @@ impl ReaderSide {
     pub fn load(&mut self, id: u32, value: &mut i64) -> i32
         ensures { SaysValue id value.old value.new self.old self.new result }
     {
-        match self.values.values().load(&mut self.reader, id) {
+        match self.end.load(id) {
             Ok(loaded) => {
                 *value = loaded;
                 DONE

@@ -6,7 +6,7 @@ ghost use Rattle.ring_handles.specs.{Conducting.AsksIts, Counting.TellsOfRecord,
 ghost use Rattle.ring_handles.specs.Counting.{label_out, TellsCount, TellsFound, TellsKey, TellsLabel, TellsOf};
 
 use crate::work_on::work_on;
-use ring_handles::Handle;
+use ring_handles::{Handle, asking};
 use std::alloc::Global;
 
 /// Finds the lowest id in use that has this type id and registration id, as felter_counter_find does.
@@ -21,7 +21,7 @@ pub extern "C" fn felter_conductor_find(
     ensures { Yields a_conductor (AsksIts (TellsFound type_id registration)) id.old id.new conductor.old.held
         conductor.new.held result }
 {
-    work_on!(conductor, alloc, Conductor(side) => side.find(type_id, registration, id))
+    work_on!(conductor, alloc, Conductor(side) => asking::find(side.counters(), type_id, registration, id))
 }
 
 /// Writes the number of ids, whether they are in use or not, as felter_counters_count does.
@@ -33,7 +33,7 @@ pub extern "C" fn felter_conductor_count(
 ) -> i32
     ensures { Yields a_conductor (AsksIts TellsCount) count.old count.new conductor.old.held conductor.new.held result }
 {
-    work_on!(conductor, alloc, Conductor(side) => side.count(count))
+    work_on!(conductor, alloc, Conductor(side) => asking::count(side.counters(), count))
 }
 
 /// Copies the label of a counter, and writes its length, as felter_counter_label does.
@@ -48,7 +48,7 @@ pub extern "C" fn felter_conductor_label(
     ensures { Yields a_conductor (AsksIts (TellsLabel id)) (label_out len.old buffer.old) (label_out len.new buffer.new)
         conductor.old.held conductor.new.held result }
 {
-    work_on!(conductor, alloc, Conductor(side) => side.label(id, len, buffer))
+    work_on!(conductor, alloc, Conductor(side) => asking::label(side.counters(), id, len, buffer))
 }
 
 /// Copies the key of a counter, as felter_counter_key does.
@@ -62,7 +62,7 @@ pub extern "C" fn felter_conductor_key(
     ensures { Yields a_conductor (AsksIts (TellsKey id)) buffer.old buffer.new conductor.old.held conductor.new.held
         result }
 {
-    work_on!(conductor, alloc, Conductor(side) => side.key(id, buffer))
+    work_on!(conductor, alloc, Conductor(side) => asking::key(side.counters(), id, buffer))
 }
 
 /// Writes the value of a counter, as felter_counter_value does.
@@ -76,7 +76,7 @@ pub extern "C" fn felter_conductor_value(
     ensures { Yields a_conductor (AsksIts (TellsOf (λ r. (counter_at r id).values.value) id)) value.old value.new
         conductor.old.held conductor.new.held result }
 {
-    work_on!(conductor, alloc, Conductor(side) => side.value(id, value))
+    work_on!(conductor, alloc, Conductor(side) => asking::value(side.counters(), id, value))
 }
 
 /// Writes the type id of a counter, as felter_counter_type_id does.
@@ -90,7 +90,7 @@ pub extern "C" fn felter_conductor_type_id(
     ensures { Yields a_conductor (AsksIts (TellsOf (λ r. (counter_at r id).metadata.type_id) id)) type_id.old
         type_id.new conductor.old.held conductor.new.held result }
 {
-    work_on!(conductor, alloc, Conductor(side) => side.type_id(id, type_id))
+    work_on!(conductor, alloc, Conductor(side) => asking::type_id(side.counters(), id, type_id))
 }
 
 /// Writes the registration id of a counter, as felter_counter_registration does.
@@ -104,7 +104,7 @@ pub extern "C" fn felter_conductor_registration(
     ensures { Yields a_conductor (AsksIts (TellsOf (λ r. (counter_at r id).values.registration) id)) registration.old
         registration.new conductor.old.held conductor.new.held result }
 {
-    work_on!(conductor, alloc, Conductor(side) => side.registration(id, registration))
+    work_on!(conductor, alloc, Conductor(side) => asking::registration(side.counters(), id, registration))
 }
 
 /// Writes the owner of a counter, as felter_counter_owner does.
@@ -118,7 +118,7 @@ pub extern "C" fn felter_conductor_owner(
     ensures { Yields a_conductor (AsksIts (TellsOf (λ r. (counter_at r id).values.owner) id)) owner.old owner.new
         conductor.old.held conductor.new.held result }
 {
-    work_on!(conductor, alloc, Conductor(side) => side.owner(id, owner))
+    work_on!(conductor, alloc, Conductor(side) => asking::owner(side.counters(), id, owner))
 }
 
 /// Writes the state of an id, as felter_counter_state does.
@@ -132,7 +132,7 @@ pub extern "C" fn felter_conductor_state(
     ensures { Yields a_conductor (AsksIts (TellsOfRecord (λ r. state_of (counter_at r id).metadata.status) id))
         state.old state.new conductor.old.held conductor.new.held result }
 {
-    work_on!(conductor, alloc, Conductor(side) => side.state(id, state))
+    work_on!(conductor, alloc, Conductor(side) => asking::state(side.counters(), id, state))
 }
 
 /// Writes the moment from which an id may be allocated again, as felter_counter_deadline does.
@@ -146,5 +146,5 @@ pub extern "C" fn felter_conductor_deadline(
     ensures { Yields a_conductor (AsksIts (TellsOfRecord (λ r. deadline_of (counter_at r id).metadata.status) id))
         deadline.old deadline.new conductor.old.held conductor.new.held result }
 {
-    work_on!(conductor, alloc, Conductor(side) => side.deadline(id, deadline))
+    work_on!(conductor, alloc, Conductor(side) => asking::deadline(side.counters(), id, deadline))
 }

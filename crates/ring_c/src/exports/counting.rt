@@ -7,7 +7,7 @@ ghost use Rattle.ring_handles.specs.Counting.{TellsKey, TellsLabel, WasAdded, Wa
 ghost use Rattle.ring_handles.specs.Kinds.{some_counters};
 
 use crate::work_on::work_on;
-use ring_handles::{Handle, Wanted};
+use ring_handles::{Handle, Wanted, asking};
 use std::alloc::Global;
 
 /// Allocates a counter with the value 0 at the moment `now`, and writes its id. Codes: FELTER_KEY_TOO_LONG,
@@ -135,7 +135,7 @@ pub extern "C" fn felter_counter_find(
     ensures { Yields some_counters (WasFound type_id registration) id.old id.new counters.old.held counters.new.held
         result }
 {
-    work_on!(counters, alloc, Counters(side) => side.find(type_id, registration, id))
+    work_on!(counters, alloc, Counters(side) => asking::find(side.counters(), type_id, registration, id))
 }
 
 /// Writes the number of ids, whether they are in use or not. To list the counters in use, call felter_counter_type_id
@@ -148,7 +148,7 @@ pub extern "C" fn felter_counters_count(
 ) -> i32
     ensures { Yields some_counters (Asks TellsCount) count.old count.new counters.old.held counters.new.held result }
 {
-    work_on!(counters, alloc, Counters(side) => side.count(count))
+    work_on!(counters, alloc, Counters(side) => asking::count(side.counters(), count))
 }
 
 /// Writes the number of counters that can be allocated at the moment `now`. A freed id is counted only if `now` is at
@@ -163,7 +163,7 @@ pub extern "C" fn felter_counters_available(
     ensures { Yields some_counters (Asks (TellsAvailable now)) available.old available.new counters.old.held
         counters.new.held result }
 {
-    work_on!(counters, alloc, Counters(side) => side.available(now, available))
+    work_on!(counters, alloc, Counters(side) => asking::available(side.counters(), now, available))
 }
 
 /// Writes the counter's value. Codes: FELTER_BAD_ID, FELTER_NOT_ALLOCATED.
@@ -177,7 +177,7 @@ pub extern "C" fn felter_counter_value(
     ensures { Yields some_counters (Asked (λ r. (counter_at r id).values.value) id) value.old value.new
         counters.old.held counters.new.held result }
 {
-    work_on!(counters, alloc, Counters(side) => side.value(id, value))
+    work_on!(counters, alloc, Counters(side) => asking::value(side.counters(), id, value))
 }
 
 /// Writes the counter's type id. Codes: FELTER_BAD_ID, FELTER_NOT_ALLOCATED.
@@ -191,7 +191,7 @@ pub extern "C" fn felter_counter_type_id(
     ensures { Yields some_counters (Asked (λ r. (counter_at r id).metadata.type_id) id) type_id.old type_id.new
         counters.old.held counters.new.held result }
 {
-    work_on!(counters, alloc, Counters(side) => side.type_id(id, type_id))
+    work_on!(counters, alloc, Counters(side) => asking::type_id(side.counters(), id, type_id))
 }
 
 /// Writes the counter's registration id. Codes: FELTER_BAD_ID, FELTER_NOT_ALLOCATED.
@@ -205,7 +205,7 @@ pub extern "C" fn felter_counter_registration(
     ensures { Yields some_counters (Asked (λ r. (counter_at r id).values.registration) id) registration.old
         registration.new counters.old.held counters.new.held result }
 {
-    work_on!(counters, alloc, Counters(side) => side.registration(id, registration))
+    work_on!(counters, alloc, Counters(side) => asking::registration(side.counters(), id, registration))
 }
 
 /// Writes the counter's owner, which is 0 if the counter has no owner. Codes: FELTER_BAD_ID, FELTER_NOT_ALLOCATED.
@@ -219,7 +219,7 @@ pub extern "C" fn felter_counter_owner(
     ensures { Yields some_counters (Asked (λ r. (counter_at r id).values.owner) id) owner.old owner.new
         counters.old.held counters.new.held result }
 {
-    work_on!(counters, alloc, Counters(side) => side.owner(id, owner))
+    work_on!(counters, alloc, Counters(side) => asking::owner(side.counters(), id, owner))
 }
 
 /// Copies the label, which has at most 380 bytes, and writes its length. No 0 is put at the end of the label. Codes:
@@ -236,7 +236,7 @@ pub extern "C" fn felter_counter_label(
     ensures { Yields some_counters (Asks (TellsLabel id)) (label_out len.old buffer.old) (label_out len.new buffer.new)
         counters.old.held counters.new.held result }
 {
-    work_on!(counters, alloc, Counters(side) => side.label(id, len, buffer))
+    work_on!(counters, alloc, Counters(side) => asking::label(side.counters(), id, len, buffer))
 }
 
 /// Copies the key, which is filled up to 112 bytes with zeros. Codes: FELTER_BAD_ID, FELTER_NOT_ALLOCATED, and
@@ -251,5 +251,5 @@ pub extern "C" fn felter_counter_key(
     ensures { Yields some_counters (Asks (TellsKey id)) buffer.old buffer.new counters.old.held counters.new.held
         result }
 {
-    work_on!(counters, alloc, Counters(side) => side.key(id, buffer))
+    work_on!(counters, alloc, Counters(side) => asking::key(side.counters(), id, buffer))
 }

@@ -5,7 +5,7 @@ ghost use Rattle.ring_counters.specs.{Counter.deadline_of, Counter.state_of, Reg
 ghost use Rattle.ring_handles.specs.{Counting.Asks, Counting.TellsOfRecord, Counting.WasProposed, Kinds.some_counters};
 
 use crate::work_on::work_on;
-use ring_handles::Handle;
+use ring_handles::{Handle, asking};
 use std::alloc::Global;
 
 /// Raises the counter's value to `value` if the old value was less. *raised is 1 if the value was raised, and otherwise
@@ -36,7 +36,7 @@ pub extern "C" fn felter_counter_state(
     ensures { Yields some_counters (Asks (TellsOfRecord (λ r. state_of (counter_at r id).metadata.status) id)) state.old
         state.new counters.old.held counters.new.held result }
 {
-    work_on!(counters, alloc, Counters(side) => side.state(id, state))
+    work_on!(counters, alloc, Counters(side) => asking::state(side.counters(), id, state))
 }
 
 /// Writes the moment from which an id may be allocated again. This moment is 0 if the id was never used, and 2^63 - 1
@@ -51,5 +51,5 @@ pub extern "C" fn felter_counter_deadline(
     ensures { Yields some_counters (Asks (TellsOfRecord (λ r. deadline_of (counter_at r id).metadata.status) id))
         deadline.old deadline.new counters.old.held counters.new.held result }
 {
-    work_on!(counters, alloc, Counters(side) => side.deadline(id, deadline))
+    work_on!(counters, alloc, Counters(side) => asking::deadline(side.counters(), id, deadline))
 }

@@ -1,11 +1,13 @@
 //! What a conductor does.
 ghost use Rattle.std.specs.Prelude.{◌≡◌, IfErr, IfOk};
+ghost use Rattle.ring_service.specs.Conducting.{manager_in};
 ghost use Rattle.ring_handles.specs.Conducting.{report_out, stop_number, ConductorBeat, Hires, IsUnhired, Worked};
 
 use crate::client::ClientSide;
 use crate::code::{BAD_MOMENT, DONE, NO_SHARES};
 use crate::conductor::ConductorSide;
 use crate::counting::LAST_MOMENT;
+use ring_counters::CountersManager;
 use ring_ends::Shared;
 use ring_service::{Client, WorkStop};
 use std::alloc::Global;
@@ -58,6 +60,13 @@ impl ConductorSide {
         *messages = work.messages;
         *stopped = stop_number(work.stopped);
         DONE
+    }
+
+    /// Returns its counters, which are asked by the functions of `asking`.
+    pub fn counters(&self) -> &CountersManager
+        ensures { result.now ≡ manager_in self.now.conductor }
+    {
+        self.conductor.counters()
     }
 
     /// Stores the heartbeat that clients load.

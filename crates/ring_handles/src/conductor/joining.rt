@@ -71,14 +71,11 @@ impl ConductorSide {
         ensures refused { IfErr result (λ r. (self.new ≡ self.old) × (r.1 ≡ reader)
             × IsForeign self.old (lends_reader reader) r.0) }
     {
-        if !self.lends(&reader.values, reader.identity) {
+        if !reader.end.is_lent() || !self.identity.is(reader.identity) {
             return Err((OTHER_RING, reader));
         }
-        let ReaderSide {
-            values: _,
-            identity: _,
-            reader,
-        } = reader;
+        let ReaderSide { end, identity: _ } = reader;
+        let reader = end.into_reader();
         let shared: &Shared = &self.shared;
         self.conductor.join_value_reader(&shared.values, reader);
         Ok(())

@@ -10,7 +10,7 @@ use crate::code::{NO_SHARES, OUT_OF_MEMORY};
 use crate::conductor::ConductorSide;
 use crate::counters::ReaderSide;
 use ring_board::CopyReceiver;
-use ring_ends::{Lender, ReceiverEnd, Shared};
+use ring_ends::{Lender, ReaderEnd, ReceiverEnd, Shared};
 use std::alloc::Global;
 use std::sync::Arc;
 
@@ -61,9 +61,8 @@ impl ConductorSide {
         };
         match self.conductor.value_reader(&shared.values) {
             Ok(reader) => Ok(ReaderSide {
+                end: ReaderEnd::of(Lender::Lent(shared), reader),
                 identity: self.identity,
-                values: Lender::Lent(shared),
-                reader,
             }),
             Err(_) => Err(NO_SHARES),
         }

@@ -1,7 +1,7 @@
 use Rattle.std.proofs.Common.{◌≡◌, ℤ, None, Some, refl, sym, ◌∙◌, subst, inl, inr, w32}
 use Rattle.std.proofs.lemmas.Int.{to_z-of_z}
 use Rattle.ring_counters.specs.{Manager.registry_of, Registry.registered_id}
-use Rattle.ring_handles.proofs.counting.find_in.Goals as goal
+use Rattle.ring_handles.proofs.asking.find.Goals as goal
 
 pub returns-in-Some : goal.returns-in-Some
 returns-in-Some c = inl (
