@@ -1,6 +1,6 @@
 -- Seats that a conductor gives and takes back: c is the conductor before, d after, k is a client, r a receiver or a
 -- reader, and the code is what is returned.
-use Rattle.std.specs.Prelude.{◌≡◌, ◌⊎◌, ◌≤◌, ◌+◌, ℤ, [], IfSome, Option, None, Some}
+use Rattle.std.specs.Prelude.{◌≡◌, ◌⊎◌, ◌≤◌, ◌+◌, ℤ, IfSome, Option, None, Some}
 use Rattle.std.specs.Option.{option_map}
 use Rattle.ring_rings.specs.{Joining.Joins, Seats.capacity_of as ring_bytes, Seats.view_of}
 use Rattle.ring_board.specs.{declared.fault.SubscribeFault.TheVariants.NoShares, Runs.AreRuns, Seats.capacity_of}
@@ -12,7 +12,7 @@ use Rattle.ring_service.specs.Conducting.{board_view, manager_in, value_shares_o
 use Rattle.ring_handles.specs.{declared.client.ClientSide.ClientSide, Boards.table_of, Boards.Listening}
 use Rattle.ring_handles.specs.declared.{conductor.ConductorSide.ConductorSide, counters.ReaderSide.ReaderSide}
 use Rattle.ring_handles.specs.Conducting.{KeepsProducer}
-use Rattle.ring_handles.specs.Serving.{numbered, shared_by, shared_with, sharing_in, IsNumberedOtherwise, Sharing}
+use Rattle.ring_handles.specs.Serving.{numbered, shared_by, shared_with, IsNumberedOtherwise, Sharing}
 use Rattle.ring_layout.specs.declared.refusal_codes.TheConstants.{NO_SHARES, OUT_OF_MEMORY}
 use Rattle.ring_handles.specs.declared.code.TheConstants.{OTHER_RING}
 
