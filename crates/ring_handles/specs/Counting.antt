@@ -1,11 +1,11 @@
 -- What calls of counters do: c are the counters before, d after, and the code is what is returned.
-use Rattle.std.specs.Prelude.{◌≡◌, ◌≢◌, ◌⊎◌, ◌<◌, ◌≤◌, ◌^◌, ℕ, ℤ, Bool, true, false, List, length, Some, None, Ok, Err, MatchResult, Result}
+use Rattle.std.specs.Prelude.{◌≡◌, ◌⊎◌, ◌<◌, ◌≤◌, ◌^◌, ℕ, ℤ, Bool, true, false, List, length, Some, None, Ok, Err, MatchResult, Result}
 use Rattle.ring_layout.specs.History.{overwritten}
 use Rattle.ring_counters.specs.{declared.fault.BadOwner.BadOwner, declared.fault.IdFault.IdFault, Manager.registry_of}
 use Rattle.ring_counters.specs.{declared.manager.CountersManager.CountersManager, Codes.allocate_code, Codes.id_code}
 use Rattle.ring_counters.specs.Available.{available_in}
 use Rattle.ring_counters.specs.Registry.{Registry, answer, counter_at, count_of, id_refusal_of, range_refusal_of, registered_id}
-use Rattle.ring_ends.specs.Counters.{AddsTo, ClosesOwner, Counters, Frees, Manages, Raises, Replaces, Sets, SetsExpected, TriesAllocate}
+use Rattle.ring_ends.specs.Counters.{AddsTo, ClosesOwner, Frees, Manages, Raises, Replaces, Sets, SetsExpected, TriesAllocate}
 use Rattle.ring_handles.specs.declared.counters.CountersSide.{CountersSide}
 use Rattle.ring_layout.specs.declared.refusal_codes.TheConstants.{BAD_OWNER, NOT_ALLOCATED}
 use Rattle.ring_handles.specs.declared.code.TheConstants.{BAD_MOMENT, DONE, SHORT_BUFFER}
