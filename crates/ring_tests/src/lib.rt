@@ -8,6 +8,8 @@ mod board;
 #[cfg(test)]
 mod calls;
 #[cfg(test)]
+mod conductor;
+#[cfg(test)]
 mod counters;
 #[cfg(test)]
 mod play;

@@ -1,6 +1,6 @@
 //! The conductor's heartbeat, as clients load it.
-use crate::bench::Answer::{Done, Heartbeat, Worked};
-use crate::bench::{Answer, Call, plays};
+use crate::conductor::bench::Answer::{Done, Heartbeat, Worked};
+use crate::conductor::bench::{Answer, Call, plays};
 use ring_rings::{ManyToOne, OneToOne};
 use ring_service::WorkStop;
 

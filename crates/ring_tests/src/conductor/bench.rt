@@ -4,7 +4,8 @@ ghost use Rattle.ring_rings.specs.Seats.{all_shares, shares_of, IsConsumerOf, Is
 ghost use Rattle.ring_board.specs.Seats.{IsReceiverOf};
 ghost use Rattle.ring_service.specs.Conducting.{IsConductorOf};
 
-use crate::sending::{receives, send};
+use crate::calls::Plays;
+use crate::conductor::sending::{receives, send};
 use ring_board::{Board, CopyReceiver};
 use ring_counters::{CounterValues, CountersManager, IdFault};
 use ring_rings::{Bodies, InWords, Kind, Producer, Ring};
@@ -134,26 +135,6 @@ impl<K: Kind, B: Bodies> Bench<K, B> {
         Answer::Done
     }
 
-    fn call(&mut self, call: Call<'_>) -> Answer {
-        match call {
-            Call::Send(commands) => done(self.send(commands)),
-            Call::Write(type_id, body) => done(self.write(type_id, body)),
-            Call::Work(limit) => self.work(limit),
-            Call::Receive(replies) => done(self.receives(replies)),
-            Call::Heartbeat => Answer::Heartbeat(self.ring.heartbeat(&mut self.producer)),
-            Call::SetHeartbeat(value) => self.set_heartbeat(value),
-            Call::Value(id) => Answer::Value(self.conductor.counters().value(id)),
-            Call::State(id) => Answer::State(self.conductor.counters().state(id)),
-        }
-    }
-
-    /// Makes the calls, and tests what each answers.
-    pub fn plays(&mut self, rt: &impl Abort, calls: &[(Call<'_>, Answer)]) {
-        for (at, (call, answer)) in calls.iter().enumerate() {
-            assert_eq!(rt; self.call(*call), *answer, "call {at}");
-        }
-    }
-
     pub fn finish(self) -> Result<Finished, (FinishFault, Self)> {
         let Bench {
             ring,
@@ -191,6 +172,21 @@ impl<K: Kind, B: Bodies> Bench<K, B> {
         } = self;
         conductor.join_receiver(&board, listener);
         ring_service::finish(ring, board, values, conductor, producer).ok()
+    }
+}
+
+impl<'a, K: Kind, B: Bodies> Plays<Call<'a>, Answer> for Bench<K, B> {
+    fn call(&mut self, call: Call<'a>) -> Answer {
+        match call {
+            Call::Send(commands) => done(self.send(commands)),
+            Call::Write(type_id, body) => done(self.write(type_id, body)),
+            Call::Work(limit) => self.work(limit),
+            Call::Receive(replies) => done(self.receives(replies)),
+            Call::Heartbeat => Answer::Heartbeat(self.ring.heartbeat(&mut self.producer)),
+            Call::SetHeartbeat(value) => self.set_heartbeat(value),
+            Call::Value(id) => Answer::Value(self.conductor.counters().value(id)),
+            Call::State(id) => Answer::State(self.conductor.counters().state(id)),
+        }
     }
 }
 

@@ -3,7 +3,8 @@ ghost use Rattle.ring_rings.specs.Seats.{IsConsumerOf, IsProducerOf, MayClaim};
 ghost use Rattle.ring_board.specs.Seats.{IsReceiverOf};
 ghost use Rattle.ring_service.specs.{Asking.producer_of, Asking.receiver_of, Conducting.IsConductorOf};
 
-use crate::bench::Bench;
+use crate::calls::Plays;
+use crate::conductor::bench::Bench;
 use ring_board::Board;
 use ring_counters::{CounterValues, IdFault};
 use ring_rings::{ClaimFault, Kind, Ring, TryFault};
@@ -115,27 +116,6 @@ impl<K: Kind> Talk<K> {
         Said::Worked(messages, stopped)
     }
 
-    /// Makes a call.
-    fn made(&mut self, call: Call<'_>) -> Said {
-        match call {
-            Call::Send(request) => self.send(request),
-            Call::SendAs(correlation, request) => self.send_as(correlation, request),
-            Call::Poll(correlation) => Said::Polled(self.client.poll(&self.board, correlation)),
-            Call::NextId => Said::Id(self.client.next_correlation_id(&self.ring)),
-            Call::Heartbeat => Said::Heartbeat(self.client.heartbeat(&self.ring)),
-            Call::Beat(value) => self.beat(value),
-            Call::Work(limit) => self.work(limit),
-            Call::Value(id) => Said::Value(self.conductor.counters().value(id)),
-        }
-    }
-
-    /// Makes the calls, and tests that each answers so.
-    pub fn goes(&mut self, rt: &impl Abort, calls: &[(Call<'_>, Said)]) {
-        for (at, (call, said)) in calls.iter().enumerate() {
-            assert_eq!(rt; self.made(*call), *said, "call {at}");
-        }
-    }
-
     /// Finishes once the client is back.
     pub fn finish(self) -> Option<Finished> {
         let Talk {
@@ -151,12 +131,27 @@ impl<K: Kind> Talk<K> {
     }
 }
 
+impl<'a, K: Kind> Plays<Call<'a>, Said> for Talk<K> {
+    fn call(&mut self, call: Call<'a>) -> Said {
+        match call {
+            Call::Send(request) => self.send(request),
+            Call::SendAs(correlation, request) => self.send_as(correlation, request),
+            Call::Poll(correlation) => Said::Polled(self.client.poll(&self.board, correlation)),
+            Call::NextId => Said::Id(self.client.next_correlation_id(&self.ring)),
+            Call::Heartbeat => Said::Heartbeat(self.client.heartbeat(&self.ring)),
+            Call::Beat(value) => self.beat(value),
+            Call::Work(limit) => self.work(limit),
+            Call::Value(id) => Said::Value(self.conductor.counters().value(id)),
+        }
+    }
+}
+
 /// Makes calls over a ring of this kind, with a ring and a board of these capacities, and tests what each answers.
-pub fn goes<K: Kind>(
+pub fn plays<K: Kind>(
     rt: &impl Abort,
     alloc: Global,
     sizes: (u32, u32),
     calls: &[(Call<'_>, Said)],
 ) {
-    Talk::<K>::new(rt, alloc, sizes.0, sizes.1).goes(rt, calls);
+    Talk::<K>::new(rt, alloc, sizes.0, sizes.1).plays(rt, calls);
 }

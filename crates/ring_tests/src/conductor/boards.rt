@@ -1,7 +1,8 @@
 //! The conductor at the end of its board.
-use crate::bench::Answer::{Done, Value, Worked};
-use crate::bench::Call::{Send, Work};
-use crate::bench::{Answer, Bench, Call};
+use crate::calls::Plays;
+use crate::conductor::bench::Answer::{Done, Value, Worked};
+use crate::conductor::bench::Call::{Send, Work};
+use crate::conductor::bench::{Answer, Bench, Call};
 use ring_rings::ManyToOne;
 use ring_service::{Command, Finished, WorkStop};
 use std::alloc::Global;

@@ -1,8 +1,8 @@
 //! What the conductor does with commands, on rings of both kinds.
-use crate::bench::Answer::{Done, State, Worked};
-use crate::bench::Call::{Receive, Send, Work, Write};
-use crate::bench::{Answer, Bench, Call, plays};
-use crate::sending::work;
+use crate::conductor::bench::Answer::{Done, State, Worked};
+use crate::conductor::bench::Call::{Receive, Send, Work, Write};
+use crate::conductor::bench::{Answer, Bench, Call, plays};
+use crate::conductor::sending::work;
 use ring_rings::{Kind, ManyToOne, OneToOne};
 use ring_service::{Command, Cycle, FinishFault, Reply, WorkStop};
 use std::alloc::Global;

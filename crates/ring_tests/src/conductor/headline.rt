@@ -5,8 +5,8 @@ ghost use Rattle.ring_rings.specs.Seats.{capacity_of, start_of, IsConsumerOf, Is
 ghost use Rattle.ring_service.specs.Conducting.{IsConductorOf};
 ghost use Rattle.ring_service.specs.Finishing.{ComesBack, HandsOn, Headline, handed_back, refusal_to};
 
-use crate::bench::Bench;
-use crate::sending::work;
+use crate::conductor::bench::Bench;
+use crate::conductor::sending::work;
 use ring_board::Board;
 use ring_counters::CounterValues;
 use ring_rings::{InSlots, ManyToOne, Producer, Ring};

@@ -1,5 +1,5 @@
 //! Numbers and lengths of the protocol, as clients name them.
-use crate::faults::tells;
+use crate::texts::tells;
 use ring_counters::{AllocateRefused, BadOwner, IdFault};
 use ring_service::{
     Bad, Command, LONGEST_COMMAND, LONGEST_REPLY, RefusalCode, UnknownCode, command_type_ids,

@@ -1,9 +1,10 @@
 //! What a client sends, and what it receives.
 ghost use Rattle.ring_board.specs.Seats.{IsTransmitterOf};
 
-use crate::talk::Call::{Poll, Send, SendAs, Work};
-use crate::talk::Said::{Full, Id, Sent, TooLong};
-use crate::talk::{Call, Said, Talk, goes};
+use crate::calls::Plays;
+use crate::conductor::talk::Call::{Poll, Send, SendAs, Work};
+use crate::conductor::talk::Said::{Full, Id, Sent, TooLong};
+use crate::conductor::talk::{Call, Said, Talk, plays};
 use ring_board::{Board, Lapped, Transmitter};
 use ring_rings::{Kind, ManyToOne, ManyToOneRing, OneToOne};
 use ring_service::Polled::{Another, Answered, Nothing};
@@ -73,7 +74,7 @@ static ASKED: [(Call<'static>, Said); 14] = [
 /// How many commands a conductor received of which these calls were made.
 fn received<K: Kind>(rt: &impl Abort, alloc: Global, calls: &[(Call<'_>, Said)]) -> u64 {
     let mut talk = Talk::<K>::new(rt, alloc, 1024, 256);
-    talk.goes(rt, calls);
+    talk.plays(rt, calls);
     talk.finish().expect(rt, "an end").received
 }
 
@@ -173,8 +174,8 @@ static AGAIN: [(Call<'static>, Said); 25] = [
 
 #[test]
 fn a_refused_command_can_be_sent_again_with_its_id(rt: HostRuntime) {
-    goes::<ManyToOne>(&rt, rt.alloc(), (256, 1024), &AGAIN);
-    goes::<OneToOne>(&rt, rt.alloc(), (256, 1024), &AGAIN);
+    plays::<ManyToOne>(&rt, rt.alloc(), (256, 1024), &AGAIN);
+    plays::<OneToOne>(&rt, rt.alloc(), (256, 1024), &AGAIN);
 }
 
 /// A heartbeat is the last that was stored, and neither a command nor a reply changes it.
@@ -191,7 +192,7 @@ static BEATS: [(Call<'static>, Said); 8] = [
 
 #[test]
 fn a_client_loads_the_last_heartbeat(rt: HostRuntime) {
-    goes::<ManyToOne>(&rt, rt.alloc(), (256, 256), &BEATS);
+    plays::<ManyToOne>(&rt, rt.alloc(), (256, 256), &BEATS);
 }
 
 const TOO_LONG: Request<&'static [u8]> = Request::AllocateOwned {
@@ -224,7 +225,7 @@ static LONG: [(Call<'static>, Said); 5] = [
 
 #[test]
 fn no_id_is_drawn_for_a_command_that_is_too_long(rt: HostRuntime) {
-    goes::<ManyToOne>(&rt, rt.alloc(), (8192, 256), &LONG);
+    plays::<ManyToOne>(&rt, rt.alloc(), (8192, 256), &LONG);
 }
 
 const FREE: Request<&'static [u8]> = Request::Free { id: 0 };
@@ -263,7 +264,7 @@ static LAPPED: [(Call<'static>, Said); 15] = [
 
 #[test]
 fn a_client_is_told_that_it_was_lapped(rt: HostRuntime) {
-    goes::<ManyToOne>(&rt, rt.alloc(), (1024, 256), &LAPPED);
+    plays::<ManyToOne>(&rt, rt.alloc(), (1024, 256), &LAPPED);
 }
 
 /// Transmits a command with the type id of a reply, and then that reply.

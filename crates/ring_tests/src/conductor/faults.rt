@@ -1,15 +1,7 @@
 //! The text of each refusal: number and name.
+use crate::texts::tells;
 use ring_service::{Bad, FinishFault, SendFault, WholeFault};
 use ring_storm::StormFault;
-use std::alloc::Global;
-use std::fmt;
-use std::process::Abort;
-
-/// Tests the text of a fault.
-pub fn tells(rt: &impl Abort, alloc: Global, fault: impl fmt::Display + Drop, text: &str) {
-    let told = fault.to_string(alloc).expect(rt, "memory");
-    assert_eq!(rt; told.as_str(), text);
-}
 
 #[test]
 fn tells_why_bytes_are_no_message(rt: HostRuntime) {

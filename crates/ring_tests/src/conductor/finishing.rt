@@ -3,8 +3,8 @@ ghost use Rattle.std.specs.Prelude.{◌≡◌};
 ghost use Rattle.ring_rings.specs.Seats.{IsConsumerOf, IsProducerOf};
 ghost use Rattle.ring_service.specs.Conducting.{IsConductorOf};
 
-use crate::bench::Bench;
-use crate::sending::work;
+use crate::conductor::bench::Bench;
+use crate::conductor::sending::work;
 use ring_board::Board;
 use ring_counters::CounterValues;
 use ring_rings::{Bodies, InSlots, InWords, ManyToOne, Producer, Ring};

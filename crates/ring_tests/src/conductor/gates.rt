@@ -1,5 +1,5 @@
 //! When a storm's clients ask their gate, and when they report an answer to it; and threads that do not start.
-use crate::storms::{Form, run_in};
+use crate::conductor::storms::{Form, run_in};
 use ring_storm::{Gate, OpenGate, StormFault, StormPlan};
 use std::sync::atomic::Ordering::SeqCst;
 use std::sync::atomic::{AtomicBool, AtomicU32};
