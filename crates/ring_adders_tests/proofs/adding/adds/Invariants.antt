@@ -1,5 +1,0 @@
-use Rattle.ring_adders.specs.Adders.{IsAdderOf}
-use Rattle.ring_adders_tests.proofs.adding.adds.Given as goal
-
-abbrev pub invariant-loop-time : goal.invariant-loop-time
-invariant-loop-time l = IsAdderOf l.counter l.adder

@@ -1,5 +1,0 @@
-//! Tests of shared counters.
-#![tactic(auto)]
-
-#[cfg(test)]
-mod adding;

@@ -1,5 +1,0 @@
-use Rattle.ring_board.specs.Seats.{IsReceiverOf}
-use Rattle.ring_board_tests.proofs.threads.read_all.Given as goal
-
-abbrev pub invariant-turns : goal.invariant-turns
-invariant-turns l = IsReceiverOf l.board l.receiver

@@ -1,5 +1,0 @@
-use Rattle.ring_board.specs.Seats.{IsTransmitterOf}
-use Rattle.ring_board_tests.proofs.threads.send_all.Given as goal
-
-abbrev pub invariant-sends : goal.invariant-sends
-invariant-sends l = IsTransmitterOf l.board l.transmitter

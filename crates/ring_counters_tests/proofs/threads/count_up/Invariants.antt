@@ -1,5 +1,0 @@
-use Rattle.ring_counters.specs.Manager.{IsManagerOf}
-use Rattle.ring_counters_tests.proofs.threads.count_up.Given as goal
-
-abbrev pub invariant-loop-value : goal.invariant-loop-value
-invariant-loop-value l = IsManagerOf l.values l.counters
