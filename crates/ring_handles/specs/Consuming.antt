@@ -44,17 +44,17 @@ next_code (TooLong type_id len) = SHORT_BUFFER
 next_code Nothing = NO_MESSAGE
 
 -- a message was copied, and taken, or stays
-abbrev pub CopiesOut : Bool → Out → Out → Reading → Reading → ℤ → Type 0
-CopiesOut takes before after r s code =
+abbrev pub ReadsOrPeeks : Bool → Out → Out → Reading → Reading → ℤ → Type 0
+ReadsOrPeeks takes before after r s code =
     ByEnd (λ next. (code ≡ next_code next) × (after ≡ next_out next before after.buffer))
     (CopiesNext takes (HadNone 1) before.buffer after.buffer) r s
 
 -- a message was read, or seen
 abbrev pub ReadOne : Out → Out → Reading → Reading → ℤ → Type 0
-ReadOne = CopiesOut true
+ReadOne = ReadsOrPeeks true
 
 abbrev pub PeekOne : Out → Out → Reading → Reading → ℤ → Type 0
-PeekOne = CopiesOut false
+PeekOne = ReadsOrPeeks false
 
 -- after code 0 the message that is put out was received
 abbrev pub ReceivesOut : Out → Reading → Reading → ℤ → Type 0

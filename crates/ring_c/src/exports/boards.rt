@@ -1,7 +1,7 @@
 //! What handles of a broadcast buffer do.
 // Written by c/bindings from felter.h and exports.txt. To change this file, change them and run c/bindings.
 ghost use Rattle.ring_c.specs.Told.{GivesInto, OpensBoard, Uses, Yields};
-ghost use Rattle.ring_handles.specs.Boards.{CopiesOut, IsUnheard, heard_out, Received, SaysLapped, Subscribes};
+ghost use Rattle.ring_handles.specs.Boards.{IsUnheard, heard_out, CopiesOut, Received, SaysLapped, Subscribes};
 ghost use Rattle.ring_handles.specs.{Boards.TransmitsOut, Boards.Transmitted, Kinds.a_receiver, Kinds.a_transmitter};
 
 use crate::work_on::{fill, make_into, work_on};
