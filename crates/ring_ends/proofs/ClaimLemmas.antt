@@ -1,5 +1,5 @@
 -- The open claims of a producer: how they stay open.
-use Rattle.std.proofs.Common.{◌≡◌, ◌≢◌, ℕ, ◌+◌, ℤ, Bool, true, false, cond, eqb, List, [], ◌∷◌, ◌++◌, append-nil, length, length-append, Result, Ok, Err, Some, refl, sym, ap, ◌∙◌, subst, arith, eq-eqb, ne_eqb}
+use Rattle.std.proofs.Common.{◌≡◌, ◌≢◌, ℕ, ◌+◌, ℤ, Bool, true, false, cond, eqb, List, [], ◌∷◌, ◌++◌, append-nil, length, length-append, Result, Ok, Err, Some, refl, sym, ap, ◌∙◌, subst, arith, eq-eqb, eqb-true, ne_eqb}
 use Rattle.ring_layout.specs.declared.message.ClaimState.{ClaimState, TheVariants.Aborted}
 use Rattle.ring_words.specs.{Open.ClaimAt, declared.fault.PutRange.PutRange}
 use Rattle.ring_table.specs.declared.{claim.StagedClaim.StagedClaim, claim.Stage.TheVariants.Stored, view.View.View}
@@ -40,6 +40,7 @@ has_number number t X on off = pick (eqb t.place number) refl
 pub record Numbered (number : ℕ) (t : ClaimAt) (claims : List ClaimAt) : Type 0 where
   pub front : List ClaimAt
   pub back : List ClaimAt
+  pub place : t.place ≡ number
   pub all : claims ≡ front ++ t ∷ back
   pub rest : without number claims ≡ front ++ back
 
@@ -48,12 +49,20 @@ numbered : (number : ℕ) (claims : List ClaimAt) (t : ClaimAt) → claim_number
 numbered number [] t is = absurd cc
 numbered number (u ∷ us) t is = has_number number u (Numbered number t (u ∷ us))
     (λ on. let by = numbered_by true number u us on in
-    record { front = []; back = us; all = ap (λ x. x ∷ us) (some_same u t (sym by.0 ∙ is)); rest = by.1 })
+    let same = some_same u t (sym by.0 ∙ is) in
+    record {
+      front = [];
+      back = us;
+      place = ap (λ (x : ClaimAt). x.place) (sym same) ∙ eqb-true u.place number on;
+      all = ap (λ x. x ∷ us) same;
+      rest = by.1;
+    })
     (λ off. let by = numbered_by false number u us off in
     let more = numbered number us t (sym by.0 ∙ is) in
     record {
       front = u ∷ more.front;
       back = more.back;
+      place = more.place;
       all = ap (λ l. u ∷ l) more.all;
       rest = by.1 ∙ ap (λ l. u ∷ l) more.rest;
     })
@@ -80,6 +89,9 @@ module _ (C : ℕ) where
 
     parts : AreOpenAt C p (split.front ++ t ∷ split.back)
     parts = subst (AreOpenAt C p) split.all are
+
+    pub number_is : t.place ≡ number
+    number_is = split.place
 
     pub numbered_open : IsOpenAt C p t
     numbered_open = one_open C p q split.front split.back t parts

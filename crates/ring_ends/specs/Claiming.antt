@@ -1,12 +1,13 @@
 -- A producer that keeps its open claims, which calls name by number. The number of a claim is its place.
-use Rattle.std.specs.Prelude.{◌≡◌, ◌⊎◌, ℕ, ◌+◌, ◌<◌, ℤ, List, ◌∷◌, ◌++◌, [], length, MatchOption, MatchResult, Result, Ok, Err}
+use Rattle.std.specs.Prelude.{◌≡◌, ◌⊎◌, ℕ, ◌+◌, ◌<◌, ℤ, List, ◌∷◌, ◌++◌, [], length, MatchOption, MatchResult, OnErr, OnOk, Result, Ok, Err}
 use Rattle.ring_layout.specs.declared.message.ClaimState.{ClaimState}
 use Rattle.ring_words.specs.Open.{ClaimAt}
 use Rattle.ring_table.specs.{declared.claim.Stage.TheVariants.Stored, declared.view.View.View, OpenClaims.open_count}
 use Rattle.ring_table.specs.{Changes.staged, ProducerSteps.with_changed, Views.with_claims}
-use Rattle.ring_rings.specs.{Bodies.PutsBytes, Claiming.Claims, Claiming.RefusesTry, Holding.AreOpenAt, Joining.Joins}
+use Rattle.ring_rings.specs.{Bodies.PutsBytes, Joining.Joins}
+use Rattle.ring_rings.specs.{Claiming.Claims, Claiming.RefusesTry, Holding.AreOpenAt, Ring.SendsClaimedAt}
 use Rattle.ring_ends.specs.{Claims.aborted, Claims.claim_numbered, Claims.without, declared.claiming.Claimed.Claimed}
-use Rattle.ring_ends.specs.End.{Does, End, OpensNone}
+use Rattle.ring_ends.specs.End.{sent, Does, End, OpensNone}
 use Rattle.ring_ends.specs.declared.claiming.ClaimRefused.{ClaimRefused, TheVariants.NoMemory, TheVariants.Refused}
 use Rattle.ring_ends.specs.declared.claiming.NumberFault.{NumberFault, TheVariants.NoClaim, TheVariants.PutRange}
 
@@ -62,6 +63,11 @@ Puts number offset bytes p r q = WithClaim number (λ t.
 abbrev pub Settles : ClaimState → ℕ → NumberedClaims → Result (Unit {0}) NumberFault → NumberedClaims → Type 0
 Settles state number p r q = WithClaim number (λ t. (r ≡ Ok tt) × (q.claims ≡ without number p.claims)
     × Does (λ v _ w. w ≡ with_changed t.place (staged (Stored state)) v) p.end r q.end) p r q
+
+-- the message of the claim of this number was sent, or nothing was
+abbrev pub SendsNumbered : ℕ → NumberedClaims → Result (Unit {0}) NumberFault → NumberedClaims → Type 0
+SendsNumbered number p r q =
+    OnOk r (SendsClaimedAt number p.end.view q.end.view) × OnErr r (sent q.end ≡ sent p.end)
 
 -- the view of a producer after these claims were aborted
 abbrev pub aborted_view : List ClaimAt → View → View

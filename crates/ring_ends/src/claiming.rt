@@ -6,8 +6,8 @@ ghost use Rattle.ring_table.specs.{OpenClaims.open_count, ServiceSteps.DrawsId, 
 ghost use Rattle.ring_table.specs.Views.{producer_alone, without_share};
 ghost use Rattle.ring_ends.specs.{declared.many_to_one.SplitFault.TheVariants.OneShare, Claiming.TriesToKeep};
 ghost use Rattle.ring_ends.specs.Claims.{claims_in};
-ghost use Rattle.ring_ends.specs.Claiming.{aborted_view, AreAllOpen, KeepsNumbered, OfEnd, Puts, Settles, TakesIn};
-ghost use Rattle.ring_ends.specs.End.{shares, AreOfOneTable, Does, IsOfEnd, LoadsThem, Sends, TriesWrite, WritesAlone};
+ghost use Rattle.ring_ends.specs.Claiming.{aborted_view, AreAllOpen, KeepsNumbered, OfEnd, Puts, SendsNumbered, Settles, TakesIn};
+ghost use Rattle.ring_ends.specs.End.{sent, shares, AreOfOneTable, Does, IsOfEnd, LoadsThem, Sends, TriesWrite, WritesAlone};
 
 use crate::many_to_one::SplitFault;
 use crate::open_claims::OpenClaims;
@@ -125,7 +125,8 @@ impl<K: Kind, B: Bodies> NumberedEnd<K, B> {
 
     /// Claims room for a message by one try, and keeps the claim. The room to keep it is made first. Never waits.
     pub fn claim(&mut self, type_id: i32, len: usize) -> Result<Claimed, ClaimRefused>
-        ensures { TriesToKeep type_id len self.old result self.new }
+        ensures sent { sent self.new.end ≡ sent self.old.end }
+        ensures does { TriesToKeep type_id len self.old result self.new }
     {
         let Ok(()) = self.claims.reserve(self.end.open_claims()) else {
             return Err(ClaimRefused::NoMemory);
@@ -146,7 +147,8 @@ impl<K: Kind, B: Bodies> NumberedEnd<K, B> {
     /// Puts bytes into the open claim of this number, from the byte `offset` of its body on. After an error nothing has
     /// changed.
     pub fn put(&mut self, number: u64, offset: usize, bytes: &[u8]) -> Result<(), NumberFault>
-        ensures { Puts number offset bytes.now self.old result self.new }
+        ensures sent { sent self.new.end ≡ sent self.old.end }
+        ensures does { Puts number offset bytes.now self.old result self.new }
     {
         let (index, mut claim) = match self.claims.take(number) {
             Some((index, claim)) => (index, claim),
@@ -162,7 +164,8 @@ impl<K: Kind, B: Bodies> NumberedEnd<K, B> {
 
     /// Commits the open claim of this number.
     pub fn commit(&mut self, number: u64) -> Result<(), NumberFault>
-        ensures { Settles Committed number self.old result self.new }
+        ensures sent { SendsNumbered number self.old result self.new }
+        ensures does { Settles Committed number self.old result self.new }
     {
         let claim = match self.claims.take(number) {
             Some((_, claim)) => claim,
@@ -174,7 +177,8 @@ impl<K: Kind, B: Bodies> NumberedEnd<K, B> {
 
     /// Aborts the open claim of this number.
     pub fn abort(&mut self, number: u64) -> Result<(), NumberFault>
-        ensures { Settles Aborted number self.old result self.new }
+        ensures sent { sent self.new.end ≡ sent self.old.end }
+        ensures does { Settles Aborted number self.old result self.new }
     {
         let claim = match self.claims.take(number) {
             Some((_, claim)) => claim,

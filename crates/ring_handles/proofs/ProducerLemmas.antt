@@ -1,11 +1,15 @@
 -- A producer in a handle, by what its calls say.
-use Rattle.std.proofs.Common.{◌≡◌, ◌⊎◌, inl, inr, ℕ, ◌+◌, ◌<◌, pos, List, length, MatchOption, Option, None, Some, Result, ap, ◌∙◌}
+use Rattle.std.proofs.Common.{◌≡◌, ◌⊎◌, inl, inr, ℕ, ◌+◌, ◌<◌, pos, List, length, MatchOption, Option, None, Some, Result, Ok, Err, ◌≢◌, arith, ap, refl, ◌∙◌}
 use Rattle.ring_layout.specs.declared.message.ClaimState.{ClaimState}
 use Rattle.ring_words.specs.Open.{ClaimAt}
-use Rattle.ring_rings.specs.Bodies.{PutsBytes}
-use Rattle.ring_ends.specs.{Claims.claim_numbered, Claims.without, declared.claiming.NumberFault.NumberFault}
-use Rattle.ring_ends.specs.{Claiming.NumberedClaims, Claiming.Puts, Claiming.Settles, End.AreOfOneRing, End.End}
-use Rattle.ring_handles.specs.Producing.{holding, number_code, Declined, Put, Settled}
+use Rattle.ring_rings.specs.{Bodies.PutsBytes, Claiming.try_code}
+use Rattle.ring_ends.specs.{Claims.claim_numbered, Claims.without, End.AreOfOneRing, End.End}
+use Rattle.ring_ends.specs.declared.claiming.NumberFault.{NumberFault, TheVariants.NoClaim, TheVariants.PutRange}
+use Rattle.ring_ends.specs.Claiming.{NumberedClaims, Puts, Settles, SendsNumbered}
+use Rattle.ring_rings.specs.declared.fault.TryFault.{TryFault, TheVariants.Refused, TheVariants.Contended}
+use Rattle.ring_words.specs.declared.fault.ClaimFault.TheVariants.{BadType, TooLong, PositionLimit, InsufficientCapacity}
+use Rattle.ring_handles.proofs.ConsumerLemmas.{not_zero}
+use Rattle.ring_handles.specs.Producing.{holding, number_code, Declined, Put, SendsClaim, Settled}
 use Rattle.ring_handles.specs.{Side.knowing, Side.side, declared.identity.Identity.Identity}
 
 -- what follows if there is a claim of a number, and if there is none
@@ -13,6 +17,21 @@ of_claim : {A B : Type 0} {P Q : ClaimAt → Type 0} → (A → B) → ((t : Cla
     → MatchOption o A P → MatchOption o B Q
 of_claim none some None a = none a
 of_claim none some (Some t) x = some t x
+
+-- a refused try has a code above 0
+pub refused_code : (fault : TryFault) → try_code fault ≢ pos 0
+refused_code (Refused (BadType a)) = not_zero (pos 4) 4 (omega arith) refl
+refused_code (Refused (TooLong a b)) = not_zero (pos 5) 5 (omega arith) refl
+refused_code (Refused (PositionLimit a)) = not_zero (pos 6) 6 (omega arith) refl
+refused_code (Refused (InsufficientCapacity a b)) = not_zero (pos 7) 7 (omega arith) refl
+refused_code (Contended a b) = not_zero (pos 8) 8 (omega arith) refl
+
+-- what was sent, by the code of a call that commits a claim
+pub sends_claim : (number : ℕ) (p q : NumberedClaims) (r : Result (Unit {0}) NumberFault) → SendsNumbered number p r q
+    → SendsClaim number p.end.view q.end.view (number_code r)
+sends_claim number p q (Ok x) sends = inl (refl, sends.0)
+sends_claim number p q (Err NoClaim) sends = inr (not_zero (pos 104) 104 (omega arith) refl, sends.1)
+sends_claim number p q (Err PutRange) sends = inr (not_zero (pos 9) 9 (omega arith) refl, sends.1)
 
 module _ (i : Identity) (p q : NumberedClaims) where
   -- what became of the producer, by its end and its claims

@@ -2,7 +2,8 @@
 use Rattle.std.specs.Prelude.{◌≡◌, ◌≢◌, ◌⊎◌, ℕ, ◌+◌, ◌<◌, ℤ, List, [], ◌∷◌, ◌++◌, length, MatchOption, Bool, true, false, Result, Ok, Err}
 use Rattle.ring_layout.specs.declared.message.ClaimState.{ClaimState}
 use Rattle.ring_words.specs.Open.{ClaimAt}
-use Rattle.ring_rings.specs.{declared.fault.TryFault.TryFault, Joining.Joins, Joining.LoadsPositions}
+use Rattle.ring_rings.specs.declared.fault.TryFault.{TryFault}
+use Rattle.ring_rings.specs.{Joining.Joins, Joining.LoadsPositions, Ring.message, Ring.sent_in, Ring.SendsClaimedAt}
 use Rattle.ring_table.specs.declared.{claim.Stage.TheVariants.Stored, view.View.View}
 use Rattle.ring_table.specs.{Changes.changed, Changes.staged, ServiceSteps.DrawsId, ServiceSteps.LoadsHeartbeat}
 use Rattle.ring_table.specs.Views.{producer_alone, with_claims, without_share}
@@ -22,6 +23,22 @@ pub record IsRefused (many : Bool) (capacity : ℕ) (type_id : ℤ) (len : ℕ) 
   pub fault : TryFault
   pub code_is : code ≡ try_code fault
   pub refused : RefusesTry many capacity type_id len v fault w
+
+-- What was sent --------------------------------------------------------------------
+
+-- after code DONE this message was sent, and after another code none was
+abbrev pub SendsOut : ℤ → List ℕ → View → View → ℤ → Type 0
+SendsOut type_id body v w code = ((code ≡ DONE) × (sent_in w ≡ sent_in v ++ message type_id body ∷ []))
+    ⊎ ((code ≢ DONE) × (sent_in w ≡ sent_in v))
+
+-- the same of the message of the claim of this number, which in the list is between those of its neighbours
+abbrev pub SendsClaim : ℕ → View → View → ℤ → Type 0
+SendsClaim number v w code = ((code ≡ DONE) × SendsClaimedAt number v w)
+    ⊎ ((code ≢ DONE) × (sent_in w ≡ sent_in v))
+
+-- no message was sent
+abbrev pub SendsNone : View → View → Type 0
+SendsNone v w = sent_in w ≡ sent_in v
 
 -- Writing ------------------------------------------------------------------------
 

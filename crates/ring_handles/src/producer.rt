@@ -1,7 +1,8 @@
 //! A producer in a handle.
 ghost use Rattle.std.specs.Prelude.{◌≡◌, IfErr, IfOk, OnOk};
 ghost use Rattle.ring_layout.specs.declared.message.ClaimState.TheVariants.{Aborted, Committed};
-ghost use Rattle.ring_handles.specs.Producing.{closing, positions, Claimed, Counted, Drew, HeardBeat, IsApart, WhyNotSplit, Positioned, Put, Settled, Splits, TakesIn, Wrote};
+ghost use Rattle.ring_handles.specs.Producing.{closing, positions, Claimed, Counted, Drew, HeardBeat, IsApart, Positioned};
+ghost use Rattle.ring_handles.specs.Producing.{Put, SendsClaim, SendsNone, SendsOut, Settled, Splits, TakesIn, WhyNotSplit, Wrote};
 ghost use Rattle.ring_handles.specs.Side.{AreOfOneRing};
 
 use crate::claims::{abort_in, claim_in, commit_in, put_in, write_in};
@@ -40,35 +41,40 @@ impl ProducerSide {
 
     /// Writes a message, by one try.
     pub fn write(&mut self, type_id: i32, body: &[u8]) -> i32
-        ensures { Wrote type_id body.now self.old self.new result }
+        ensures sent { SendsOut type_id body.now self.old.view self.new.view result }
+        ensures does { Wrote type_id body.now self.old self.new result }
     {
         on_end!(&mut self.end, end => return write_in(end, type_id, body))
     }
 
     /// Claims room for a message, and keeps the claim.
     pub fn claim(&mut self, type_id: i32, len: usize, number: &mut u64) -> i32
-        ensures { Claimed type_id len number.old number.new self.old self.new result }
+        ensures sent { SendsNone self.old.view self.new.view }
+        ensures does { Claimed type_id len number.old number.new self.old self.new result }
     {
         on_end!(&mut self.end, end => return claim_in(end, type_id, len, number))
     }
 
     /// Puts bytes into the open claim of this number.
     pub fn put(&mut self, number: u64, offset: usize, bytes: &[u8]) -> i32
-        ensures { Put number offset bytes.now self.old self.new result }
+        ensures sent { SendsNone self.old.view self.new.view }
+        ensures does { Put number offset bytes.now self.old self.new result }
     {
         on_end!(&mut self.end, end => put_in(end, number, offset, bytes))
     }
 
     /// Commits the open claim of this number.
     pub fn commit(&mut self, number: u64) -> i32
-        ensures { Settled Committed number self.old self.new result }
+        ensures sent { SendsClaim number self.old.view self.new.view result }
+        ensures does { Settled Committed number self.old self.new result }
     {
         on_end!(&mut self.end, end => commit_in(end, number))
     }
 
     /// Aborts the open claim of this number.
     pub fn abort(&mut self, number: u64) -> i32
-        ensures { Settled Aborted number self.old self.new result }
+        ensures sent { SendsNone self.old.view self.new.view }
+        ensures does { Settled Aborted number self.old self.new result }
     {
         on_end!(&mut self.end, end => abort_in(end, number))
     }

@@ -1,8 +1,9 @@
 //! What a producer's handle does.
 // Written by c/bindings from felter.h and exports.txt. To change this file, change them and run c/bindings.
 ghost use Rattle.ring_c.specs.Told.{Uses, Yields};
-ghost use Rattle.ring_handles.specs.{Kinds.a_producer, WritingBatch.WroteBatch, Producing.Wrote};
-ghost use Rattle.ring_handles.specs.Producing.{positions, Claimed, Counted, Drew, HeardBeat, Positioned, Put, Settled};
+ghost use Rattle.ring_handles.specs.{Kinds.a_producer, WritingBatch.WroteBatch};
+ghost use Rattle.ring_handles.specs.Producing.{positions, Claimed, Counted, Drew, HeardBeat, Positioned, Put};
+ghost use Rattle.ring_handles.specs.Producing.{SendsClaim, SendsNone, SendsOut, Settled, Wrote};
 ghost use Rattle.ring_layout.specs.declared.message.ClaimState.TheVariants.{Aborted, Committed};
 
 use crate::work_on::work_on;
@@ -19,7 +20,9 @@ pub extern "C" fn felter_write(
     type_id: i32,
     body: &[u8],
 ) -> i32
-    ensures { Uses a_producer (Wrote type_id body.now) producer.old.held producer.new.held result }
+    ensures sent { Uses a_producer (λ p q. SendsOut type_id body.now p.view q.view) producer.old.held producer.new.held
+        result }
+    ensures does { Uses a_producer (Wrote type_id body.now) producer.old.held producer.new.held result }
 {
     work_on!(producer, alloc, Producer(side) => side.write(type_id, body))
 }
@@ -66,7 +69,9 @@ pub extern "C" fn felter_claim(
     len: usize,
     claim: &mut u64,
 ) -> i32
-    ensures { Yields a_producer (Claimed type_id len) claim.old claim.new producer.old.held producer.new.held result }
+    ensures sent { Uses a_producer (λ p q _. SendsNone p.view q.view) producer.old.held producer.new.held result }
+    ensures does { Yields a_producer (Claimed type_id len) claim.old claim.new producer.old.held producer.new.held
+        result }
 {
     work_on!(producer, alloc, Producer(side) => side.claim(type_id, len, claim))
 }
@@ -81,7 +86,8 @@ pub extern "C" fn felter_put(
     offset: usize,
     bytes: &[u8],
 ) -> i32
-    ensures { Uses a_producer (Put claim offset bytes.now) producer.old.held producer.new.held result }
+    ensures sent { Uses a_producer (λ p q _. SendsNone p.view q.view) producer.old.held producer.new.held result }
+    ensures does { Uses a_producer (Put claim offset bytes.now) producer.old.held producer.new.held result }
 {
     work_on!(producer, alloc, Producer(side) => side.put(claim, offset, bytes))
 }
@@ -89,7 +95,8 @@ pub extern "C" fn felter_put(
 /// Commits an open claim of the producer. The consumer is then shown the message. Codes: FELTER_NO_CLAIM.
 #[unsafe(no_mangle)]
 pub extern "C" fn felter_commit(alloc: Global, producer: &mut Handle, claim: u64) -> i32
-    ensures { Uses a_producer (Settled Committed claim) producer.old.held producer.new.held result }
+    ensures sent { Uses a_producer (λ p q. SendsClaim claim p.view q.view) producer.old.held producer.new.held result }
+    ensures does { Uses a_producer (Settled Committed claim) producer.old.held producer.new.held result }
 {
     work_on!(producer, alloc, Producer(side) => side.commit(claim))
 }
@@ -97,7 +104,8 @@ pub extern "C" fn felter_commit(alloc: Global, producer: &mut Handle, claim: u64
 /// Aborts an open claim of the producer. The consumer then skips the claim. Codes: FELTER_NO_CLAIM.
 #[unsafe(no_mangle)]
 pub extern "C" fn felter_abort(alloc: Global, producer: &mut Handle, claim: u64) -> i32
-    ensures { Uses a_producer (Settled Aborted claim) producer.old.held producer.new.held result }
+    ensures sent { Uses a_producer (λ p q _. SendsNone p.view q.view) producer.old.held producer.new.held result }
+    ensures does { Uses a_producer (Settled Aborted claim) producer.old.held producer.new.held result }
 {
     work_on!(producer, alloc, Producer(side) => side.abort(claim))
 }

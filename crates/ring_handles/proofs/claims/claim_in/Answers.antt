@@ -5,7 +5,7 @@ use Rattle.ring_handles.proofs.claims.claim_in.Goals as goal
 
 pub returns-in-Ok-clause-code : goal.returns-in-Ok-clause-code
 returns-in-Ok-clause-code g c = λ i.
-    let made = rw (to_z-of_z w32 c.args.type_id c.ranges.type_id) at c.in-Ok.ensures in
+    let made = rw (to_z-of_z w32 c.args.type_id c.ranges.type_id) at c.in-Ok.ensures.does in
     inl (
       refl,
       record {

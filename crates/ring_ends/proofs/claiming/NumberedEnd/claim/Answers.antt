@@ -16,8 +16,8 @@ invariant_of-self-in-Ok-try_claim g c =
     (all_more p.capacity p.view q.view (claims_in c.self.inside.claims) _ _ _ made.claim made.ensures.does.1
     c.try_claim.ensures.keeps.claims made.ensures.opened c.self.invariant))
 
-pub returns-in-Ok-try_claim : goal.returns-in-Ok-try_claim
-returns-in-Ok-try_claim g c =
+pub returns-in-Ok-try_claim-clause-does : goal.returns-in-Ok-try_claim-clause-does
+returns-in-Ok-try_claim-clause-does g c =
     let made = c.in-Ok-try_claim in
     let held = c.keep.ensures ∙ ap (λ l. l ++ made.claim ∷ []) c.reserve.ensures.same in
     let new : NumberedClaims = record { end = c.try_claim.new.self; claims = claims_in c.keep.new.self } in
@@ -31,8 +31,8 @@ returns-in-Ok-try_claim g c =
       kept = held;
     })
 
-pub returns-in-Err : goal.returns-in-Err
-returns-in-Err g c =
+pub returns-in-Err-clause-does : goal.returns-in-Err-clause-does
+returns-in-Err-clause-does g c =
     let new : NumberedClaims = record { end = c.try_claim.new.self; claims = claims_in c.reserve.new.self } in
     subst (λ (p : NumberedClaims). KeepsNone c.args.type_id c.args.len p (Refused c.in-Err.fault) new) c.self.view_is
     (c.reserve.ensures.same, rw (to_z-of_z w32 c.args.type_id c.ranges.type_id) at c.in-Err.ensures.does)

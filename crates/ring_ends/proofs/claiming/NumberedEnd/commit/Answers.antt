@@ -1,6 +1,7 @@
-use Rattle.std.proofs.Common.{refl, subst, sym}
-use Rattle.ring_ends.specs.Claiming.{AreAllOpen}
-use Rattle.ring_ends.proofs.{ClaimLemmas.all_less, ClaimLemmas.numbered_open, EndLemmas.open_of}
+use Rattle.std.proofs.Common.{refl, subst, sym, ℕ}
+use Rattle.ring_rings.specs.Ring.{SendsClaimedAt}
+use Rattle.ring_ends.specs.Claiming.{AreAllOpen, NumberedClaims}
+use Rattle.ring_ends.proofs.{ClaimLemmas.all_less, ClaimLemmas.number_is, ClaimLemmas.numbered_open, EndLemmas.open_of}
 use Rattle.ring_ends.proofs.claiming.NumberedEnd.commit.Goals as goal
 
 pub commit-requires : goal.commit-requires
@@ -19,3 +20,11 @@ invariant_of-self-2 g c =
 
 pub take-requires : goal.take-requires
 take-requires g c = c.self.invariant.are.apart
+
+pub returns-clause-sent : goal.returns-clause-sent
+returns-clause-sent g c =
+    let v = c.self.inside.end.view in
+    let w = c.commit.new.self.view in
+    let here = number_is _ v v _ _ _ c.in-Some.ensures.takes.claim c.self.invariant.are in
+    let own = subst (λ (n : ℕ). SendsClaimedAt n v w) here c.commit.ensures.sent in
+    (subst (λ (p : NumberedClaims). SendsClaimedAt c.args.number p.end.view w) c.self.view_is own, tt)
