@@ -11,7 +11,7 @@ def signature(name, parameters):
 
 
 def guard(call):
-    """The function that stands before an export: it answers NULL, and counts the call in a checked build."""
+    """The inline function that C calls for an export: it refuses NULL, and counts the call in a checked build."""
     lines, names = [signature("felter_guarded" + call.name.removeprefix("felter"), call.parameters)], []
     if not call.answers:
         lines[0] = lines[0].replace("FELTER_GUARD int32_t", "static inline void")

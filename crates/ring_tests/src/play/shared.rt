@@ -114,7 +114,7 @@ fn read_by<K, B: Bodies, H: Handler>(
     }
 }
 
-/// Where the ring stands.
+/// The positions of the ring.
 fn positions<K, B: Bodies>(ring: &Ring<K, B>, producer: &mut Producer) -> Positions
     requires { IsProducerOf ring.now producer.old }
     ensures producer { IsProducerOf ring.now producer.new }
