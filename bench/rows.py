@@ -119,10 +119,11 @@ README_ROWS = (
     ("broadcast buffer, two receivers, 64 bytes", ("broadcast", 64, 2, "ns"), "ours-board", BROADCAST),
 )
 
-# Through felter.h: label, workload, contender, the plain calls, bytes, threads, metric.
-C_RINGS = tuple((f"plain {name}, {said}", f"felter-{ring}{ending}", f"plain-{ring}")
-                for name, ring in (("one-to-one", "o2o"), ("many-to-one", "m2o"))
-                for said, ending in (("read", ""), ("read in batches", "-batch")))
+# Through felter.h: label, workload, contender, the plain calls, bytes, threads, metric. Both read one message by each
+# call, or both read up to 64.
+C_READS = (("one message in each read", "", "-single"), ("read in batches", "-batch", ""))
+C_RINGS = tuple((f"plain {name}, {said}", f"felter-{ring}{ending}", f"plain-{ring}{same}")
+                for name, ring in (("one-to-one", "o2o"), ("many-to-one", "m2o")) for said, ending, same in C_READS)
 C_ROWS = (
     *((f"{name}, {threads}, {size:,} bytes", workload, c, plain, size, 1, "ns")
       for threads, workload in (("one thread", "batches"), ("two threads", "pair")) for name, c, plain in C_RINGS
@@ -133,9 +134,9 @@ C_ROWS = (
       for said in ("mean", "p50", "p99")),
 )
 # The same in a table by length.
-C_LENGTH_ROWS = tuple((f"plain many-to-one, {threads}, {said}", workload, f"felter-m2o{ending}", "plain-m2o", SIZES)
-                      for threads, workload in (("one thread", "batches"), ("two threads", "pair"))
-                      for said, ending in (("one message in each read", ""), ("read in batches", "-batch")))
+C_LENGTH_ROWS = tuple((f"plain many-to-one, {threads}, {said}", workload, f"felter-m2o{ending}", f"plain-m2o{same}",
+                       SIZES) for threads, workload in (("one thread", "batches"), ("two threads", "pair"))
+                      for said, ending, same in C_READS)
 
 # The rings of felter.jar against Agrona's algorithm in Java: label, workload, ours, theirs, bytes.
 JAVA_ROWS = tuple((f"{name}, {said}, {size:,} bytes", workload, f"felter-java-{ring}", f"agrona-java-{ring}", size)

@@ -1,7 +1,5 @@
 //! One thread that writes a batch of messages by one call and reads it.
-ghost use Rattle.ring_rings.specs.Seats.{IsConsumerOf, IsProducerOf, MayClaim};
-
-use crate::batches::{Seated, take_until};
+use crate::batches::{Both, take_until};
 use crate::fault::Fault;
 use crate::message::{BATCH, Batch, Sum};
 use crate::request::Request;
@@ -13,23 +11,19 @@ use std::rt::Clock;
 
 /// Batches that go through a plain ring, each of which is written by one call.
 #[derive(Drop)]
-struct AtOnce<K> {
-    lane: Seated<K, InSlots>,
+struct AtOnce<K: Kind> {
+    lane: Both<K, InSlots>,
+    /// The messages that a read may take.
+    limit: u32,
     batch: Batch,
     sum: Sum,
 }
 
 impl<K: Kind> AtOnce<K> {
     /// Writes a batch, of which the first message has this number.
-    fn put(&mut self, first: u64) -> Result<(), Fault>
-        requires seats { IsProducerOf self.old.lane.ring self.old.lane.producer
-            × MayClaim K.many self.old.lane.producer × IsConsumerOf self.old.lane.ring self.old.lane.consumer }
-        ensures seats { IsProducerOf self.new.lane.ring self.new.lane.producer
-            × MayClaim K.many self.new.lane.producer × IsConsumerOf self.new.lane.ring self.new.lane.consumer }
-    {
+    fn put(&mut self, first: u64) -> Result<(), Fault> {
         let messages = self.batch.numbered(first);
-        let Seated { ring, producer, .. } = &mut self.lane;
-        match ring.write_batch(producer, &messages) {
+        match self.lane.producer.write_batch(&messages) {
             Ok(BATCH) => Ok(()),
             _ => Err(Fault::REFUSED),
         }
@@ -37,14 +31,12 @@ impl<K: Kind> AtOnce<K> {
 }
 
 impl<K: Kind> Task for AtOnce<K> {
-    ghost is_ready = { λ b. IsProducerOf b.lane.ring b.lane.producer × MayClaim K.many b.lane.producer
-        × IsConsumerOf b.lane.ring b.lane.consumer };
-
     fn step(&mut self, number: u64) -> Result<(), Fault> {
         let first = number.wrapping_mul(BATCH as u64);
         self.put(first)?;
         take_until(
             &mut self.lane,
+            self.limit,
             &mut self.sum,
             first.wrapping_add(BATCH as u64),
         )
@@ -60,9 +52,12 @@ pub fn run_at_once<K: Kind, R: Clock>(
     times: u64,
 ) -> Result<Sample, Fault> {
     let batch = Batch::new(alloc, request.size)?;
-    let lane = Seated::<K, InSlots>::open(alloc, request.capacity)?;
-    let sum = Sum::new();
-    let mut at_once = AtOnce { lane, batch, sum };
+    let mut at_once = AtOnce {
+        lane: Both::<K, InSlots>::open(alloc, request.capacity)?,
+        limit: request.contender.limit(),
+        batch,
+        sum: Sum::new(),
+    };
     let count = times.div_ceil(BATCH as u64);
     let nanos = time(rt, &mut at_once, count)?;
     let messages = count.wrapping_mul(BATCH as u64);

@@ -1,36 +1,25 @@
 //! One thread that writes a batch of messages and reads it.
-ghost use Rattle.std.specs.Prelude.{IfOk};
-ghost use Rattle.ring_rings.specs.Seats.{IsConsumerOf, IsProducerOf, MayClaim};
-
 use crate::fault::Fault;
 use crate::message::{BATCH, Body, Sum, TYPE_ID};
 use crate::request::{Request, Workload};
 use crate::sample::Sample;
 use crate::task::{Task, time};
-use ring_rings::{Bodies, Consumer, Kind, Producer, Ring};
+use ring_ends::{ConsumerEnd, ProducerEnd, open};
+use ring_rings::{Bodies, Kind};
 use ring_words::SoloRing;
 use std::alloc::Global;
 use std::rt::Clock;
-
-/// The messages that a read may take.
-const LIMIT: u32 = 64;
 
 /// The tries to read a batch.
 const READS: u32 = 1_000_000;
 
 /// A ring in the hands of one thread, which writes it and reads it.
 pub(crate) trait Lane {
-    /// The seats are the ring's.
-    ghost whole: { Self → Type 0 } = { λ _. Unit {0} };
-
     /// Whether the message was written.
-    fn put(&mut self, body: &[u8]) -> bool
-        requires { whole self.old }
-        ensures { whole self.new };
+    fn put(&mut self, body: &[u8]) -> bool;
 
-    fn take(&mut self, sum: &mut Sum)
-        requires { whole self.old }
-        ensures { whole self.new };
+    /// Reads at most `limit` messages.
+    fn take(&mut self, limit: u32, sum: &mut Sum);
 }
 
 impl Lane for SoloRing {
@@ -38,58 +27,47 @@ impl Lane for SoloRing {
         self.write(TYPE_ID, body).is_ok()
     }
 
-    fn take(&mut self, sum: &mut Sum) {
-        self.read(LIMIT, sum);
+    fn take(&mut self, limit: u32, sum: &mut Sum) {
+        self.read(limit, sum);
     }
 }
 
-/// A shared ring with all its seats.
+/// Both ends of a shared ring.
 #[derive(Drop)]
-pub(crate) struct Seated<K, B: Bodies> {
-    pub ring: Ring<K, B>,
-    pub producer: Producer,
-    pub consumer: Consumer,
+pub(crate) struct Both<K: Kind, B: Bodies> {
+    pub producer: ProducerEnd<K, B>,
+    pub consumer: ConsumerEnd<K, B>,
 }
 
-impl<K: Kind, B: Bodies> Seated<K, B> {
-    pub(crate) fn open(alloc: Global, capacity: u32) -> Result<Seated<K, B>, Fault>
-        ensures { IfOk result (λ s. IsProducerOf s.ring s.producer × MayClaim K.many s.producer
-            × IsConsumerOf s.ring s.consumer) }
-    {
-        let (ring, producer, consumer) = Ring::new(alloc, capacity)?;
-        Ok(Seated {
-            ring,
-            producer,
-            consumer,
-        })
+impl<K: Kind, B: Bodies> Both<K, B> {
+    pub(crate) fn open(alloc: Global, capacity: u32) -> Result<Both<K, B>, Fault> {
+        let (producer, consumer) = open(alloc, capacity, 0)?;
+        Ok(Both { producer, consumer })
     }
 }
 
-impl<K: Kind, B: Bodies> Lane for Seated<K, B> {
-    ghost whole = { λ s. IsProducerOf s.ring s.producer × MayClaim K.many s.producer
-        × IsConsumerOf s.ring s.consumer };
-
+impl<K: Kind, B: Bodies> Lane for Both<K, B> {
     fn put(&mut self, body: &[u8]) -> bool {
-        self.ring
-            .try_write(&mut self.producer, TYPE_ID, body)
-            .is_ok()
+        self.producer.try_write(TYPE_ID, body).is_ok()
     }
 
-    fn take(&mut self, sum: &mut Sum) {
-        self.ring.read(&mut self.consumer, LIMIT, sum);
+    fn take(&mut self, limit: u32, sum: &mut Sum) {
+        self.consumer.read(limit, sum);
     }
 }
 
-/// Reads until this many messages came in all.
-pub(crate) fn take_until<L: Lane>(lane: &mut L, sum: &mut Sum, count: u64) -> Result<(), Fault>
-    requires { L.whole lane.old }
-    ensures { L.whole lane.new }
-{
+/// Reads until this many messages came in all, by reads that take at most `limit` messages each.
+pub(crate) fn take_until<L: Lane>(
+    lane: &mut L,
+    limit: u32,
+    sum: &mut Sum,
+    count: u64,
+) -> Result<(), Fault> {
     for _ in 0..READS {
         if sum.count >= count {
             return Ok(());
         }
-        lane.take(sum);
+        lane.take(limit, sum);
     }
     Err(Fault::STUCK)
 }
@@ -98,16 +76,15 @@ pub(crate) fn take_until<L: Lane>(lane: &mut L, sum: &mut Sum, count: u64) -> Re
 #[derive(Drop)]
 struct Batches<L> {
     lane: L,
+    /// The messages that a read may take.
+    limit: u32,
     body: Body,
     sum: Sum,
 }
 
 impl<L: Lane> Batches<L> {
     /// Writes a batch, of which the first message has this number.
-    fn put(&mut self, first: u64) -> Result<(), Fault>
-        requires { L.whole self.old.lane }
-        ensures { L.whole self.new.lane }
-    {
+    fn put(&mut self, first: u64) -> Result<(), Fault> {
         for k in 0..BATCH as u64 {
             if !self.lane.put(self.body.numbered(first.wrapping_add(k))) {
                 return Err(Fault::REFUSED);
@@ -118,13 +95,12 @@ impl<L: Lane> Batches<L> {
 }
 
 impl<L: Lane> Task for Batches<L> {
-    ghost is_ready = { λ b. L.whole b.lane };
-
     fn step(&mut self, number: u64) -> Result<(), Fault> {
         let first = number.wrapping_mul(BATCH as u64);
         self.put(first)?;
         take_until(
             &mut self.lane,
+            self.limit,
             &mut self.sum,
             first.wrapping_add(BATCH as u64),
         )
@@ -135,13 +111,16 @@ impl<L: Lane> Task for Batches<L> {
 fn run_lane<L: Lane + Drop, R: Clock>(
     rt: &R,
     lane: L,
+    limit: u32,
     body: Body,
     times: u64,
-) -> Result<Sample, Fault>
-    requires { L.whole lane }
-{
-    let sum = Sum::new();
-    let mut batches = Batches { lane, body, sum };
+) -> Result<Sample, Fault> {
+    let mut batches = Batches {
+        lane,
+        limit,
+        body,
+        sum: Sum::new(),
+    };
     let count = times.div_ceil(BATCH as u64);
     let nanos = time(rt, &mut batches, count)?;
     let messages = count.wrapping_mul(BATCH as u64);
@@ -166,8 +145,8 @@ pub fn run_batches<K: Kind, B: Bodies, R: Clock>(
     times: u64,
 ) -> Result<Sample, Fault> {
     let body = body_of(alloc, request)?;
-    let lane = Seated::<K, B>::open(alloc, request.capacity)?;
-    run_lane(rt, lane, body, times)
+    let lane = Both::<K, B>::open(alloc, request.capacity)?;
+    run_lane(rt, lane, request.contender.limit(), body, times)
 }
 
 /// The same with the ring of one owner.
@@ -179,5 +158,5 @@ pub fn run_solo<R: Clock>(
 ) -> Result<Sample, Fault> {
     let body = body_of(alloc, request)?;
     let lane = SoloRing::new(alloc, request.capacity)?;
-    run_lane(rt, lane, body, times)
+    run_lane(rt, lane, request.contender.limit(), body, times)
 }

@@ -1,11 +1,11 @@
 //! What a producer sends: single messages, or batches.
 ghost use Rattle.std.specs.Prelude.{◌≤◌, length};
-ghost use Rattle.ring_rings.specs.Seats.{IsProducerOf, MayClaim};
 
 use crate::fault::Fault;
 use crate::message::{BATCH, Batch, Body, TYPE_ID, first_word};
 use crate::rest::{Rest, TRIES};
-use ring_rings::{Bodies, ClaimFault, InSlots, Kind, Outgoing, Producer, Ring, TryFault};
+use ring_ends::ProducerEnd;
+use ring_rings::{Bodies, ClaimFault, InSlots, Kind, Outgoing, TryFault};
 use std::alloc::Global;
 use std::hint::spin_loop;
 
@@ -18,30 +18,18 @@ pub trait Cargo<K: Kind, B: Bodies>: Sized {
     /// there was no room for a long time.
     fn send_all(
         &mut self,
-        ring: &Ring<K, B>,
-        producer: &mut Producer,
+        producer: &mut ProducerEnd<K, B>,
         id: u32,
         messages: u64,
-    ) -> Result<(), Fault>
-        requires producer { IsProducerOf ring.now producer.old }
-        requires sole { MayClaim K.many producer.old };
+    ) -> Result<(), Fault>;
 }
 
 /// Writes a message, and waits while there is no room. `REFUSED` if such a message is never taken, `STUCK` if there was
 /// no room for a long time.
-fn send<K: Kind, B: Bodies>(
-    ring: &Ring<K, B>,
-    producer: &mut Producer,
-    body: &[u8],
-) -> Result<(), Fault>
-    requires producer { IsProducerOf ring.now producer.old }
-    requires sole { MayClaim K.many producer.old }
-    ensures producer { IsProducerOf ring.now producer.new }
-    ensures sole { MayClaim K.many producer.new }
-{
+fn send<K: Kind, B: Bodies>(producer: &mut ProducerEnd<K, B>, body: &[u8]) -> Result<(), Fault> {
     let mut rest = Rest::new();
     for _ in 0..TRIES {
-        match ring.try_write(producer, TYPE_ID, body) {
+        match producer.try_write(TYPE_ID, body) {
             Ok(()) => return Ok(()),
             Err(TryFault::Refused(ClaimFault::InsufficientCapacity { .. })) => rest.wait(),
             Err(TryFault::Refused(_)) => return Err(Fault::REFUSED),
@@ -54,22 +42,16 @@ fn send<K: Kind, B: Bodies>(
 /// Writes the messages of a batch by as few calls as there is room for, and waits while there is none. The faults are
 /// those of `send`.
 fn send_batch<K: Kind>(
-    ring: &Ring<K, InSlots>,
-    producer: &mut Producer,
+    producer: &mut ProducerEnd<K, InSlots>,
     messages: &[Outgoing<'_>],
-) -> Result<(), Fault>
-    requires producer { IsProducerOf ring.now producer.old }
-    requires sole { MayClaim K.many producer.old }
-    ensures producer { IsProducerOf ring.now producer.new }
-    ensures sole { MayClaim K.many producer.new }
-{
+) -> Result<(), Fault> {
     let mut rest = Rest::new();
     let mut sent = 0;
     for _ in 0..TRIES {
         if sent == messages.len() {
             return Ok(());
         }
-        match ring.write_batch(producer, &messages[sent..]) {
+        match producer.write_batch(&messages[sent..]) {
             Ok(count) => sent += count,
             Err(TryFault::Refused(ClaimFault::InsufficientCapacity { .. })) => rest.wait(),
             Err(TryFault::Refused(_)) => return Err(Fault::REFUSED),
@@ -81,41 +63,29 @@ fn send_batch<K: Kind>(
 
 /// Sends messages one after another.
 fn send_each<K: Kind, B: Bodies>(
-    ring: &Ring<K, B>,
-    producer: &mut Producer,
+    producer: &mut ProducerEnd<K, B>,
     body: &mut Body,
     id: u32,
     messages: u64,
-) -> Result<(), Fault>
-    requires producer { IsProducerOf ring.now producer.old }
-    requires sole { MayClaim K.many producer.old }
-{
+) -> Result<(), Fault> {
     for number in 0..messages {
-        send(
-            ring,
-            producer,
-            body.numbered(first_word(u64::from(id), number)),
-        )?;
+        send(producer, body.numbered(first_word(u64::from(id), number)))?;
     }
     Ok(())
 }
 
 /// Sends messages in batches. The last batch may be shorter than the others.
 fn send_batches<K: Kind>(
-    ring: &Ring<K, InSlots>,
-    producer: &mut Producer,
+    producer: &mut ProducerEnd<K, InSlots>,
     batch: &mut Batch,
     id: u32,
     messages: u64,
-) -> Result<(), Fault>
-    requires producer { IsProducerOf ring.now producer.old }
-    requires sole { MayClaim K.many producer.old }
-{
+) -> Result<(), Fault> {
     for k in 0..messages.div_ceil(BATCH as u64) {
         let number = k.wrapping_mul(BATCH as u64);
         let left = messages.wrapping_sub(number).min(BATCH as u64) as usize;
         let messages = batch.numbered(first_word(u64::from(id), number));
-        send_batch(ring, producer, &messages[..left])?;
+        send_batch(producer, &messages[..left])?;
     }
     Ok(())
 }
@@ -127,12 +97,11 @@ impl<K: Kind, B: Bodies> Cargo<K, B> for Body {
 
     fn send_all(
         &mut self,
-        ring: &Ring<K, B>,
-        producer: &mut Producer,
+        producer: &mut ProducerEnd<K, B>,
         id: u32,
         messages: u64,
     ) -> Result<(), Fault> {
-        send_each(ring, producer, self, id, messages)
+        send_each(producer, self, id, messages)
     }
 }
 
@@ -143,11 +112,10 @@ impl<K: Kind> Cargo<K, InSlots> for Batch {
 
     fn send_all(
         &mut self,
-        ring: &Ring<K, InSlots>,
-        producer: &mut Producer,
+        producer: &mut ProducerEnd<K, InSlots>,
         id: u32,
         messages: u64,
     ) -> Result<(), Fault> {
-        send_batches(ring, producer, self, id, messages)
+        send_batches(producer, self, id, messages)
     }
 }

@@ -1,13 +1,10 @@
 //! Counters: set, read, allocated and freed by one thread.
-ghost use Rattle.std.specs.Prelude.{◌≡◌};
-ghost use Rattle.ring_counters.specs.{Manager.IsManagerOf, Seats.IsReaderOf};
-
 use crate::fault::Fault;
 use crate::job::Job;
 use crate::sample::Sample;
 use crate::task::{Task, time};
 use crate::watching::run_watched;
-use ring_counters::{CounterValues, CountersManager, ValueReader};
+use ring_ends::{CountersEnd, ReaderEnd};
 use std::alloc::Global;
 use std::rt::Clock;
 use std::sync::Wait;
@@ -27,95 +24,63 @@ fn scattered(step: u64) -> u32 {
     ((step.wrapping_mul(2_654_435_761) >> 7) % u64::from(COUNTERS)) as u32
 }
 
-/// Counters and their manager.
-#[derive(Drop)]
-struct Managed<'a> {
-    values: &'a CounterValues,
-    counters: CountersManager,
+/// Allocates all counters at a moment.
+fn fill(counters: &mut CountersEnd, moment: u32) -> Result<(), Fault> {
+    for k in 0..COUNTERS {
+        let number = u64::from(moment) * u64::from(COUNTERS) + u64::from(k);
+        let key = number.to_le_bytes();
+        let moment = u64::from(moment);
+        let allocated = counters.allocate_owned(moment, TYPE_ID, &key, LABEL, number, 0);
+        if allocated.is_err() {
+            return Err(Fault::REFUSED);
+        }
+    }
+    Ok(())
 }
 
-impl<'a> Managed<'a> {
-    /// Allocates all counters at a moment.
-    fn fill(&mut self, moment: u32) -> Result<(), Fault>
-        requires { IsManagerOf self.old.values.now self.old.counters }
-        ensures counters { IsManagerOf self.new.values.now self.new.counters }
-        ensures values { self.new.values ≡ self.old.values }
-    {
-        for k in 0..COUNTERS {
-            let number = u64::from(moment) * u64::from(COUNTERS) + u64::from(k);
-            let key = number.to_le_bytes();
-            let moment = u64::from(moment);
-            let allocated = self
-                .counters
-                .allocate(self.values, moment, TYPE_ID, &key, LABEL, number);
-            if allocated.is_err() {
-                return Err(Fault::REFUSED);
-            }
+/// Frees all counters at a moment.
+fn free_all(counters: &mut CountersEnd, moment: u32) -> Result<(), Fault> {
+    for id in 0..COUNTERS {
+        if counters.free(u64::from(moment), id).is_err() {
+            return Err(Fault::REFUSED);
         }
-        Ok(())
     }
-
-    /// Frees all counters at a moment.
-    fn free_all(&mut self, moment: u32) -> Result<(), Fault>
-        requires { IsManagerOf self.old.values.now self.old.counters }
-        ensures { IsManagerOf self.new.values.now self.new.counters }
-    {
-        for id in 0..COUNTERS {
-            if self.counters.free(u64::from(moment), id).is_err() {
-                return Err(Fault::REFUSED);
-            }
-        }
-        Ok(())
-    }
-
-    fn set(&mut self, id: u32, value: u64) -> Result<(), Fault>
-        requires { IsManagerOf self.old.values.now self.old.counters }
-        ensures { IsManagerOf self.new.values.now self.new.counters }
-    {
-        self.counters.set(self.values, id, value.cast_signed())?;
-        Ok(())
-    }
+    Ok(())
 }
 
 /// Sets counters.
 #[derive(Drop)]
-struct Sets<'a>(Managed<'a>);
+struct Sets(CountersEnd);
 
-impl<'a> Task for Sets<'a> {
-    ghost is_ready = { λ s. IsManagerOf s.0.values.now s.0.counters };
-
+impl Task for Sets {
     fn step(&mut self, number: u64) -> Result<(), Fault> {
-        self.0.set(scattered(number), number)
+        self.0.set(scattered(number), number.cast_signed())?;
+        Ok(())
     }
 }
 
 /// Allocates all counters and frees them.
 #[derive(Drop)]
-struct Cycles<'a>(Managed<'a>);
+struct Cycles(CountersEnd);
 
-impl<'a> Task for Cycles<'a> {
-    ghost is_ready = { λ s. IsManagerOf s.0.values.now s.0.counters };
-
+impl Task for Cycles {
     fn step(&mut self, number: u64) -> Result<(), Fault> {
         let moment = u32::try_from(number).unwrap_or(u32::MAX);
-        self.0.fill(moment)?;
-        self.0.free_all(moment)
+        fill(&mut self.0, moment)?;
+        free_all(&mut self.0, moment)
     }
 }
 
 /// Reads counters.
 #[derive(Drop)]
-struct Gets<'a> {
-    values: &'a CounterValues,
-    reader: ValueReader,
+struct Gets {
+    reader: ReaderEnd,
     sum: u64,
 }
 
-impl<'a> Task for Gets<'a> {
-    ghost is_ready = { λ s. IsReaderOf s.values.now s.reader };
-
+impl Task for Gets {
     fn step(&mut self, number: u64) -> Result<(), Fault> {
-        match self.values.load(&mut self.reader, scattered(number)) {
+        match self.reader.load(scattered(number)) {
             Ok(value) => {
                 self.sum = self.sum.wrapping_add(value.cast_unsigned());
                 Ok(())
@@ -135,22 +100,12 @@ fn sum_of(times: u64) -> u64 {
 }
 
 /// Reads counters after it set each to its id, and returns the nanoseconds that this took.
-fn get_often<R: Clock>(rt: &R, mut managed: Managed<'_>, times: u64) -> Result<u64, Fault>
-    requires { IsManagerOf managed.values.now managed.counters }
-{
+fn get_often<R: Clock>(rt: &R, mut counters: CountersEnd, times: u64) -> Result<u64, Fault> {
     for id in 0..COUNTERS {
-        managed.set(id, u64::from(id))?;
+        counters.set(id, i64::from(id))?;
     }
-    let Managed {
-        values,
-        mut counters,
-    } = managed;
-    let reader = counters.reader(values)?;
-    let mut gets = Gets {
-        values,
-        reader,
-        sum: 0,
-    };
+    let reader = counters.reader()?;
+    let mut gets = Gets { reader, sum: 0 };
     let nanos = time(rt, &mut gets, times)?;
     if gets.sum == sum_of(times) {
         Ok(nanos)
@@ -160,10 +115,8 @@ fn get_often<R: Clock>(rt: &R, mut managed: Managed<'_>, times: u64) -> Result<u
 }
 
 /// Allocates and frees all counters this many times.
-fn cycle_often<R: Clock>(rt: &R, managed: Managed<'_>, rounds: u64) -> Result<Sample, Fault>
-    requires { IsManagerOf managed.values.now managed.counters }
-{
-    let nanos = time(rt, &mut Cycles(managed), rounds)?;
+fn cycle_often<R: Clock>(rt: &R, counters: CountersEnd, rounds: u64) -> Result<Sample, Fault> {
+    let nanos = time(rt, &mut Cycles(counters), rounds)?;
     Ok(Sample::new(nanos, rounds.wrapping_mul(u64::from(COUNTERS))))
 }
 
@@ -171,16 +124,14 @@ fn cycle_often<R: Clock>(rt: &R, managed: Managed<'_>, rounds: u64) -> Result<Sa
 fn run_filled<R: Clock + Threads + Sync + Wait>(
     rt: &R,
     alloc: Global,
-    managed: Managed<'_>,
+    counters: CountersEnd,
     job: Job,
     times: u64,
-) -> Result<u64, Fault>
-    requires { IsManagerOf managed.values.now managed.counters }
-{
+) -> Result<u64, Fault> {
     match job {
-        Job::Sets => time(rt, &mut Sets(managed), times),
-        Job::Gets => get_often(rt, managed, times),
-        _ => run_watched(rt, alloc, managed.values, managed.counters, times),
+        Job::Sets => time(rt, &mut Sets(counters), times),
+        Job::Gets => get_often(rt, counters, times),
+        _ => run_watched(rt, alloc, counters, times),
     }
 }
 
@@ -191,15 +142,11 @@ pub fn run_counters<R: Clock + Threads + Sync + Wait>(
     job: Job,
     times: u64,
 ) -> Result<Sample, Fault> {
-    let (values, counters) = CountersManager::new(alloc, COUNTERS, 0)?;
-    let mut managed = Managed {
-        values: &values,
-        counters,
-    };
+    let mut counters = CountersEnd::new(alloc, COUNTERS, 0)?;
     if job == Job::Cycles {
-        return cycle_often(rt, managed, times.div_ceil(u64::from(COUNTERS)));
+        return cycle_often(rt, counters, times.div_ceil(u64::from(COUNTERS)));
     }
-    managed.fill(0)?;
-    let nanos = run_filled(rt, alloc, managed, job, times)?;
+    fill(&mut counters, 0)?;
+    let nanos = run_filled(rt, alloc, counters, job, times)?;
     Ok(Sample::new(nanos, times))
 }

@@ -1,7 +1,8 @@
 //! Why a measurement gives no figures.
 use ring_board::SubscribeFault;
 use ring_counters::{IdFault, MakeFault as CountersFault};
-use ring_rings::{MakeFault, NoShares};
+use ring_ends::SplitFault;
+use ring_rings::MakeFault;
 use ring_service::SendFault;
 use ring_storm::StormFault;
 use std::alloc::{AllocError, AllocFailed};
@@ -45,8 +46,8 @@ impl From<CountersFault> for Fault {
     }
 }
 
-impl From<NoShares> for Fault {
-    fn from(_fault: NoShares) -> Fault {
+impl From<SplitFault> for Fault {
+    fn from(_fault: SplitFault) -> Fault {
         Fault::NO_SHARES
     }
 }

@@ -63,12 +63,12 @@ fn run_any_ring<R: Clock + Threads + Sync>(
         Contender::Solo => run_solo(rt, alloc, request, times),
         Contender::OneToOne => run_ring::<R, OneToOne, InWords>(rt, alloc, request, job, times),
         Contender::ManyToOne => run_ring::<R, ManyToOne, InWords>(rt, alloc, request, job, times),
-        Contender::PlainOneToOne => run_ring::<R, OneToOne, InSlots>(
-            rt, alloc, request, job, times,
-        ),
-        Contender::PlainManyToOne => run_ring::<R, ManyToOne, InSlots>(
-            rt, alloc, request, job, times,
-        ),
+        Contender::PlainOneToOne | Contender::OneToOneSingle => {
+            run_ring::<R, OneToOne, InSlots>(rt, alloc, request, job, times)
+        }
+        Contender::PlainManyToOne | Contender::ManyToOneSingle => {
+            run_ring::<R, ManyToOne, InSlots>(rt, alloc, request, job, times)
+        }
         Contender::OneToOneBatch => run_at_once::<OneToOne, R>(rt, alloc, request, times),
         Contender::ManyToOneBatch => run_at_once::<ManyToOne, R>(rt, alloc, request, times),
         _ => Err(Fault::NO_CONTENDER),

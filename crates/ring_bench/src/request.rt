@@ -64,6 +64,10 @@ pub enum Contender {
     PlainOneToOne,
     /// The ring of many producers with bodies in plain memory.
     PlainManyToOne,
+    /// The plain ring of one producer, of which a read takes one message.
+    OneToOneSingle,
+    /// The plain ring of many producers, of which a read takes one message.
+    ManyToOneSingle,
     /// The plain ring of one producer, into which 16 messages are written by one call.
     OneToOneBatch,
     /// The plain ring of many producers, into which 16 messages are written by one call.
@@ -85,6 +89,8 @@ impl Contender {
             Contender::ManyToOne => "ours-m2o",
             Contender::PlainOneToOne => "plain-o2o",
             Contender::PlainManyToOne => "plain-m2o",
+            Contender::OneToOneSingle => "plain-o2o-single",
+            Contender::ManyToOneSingle => "plain-m2o-single",
             Contender::OneToOneBatch => "plain-o2o-batch",
             Contender::ManyToOneBatch => "plain-m2o-batch",
             Contender::Board => "ours-board",
@@ -92,15 +98,25 @@ impl Contender {
             Contender::Storm => "ours-storm",
         }
     }
+
+    /// The messages that a read may take.
+    pub fn limit(self) -> u32 {
+        match self {
+            Contender::OneToOneSingle | Contender::ManyToOneSingle => 1,
+            _ => 64,
+        }
+    }
 }
 
 /// Who takes part in which workload.
-pub static ENTRIES: [(Workload, Contender); 28] = [
+pub static ENTRIES: [(Workload, Contender); 33] = [
     (Workload::Batches, Contender::Solo),
     (Workload::Batches, Contender::OneToOne),
     (Workload::Batches, Contender::ManyToOne),
     (Workload::Batches, Contender::PlainOneToOne),
     (Workload::Batches, Contender::PlainManyToOne),
+    (Workload::Batches, Contender::OneToOneSingle),
+    (Workload::Batches, Contender::ManyToOneSingle),
     (Workload::Batches, Contender::OneToOneBatch),
     (Workload::Batches, Contender::ManyToOneBatch),
     (Workload::Sparse, Contender::Solo),
@@ -112,10 +128,13 @@ pub static ENTRIES: [(Workload, Contender); 28] = [
     (Workload::Pair, Contender::ManyToOne),
     (Workload::Pair, Contender::PlainOneToOne),
     (Workload::Pair, Contender::PlainManyToOne),
+    (Workload::Pair, Contender::OneToOneSingle),
+    (Workload::Pair, Contender::ManyToOneSingle),
     (Workload::Pair, Contender::OneToOneBatch),
     (Workload::Pair, Contender::ManyToOneBatch),
     (Workload::Crowd, Contender::ManyToOne),
     (Workload::Crowd, Contender::PlainManyToOne),
+    (Workload::Crowd, Contender::ManyToOneSingle),
     (Workload::Crowd, Contender::ManyToOneBatch),
     (Workload::Trips, Contender::OneToOne),
     (Workload::Trips, Contender::ManyToOne),

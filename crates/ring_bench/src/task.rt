@@ -7,7 +7,7 @@ use std::time::Instant;
 /// What is done over and over.
 pub trait Task {
     /// All that it uses belongs together.
-    ghost is_ready: { Self → Type 0 };
+    ghost is_ready: { Self → Type 0 } = { λ _. Unit {0} };
 
     /// Does it once. Steps are numbered from 0.
     fn step(&mut self, number: u64) -> Result<(), Fault>

@@ -1,12 +1,10 @@
 //! One counter that is set while two threads read it.
-ghost use Rattle.std.specs.Prelude.{All, IfOk};
 ghost use Rattle.std.specs.Thread.{IsSync};
-ghost use Rattle.ring_counters.specs.{Seats.IsReaderOf, Manager.IsManagerOf};
 
 use crate::fault::Fault;
 use crate::rest::{Rest, TRIES};
 use crate::task::{Task, time};
-use ring_counters::{CounterValues, CountersManager, ValueReader};
+use ring_ends::{CountersEnd, ReaderEnd};
 use std::alloc::Global;
 use std::rt::Clock;
 use std::sync::{Barrier, Wait};
@@ -20,30 +18,23 @@ const WATCHERS: u32 = 2;
 
 /// Sets the counter to 1, 2 and so on.
 #[derive(Drop)]
-struct CountUp<'a> {
-    values: &'a CounterValues,
-    counters: CountersManager,
-}
+struct CountUp(CountersEnd);
 
-impl<'a> Task for CountUp<'a> {
-    ghost is_ready = { λ s. IsManagerOf s.values.now s.counters };
-
+impl Task for CountUp {
     fn step(&mut self, number: u64) -> Result<(), Fault> {
         let value = number.wrapping_add(1).cast_signed();
-        self.counters.set(self.values, WATCHED, value)?;
+        self.0.set(WATCHED, value)?;
         Ok(())
     }
 }
 
 /// Reads the counter until it has the last value. `WRONG_MESSAGE` if a value is less than the one before, `STUCK` if
 /// the last one does not come.
-fn watch(values: &CounterValues, mut reader: ValueReader, last: i64) -> Result<(), Fault>
-    requires { IsReaderOf values.now reader }
-{
+fn watch(mut reader: ReaderEnd, last: i64) -> Result<(), Fault> {
     let mut seen = 0;
     let mut rest = Rest::new();
     for _ in 0..TRIES {
-        match values.load(&mut reader, WATCHED) {
+        match reader.load(WATCHED) {
             Ok(value) if value == seen => rest.wait(),
             Ok(value) if value > seen => {
                 seen = value;
@@ -61,21 +52,16 @@ fn watch(values: &CounterValues, mut reader: ValueReader, last: i64) -> Result<(
 /// All readers, each on a thread of its own, once all threads are there.
 fn watch_all<R: Threads + Sync + Wait>(
     rt: &R,
-    values: &CounterValues,
-    readers: Vec<ValueReader>,
+    readers: Vec<ReaderEnd>,
     start: &Barrier,
     last: i64,
-) -> Result<(), Fault>
-    requires { All (λ reader. IsReaderOf values.now reader) readers.items }
-{
+) -> Result<(), Fault> {
     let watched = map_vec(
         rt,
         readers,
-        &|reader: ValueReader| -> Result<(), Fault>
-            requires { IsReaderOf values.now reader }
-        {
+        &|reader: ReaderEnd| -> Result<(), Fault> {
             start.wait(rt);
-            watch(values, reader, last)
+            watch(reader, last)
         },
     )?;
     for result in watched.iter() {
@@ -85,18 +71,10 @@ fn watch_all<R: Threads + Sync + Wait>(
 }
 
 /// The readers that watch.
-fn readers_of(
-    alloc: Global,
-    values: &CounterValues,
-    counters: &mut CountersManager,
-) -> Result<Vec<ValueReader>, Fault>
-    requires { IsManagerOf values.now counters.old }
-    ensures counters { IsManagerOf values.now counters.new }
-    ensures readers { IfOk result (λ them. All (λ reader. IsReaderOf values.now reader) them.items) }
-{
+fn readers_of(alloc: Global, counters: &mut CountersEnd) -> Result<Vec<ReaderEnd>, Fault> {
     let mut them = Vec::new(alloc);
     for _ in 0..WATCHERS {
-        let reader = counters.reader(values)?;
+        let reader = counters.reader()?;
         them.push(reader)?;
     }
     Ok(them)
@@ -107,26 +85,21 @@ fn readers_of(
 pub fn run_watched<R: Clock + Threads + Sync + Wait>(
     rt: &R,
     alloc: Global,
-    values: &CounterValues,
-    mut counters: CountersManager,
+    mut counters: CountersEnd,
     times: u64,
-) -> Result<u64, Fault>
-    requires { IsManagerOf values.now counters }
-{
-    let readers = readers_of(alloc, values, &mut counters)?;
+) -> Result<u64, Fault> {
+    let readers = readers_of(alloc, &mut counters)?;
     let start = Barrier::new(readers.len().saturating_add(1));
     let start = &start;
     let (nanos, watched) = join(
         rt,
-        move || -> Result<u64, Fault>
-            requires { IsManagerOf values.now counters }
-        {
+        move || -> Result<u64, Fault> {
             start.wait(rt);
-            time(rt, &mut CountUp { values, counters }, times)
+            time(rt, &mut CountUp(counters), times)
         },
         move || -> Result<(), Fault>
-            requires { IsSync R.row × All (λ reader. IsReaderOf values.now reader) readers.items }
-        { watch_all(rt, values, readers, start, times.cast_signed()) },
+            requires { IsSync R.row }
+        { watch_all(rt, readers, start, times.cast_signed()) },
     );
     watched.and(nanos)
 }

@@ -1,6 +1,5 @@
 use Rattle.std.proofs.Common.{◌≤◌, length}
-use Rattle.ring_rings.specs.Seats.{IsProducerOf, MayClaim}
 use Rattle.ring_bench.proofs.cargo.send_batch.Given as goal
 
 abbrev pub invariant-loop : goal.invariant-loop
-invariant-loop g l = IsProducerOf l.ring l.producer × MayClaim g.K.Kind.many l.producer × (l.sent ≤ length l.messages)
+invariant-loop g l = l.sent ≤ length l.messages

@@ -1,5 +1,0 @@
-use Rattle.ring_rings.specs.Seats.{IsConsumerOf}
-use Rattle.ring_bench.proofs.flow.take_all.Given as goal
-
-abbrev pub invariant-loop : goal.invariant-loop
-invariant-loop g l = IsConsumerOf l.ring l.consumer
