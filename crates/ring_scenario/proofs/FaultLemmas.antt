@@ -1,7 +1,7 @@
 -- Which faults come from a line.
 use Rattle.std.proofs.Common.{◌≡◌, ◌≢◌, ℕ, sym, subst}
-use Rattle.ring_lines.specs.declared.fault.LineFault.{LineFault}
-use Rattle.ring_lines.specs.declared.fault.LineFault.TheVariants as line
+use Rattle.ring_scenario.specs.declared.lines.fault.LineFault.{LineFault}
+use Rattle.ring_scenario.specs.declared.lines.fault.LineFault.TheVariants as line
 use Rattle.ring_scenario.specs.{declared.fault.RunFault.RunFault, Faults.OfLine, Faults.fault_at}
 use Rattle.ring_scenario.specs.declared.fault.RunFault.TheVariants.{BadCapacity, OutOfMemory, BadCount, BadLine, InputUnread, InputTooLong, OutputUnwritten, InUse}
 

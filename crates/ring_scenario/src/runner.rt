@@ -8,12 +8,12 @@ mod storming;
 mod texts;
 
 use crate::fault::RunFault;
+use crate::lines::{Call, LineError, LineFault};
 use crate::options::Options;
 use crate::printer::Printer;
 use crate::ring::RunRing;
 use crate::service::{CommandService, Served};
 use ring_ends::StandaloneBoard;
-use ring_lines::{Call, LineError, LineFault};
 use ring_words::{Action, Positions};
 use std::alloc::{AllocError, Global};
 use std::sync::Wait;

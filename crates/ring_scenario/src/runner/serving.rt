@@ -7,12 +7,12 @@ ghost use Rattle.ring_scenario.specs.ServiceTexts.{counter_text, counters_text, 
 ghost use Rattle.ring_scenario.specs.Keeping.{KeepsButProducer};
 ghost use Rattle.ring_scenario.specs.Serving.{FitsRoom, RefusesRequest, SendsRequest};
 
+use crate::lines::{LineError, LineFault, Moment, ServiceCall};
 use crate::printer::hex_word;
 use crate::refusal::Refusal;
 use crate::runner::Runner;
 use crate::service::CommandService;
 use ring_counters::CounterInfo;
-use ring_lines::{LineError, LineFault, Moment, ServiceCall};
 use ring_rings::{ClaimFault, ManyToOneRing, Producer, TryFault};
 use ring_service::{Request, Work, WorkStop, encode_request};
 use std::alloc::{AllocError, Global};
