@@ -2,12 +2,12 @@
 use Rattle.std.proofs.Common.{◌≡◌, ◌∙◌, ◌≢◌, ℕ, ◌+◌, ◌*◌, ◌==◌, List, [], ◌∷◌, Option, None, Some, codes, refl, sym, ap, subst, if◌then◌else◌}
 use Rattle.ring_protocol.specs.Command.{OwnedRequest}
 use Rattle.ring_protocol.specs.declared.command.Request.TheVariants as request
-use Rattle.ring_scenario.specs.declared.{lines.call.Call.Call, lines.name.Name.Name, lines.service_call.ServiceCall.ServiceCall}
+use Rattle.ring_scenario.specs.declared.lines.{call.Call.Call, name.Name.Name, service_call.ServiceCall.ServiceCall}
 use Rattle.ring_scenario.specs.declared.lines.call.Call.TheVariants as call
 use Rattle.ring_scenario.specs.declared.lines.name.Name.TheVariants.{Write, Claim, Put, Commit, Abort, Read, Control, Positions, Correlation, Beat, Heartbeat, Transmit, Subscribe, Receive, Leave, Storm, Send, Allocate, Own, Free, Set, Close, Work, Listen, Hear, Counters, Owner, Watch, Peek, Unwatch}
 use Rattle.ring_scenario.specs.declared.lines.service_call.ServiceCall.TheVariants as asks
-use Rattle.ring_scenario.specs.{Forms.AreOf, Forms.kinds_of, Forms.spelled, Requests.AsksToSend, ServiceAsking.AsksToServe}
-use Rattle.ring_scenario.specs.Asking.{AsksFor}
+use Rattle.ring_scenario.specs.{Asking.AsksFor, Asking.AsksToSend, Asking.AsksToServe}
+use Rattle.ring_scenario.specs.Forms.{AreOf, kinds_of, spelled}
 
 -- the words are this name, and words of its kinds
 abbrev pub IsForm : Name → List (List ℕ) → Type 0

@@ -2,7 +2,7 @@
 use Rattle.std.specs.Prelude.{◌≡◌, ◌≢◌, ℕ, ℤ, List, [], ◌∷◌, codes}
 use Rattle.ring_words.specs.declared.read.action.Action.{Action}
 use Rattle.ring_scenario.specs.declared.lines.fault.LineFault.{LineFault, TheVariants.OutOfMemory}
-use Rattle.ring_scenario.specs.declared.{lines.Words.Words, lines.moment.Moment.Moment, lines.name.Name.Name}
+use Rattle.ring_scenario.specs.declared.lines.{Words.Words, moment.Moment.Moment, name.Name.Name}
 use Rattle.ring_scenario.specs.declared.lines.name.Name.TheVariants.{Write, Claim, Put, Commit, Abort, Read, Control, Positions, Correlation, Beat, Heartbeat, Transmit, Subscribe, Receive, Leave, Storm, Send, Allocate, Own, Free, Set, Close, Work, Listen, Hear, Counters, Owner, Watch, Peek, Unwatch}
 use Rattle.ring_scenario.specs.Taking.{words_in}
 use Rattle.ring_scenario.specs.Words.{SpellsActions, SpellsBytes, SpellsI32, SpellsI64, SpellsUnsigned}

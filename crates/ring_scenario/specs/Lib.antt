@@ -9,11 +9,9 @@ pub mod Keeping
 pub mod Making
 pub mod Printing
 pub mod RefusalTexts
-pub mod Requests
 pub mod RingLines
 pub mod Running
 pub mod SeatLines
-pub mod ServiceAsking
 pub mod ServiceLines
 pub mod ServiceTexts
 pub mod Serving

@@ -1,6 +1,7 @@
 -- The part of a line or a text that has not been taken yet.
 use Rattle.std.specs.Prelude.{◌≡◌, ℕ, List, ◌∷◌}
-use Rattle.ring_scenario.specs.{declared.lines.Lines.Lines, declared.lines.Words.Words, Cutting.lines_of, Cutting.words_of}
+use Rattle.ring_scenario.specs.{declared.lines.Lines.Lines, declared.lines.Words.Words}
+use Rattle.ring_scenario.specs.Cutting.{lines_of, words_of}
 
 -- the lines that were not taken
 abbrev pub lines_in : Lines → List (List ℕ)

@@ -36,7 +36,7 @@ pub enum ServiceCall {
 }
 
 impl ServiceCall {
-    ghost use Rattle.ring_scenario.specs.ServiceAsking.{AsksToServe};
+    ghost use Rattle.ring_scenario.specs.Asking.{AsksToServe};
 
     pub(super) fn send(alloc: Global, words: &mut Words) -> Result<ServiceCall, LineFault>
         ensures call { IfOk result (λ call. AsksToServe call (codes "send" ∷ words_of words.old.rest.now)) }

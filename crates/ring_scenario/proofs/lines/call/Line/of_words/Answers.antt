@@ -1,6 +1,7 @@
 use Rattle.std.proofs.Common.{◌≡◌, ◌≢◌, ◌∷◌, IfErr, rules, subst}
 use Rattle.std.proofs.lemmas.Result.{IfErr-weaker}
-use Rattle.ring_scenario.specs.{declared.lines.fault.LineFault.TheVariants.OutOfMemory, Asking.AsksFor, Asking.AsksForNone}
+use Rattle.ring_scenario.specs.declared.lines.fault.LineFault.TheVariants.{OutOfMemory}
+use Rattle.ring_scenario.specs.Asking.{AsksFor, AsksForNone}
 use Rattle.ring_scenario.specs.{Taking.words_in, Cutting.words_of, Forms.spelled}
 use Rattle.ring_scenario.proofs.NameLemmas.{no_call, no_name}
 use Rattle.ring_scenario.proofs.lines.call.Line.of_words.Goals as goal
