@@ -17,95 +17,96 @@ pub data Kind : Type 0 where
   bytes : Kind
   actions : Kind
 
+-- what words of a kind spell
+abbrev pub ValueOf : Kind → Type 0
+ValueOf signed_32 = ℤ
+ValueOf signed_64 = ℤ
+ValueOf unsigned_32 = ℕ
+ValueOf unsigned_64 = ℕ
+ValueOf moment = Moment
+ValueOf bytes = List ℕ
+ValueOf actions = List Action
+
+-- the word spells this value
+abbrev pub Spells : (kind : Kind) → ValueOf kind → List ℕ → Type 0
+Spells signed_32 n word = SpellsI32 word n
+Spells signed_64 n word = SpellsI64 word n
+Spells unsigned_32 n word = SpellsUnsigned 32 word n
+Spells unsigned_64 n word = SpellsUnsigned 64 word n
+Spells moment now word = SpellsUnsigned 64 word now.ms
+Spells bytes body word = SpellsBytes word body
+Spells actions letters word = SpellsActions word letters
+
 -- the word spells something of this kind
 abbrev pub IsOf : Kind → List ℕ → Type 0
-IsOf signed_32 word = (n : ℤ) × SpellsI32 word n
-IsOf signed_64 word = (n : ℤ) × SpellsI64 word n
-IsOf unsigned_32 word = (n : ℕ) × SpellsUnsigned 32 word n
-IsOf unsigned_64 word = (n : ℕ) × SpellsUnsigned 64 word n
-IsOf moment word = (now : Moment) × SpellsUnsigned 64 word now.ms
-IsOf bytes word = (body : List ℕ) × SpellsBytes word body
-IsOf actions word = (letters : List Action) × SpellsActions word letters
+IsOf kind word = (value : ValueOf kind) × Spells kind value word
 
--- there are as many words as kinds, and each is of its kind
-abbrev pub AreOf : List Kind → List (List ℕ) → Type 0
-AreOf [] [] = Unit {0}
-AreOf [] (word ∷ more) = ⊥
-AreOf (kind ∷ kinds) [] = ⊥
-AreOf (kind ∷ kinds) (word ∷ more) = IsOf kind word × AreOf kinds more
+-- a value for each of these kinds
+abbrev pub Values : List Kind → Type 0
+Values [] = Unit {0}
+Values (kind ∷ kinds) = ValueOf kind × Values kinds
+
+-- there are as many words as values, and each spells its value
+abbrev pub AreSpelled : (kinds : List Kind) → Values kinds → List (List ℕ) → Type 0
+AreSpelled [] values words = words ≡ []
+AreSpelled (kind ∷ kinds) values words = (word : List ℕ) × (more : List (List ℕ)) × (words ≡ word ∷ more)
+    × Spells kind values.0 word × AreSpelled kinds values.1 more
 
 -- the next word is missing, or is not of this kind
 abbrev pub HasNone : Kind → Words → Type 0
 HasNone kind words =
     (word : List ℕ) (more : List (List ℕ)) → words_in words ≡ word ∷ more → IsOf kind word → ⊥
 
--- the first word of the lines that ask for a call
+-- the first word of the lines that name a call, and the kinds of the words after it
+abbrev pub syntax_of : Name → List ℕ × List Kind
+syntax_of Write = (codes "write", signed_32 ∷ bytes ∷ [])
+syntax_of Claim = (codes "claim", signed_32 ∷ unsigned_64 ∷ [])
+syntax_of Put = (codes "put", unsigned_64 ∷ unsigned_64 ∷ bytes ∷ [])
+syntax_of Commit = (codes "commit", unsigned_64 ∷ [])
+syntax_of Abort = (codes "abort", unsigned_64 ∷ [])
+syntax_of Read = (codes "read", unsigned_32 ∷ [])
+syntax_of Control = (codes "control", unsigned_32 ∷ actions ∷ [])
+syntax_of Positions = (codes "positions", [])
+syntax_of Correlation = (codes "correlation", [])
+syntax_of Beat = (codes "beat", unsigned_64 ∷ [])
+syntax_of Heartbeat = (codes "heartbeat", [])
+syntax_of Transmit = (codes "transmit", signed_32 ∷ bytes ∷ [])
+syntax_of Subscribe = (codes "subscribe", [])
+syntax_of Receive = (codes "receive", unsigned_64 ∷ [])
+syntax_of Leave = (codes "leave", unsigned_64 ∷ [])
+syntax_of Storm = (codes "storm", unsigned_32 ∷ unsigned_32 ∷ [])
+syntax_of Send = (codes "send", signed_32 ∷ bytes ∷ [])
+syntax_of Allocate = (codes "allocate", signed_32 ∷ bytes ∷ bytes ∷ [])
+syntax_of Own = (codes "own", unsigned_64 ∷ signed_32 ∷ bytes ∷ bytes ∷ [])
+syntax_of Free = (codes "free", unsigned_32 ∷ [])
+syntax_of Set = (codes "set", unsigned_32 ∷ signed_64 ∷ [])
+syntax_of Close = (codes "close", unsigned_64 ∷ [])
+syntax_of Work = (codes "work", moment ∷ unsigned_32 ∷ [])
+syntax_of Listen = (codes "listen", [])
+syntax_of Hear = (codes "hear", unsigned_64 ∷ [])
+syntax_of Counters = (codes "counters", [])
+syntax_of Owner = (codes "owner", unsigned_32 ∷ [])
+syntax_of Watch = (codes "watch", [])
+syntax_of Peek = (codes "peek", unsigned_64 ∷ unsigned_32 ∷ [])
+syntax_of Unwatch = (codes "unwatch", unsigned_64 ∷ [])
+
 abbrev pub spelled : Name → List ℕ
-spelled Write = codes "write"
-spelled Claim = codes "claim"
-spelled Put = codes "put"
-spelled Commit = codes "commit"
-spelled Abort = codes "abort"
-spelled Read = codes "read"
-spelled Control = codes "control"
-spelled Positions = codes "positions"
-spelled Correlation = codes "correlation"
-spelled Beat = codes "beat"
-spelled Heartbeat = codes "heartbeat"
-spelled Transmit = codes "transmit"
-spelled Subscribe = codes "subscribe"
-spelled Receive = codes "receive"
-spelled Leave = codes "leave"
-spelled Storm = codes "storm"
-spelled Send = codes "send"
-spelled Allocate = codes "allocate"
-spelled Own = codes "own"
-spelled Free = codes "free"
-spelled Set = codes "set"
-spelled Close = codes "close"
-spelled Work = codes "work"
-spelled Listen = codes "listen"
-spelled Hear = codes "hear"
-spelled Counters = codes "counters"
-spelled Owner = codes "owner"
-spelled Watch = codes "watch"
-spelled Peek = codes "peek"
-spelled Unwatch = codes "unwatch"
+spelled name = (syntax_of name).0
 
--- the kinds of the words after the first word
 abbrev pub kinds_of : Name → List Kind
-kinds_of Write = signed_32 ∷ bytes ∷ []
-kinds_of Claim = signed_32 ∷ unsigned_64 ∷ []
-kinds_of Put = unsigned_64 ∷ unsigned_64 ∷ bytes ∷ []
-kinds_of Commit = unsigned_64 ∷ []
-kinds_of Abort = unsigned_64 ∷ []
-kinds_of Read = unsigned_32 ∷ []
-kinds_of Control = unsigned_32 ∷ actions ∷ []
-kinds_of Positions = []
-kinds_of Correlation = []
-kinds_of Beat = unsigned_64 ∷ []
-kinds_of Heartbeat = []
-kinds_of Transmit = signed_32 ∷ bytes ∷ []
-kinds_of Subscribe = []
-kinds_of Receive = unsigned_64 ∷ []
-kinds_of Leave = unsigned_64 ∷ []
-kinds_of Storm = unsigned_32 ∷ unsigned_32 ∷ []
-kinds_of Send = signed_32 ∷ bytes ∷ []
-kinds_of Allocate = signed_32 ∷ bytes ∷ bytes ∷ []
-kinds_of Own = unsigned_64 ∷ signed_32 ∷ bytes ∷ bytes ∷ []
-kinds_of Free = unsigned_32 ∷ []
-kinds_of Set = unsigned_32 ∷ signed_64 ∷ []
-kinds_of Close = unsigned_64 ∷ []
-kinds_of Work = moment ∷ unsigned_32 ∷ []
-kinds_of Listen = []
-kinds_of Hear = unsigned_64 ∷ []
-kinds_of Counters = []
-kinds_of Owner = unsigned_32 ∷ []
-kinds_of Watch = []
-kinds_of Peek = unsigned_64 ∷ unsigned_32 ∷ []
-kinds_of Unwatch = unsigned_64 ∷ []
+kinds_of name = (syntax_of name).1
 
--- The fault of a line whose words after its name must be of these kinds. The words are not of these kinds, or memory
--- ran out.
+-- the name of a call, and a value for each word after the name
+abbrev pub Form : Type 0
+Form = (name : Name) × Values (kinds_of name)
+
+-- the words are the name of a form, and a word for each of its values
+abbrev pub Spell : Form → List (List ℕ) → Type 0
+Spell form words =
+    (rest : List (List ℕ)) × (words ≡ spelled form.0 ∷ rest) × AreSpelled (kinds_of form.0) form.1 rest
+
+-- The fault of a line whose words after its name must be of these kinds. The words spell no values of these kinds, or
+-- memory ran out.
 abbrev pub Refuses : List Kind → Words → LineFault → Type 0
-Refuses kinds words fault = fault ≢ OutOfMemory → AreOf kinds (words_in words) → ⊥
+Refuses kinds words fault =
+    fault ≢ OutOfMemory → (values : Values kinds) → AreSpelled kinds values (words_in words) → ⊥

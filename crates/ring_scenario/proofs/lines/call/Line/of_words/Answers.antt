@@ -1,8 +1,6 @@
-use Rattle.std.proofs.Common.{◌≡◌, ◌≢◌, ◌∷◌, IfErr, rules, subst}
-use Rattle.std.proofs.lemmas.Result.{IfErr-weaker}
-use Rattle.ring_scenario.specs.declared.lines.fault.LineFault.TheVariants.{OutOfMemory}
-use Rattle.ring_scenario.specs.Asking.{AsksFor, AsksForNone}
-use Rattle.ring_scenario.specs.{Taking.words_in, Cutting.words_of, Forms.spelled}
+use Rattle.std.proofs.Common.{◌≡◌, ◌∷◌, rules, subst}
+use Rattle.std.proofs.lemmas.Result.{err_from_is_err_and}
+use Rattle.ring_scenario.specs.{Asking.AsksFor, Cutting.words_of, Forms.spelled, Taking.words_in}
 use Rattle.ring_scenario.proofs.NameLemmas.{no_call, no_name}
 use Rattle.ring_scenario.proofs.lines.call.Line.of_words.Goals as goal
 
@@ -15,8 +13,6 @@ pub returns-in_err-parse-clause-bad : goal.returns-in_err-parse-clause-bad
 returns-in_err-parse-clause-bad c =
     let word : spelled c.in-Some-of.name ≡ c.in-Some.word.now = c.in-Some-of.ensures in
     let words : words_of c.args.text.now ≡ spelled c.in-Some-of.name ∷ words_in c.next_word.new.self = search rules in
-    let none : IfErr c.parse.result (λ fault. fault ≢ OutOfMemory → AsksForNone (words_of c.args.text.now)) =
-    IfErr-weaker c.parse.result _ _
-    (λ fault refuses bad call asks. no_call c.in-Some-of.name _ (refuses bad) call (subst (AsksFor call) words asks))
-    c.parse.ensures.bad in
-    search rules
+    let exit = err_from_is_err_and c.from_residual-in_err-parse.result c.from_residual-in_err-parse.ensures.1 in
+    rw (exit.1, exit.2) (λ has_memory call asks. no_call c.in-Some-of.name _ (c.in_err-parse.ensures.bad has_memory) call
+    (subst (AsksFor call) words asks))
