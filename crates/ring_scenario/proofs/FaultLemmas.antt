@@ -1,8 +1,8 @@
 -- Which faults come from a line.
 use Rattle.std.proofs.Common.{◌≡◌, ◌≢◌, ℕ, sym, subst}
-use Rattle.ring_lines.specs.declared.fault.LineFault.{LineFault}
-use Rattle.ring_lines.specs.declared.fault.LineFault.TheVariants as line
-use Rattle.ring_scenario.specs.{declared.fault.RunFault.RunFault, Faults.OfLine, Faults.fault_at}
+use Rattle.ring_scenario.specs.declared.{fault.RunFault.RunFault, lines.fault.LineFault.LineFault}
+use Rattle.ring_scenario.specs.declared.lines.fault.LineFault.TheVariants as line
+use Rattle.ring_scenario.specs.Faults.{OfLine, fault_at}
 use Rattle.ring_scenario.specs.declared.fault.RunFault.TheVariants.{BadCapacity, OutOfMemory, BadCount, BadLine, InputUnread, InputTooLong, OutputUnwritten, InUse}
 
 pub of_line_weaker : (P Q : ℕ → Type 0) → ((n : ℕ) → P n → Q n) → (fault : RunFault) → OfLine P fault → OfLine Q fault

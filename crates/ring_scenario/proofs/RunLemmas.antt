@@ -1,7 +1,7 @@
 -- How lines run one after another.
 use Rattle.std.proofs.Common.{◌≡◌, ◌∙◌, ℕ, ◌+◌, List, [], ◌∷◌, ◌++◌, IfSome, Option, None, Some, refl, sym, ap, subst, arith, append_assoc, append-nil, length, length-append}
 use Rattle.std.{proofs.KnownBytes.Appends-nil, proofs.KnownBytes.Appends-trans, specs.Io.KnownBytes.Appends}
-use Rattle.ring_lines.{specs.Text.lines_of, proofs.TextLemmas.one_more}
+use Rattle.ring_scenario.{specs.Cutting.lines_of, proofs.CuttingLemmas.one_more}
 use Rattle.ring_scenario.specs.declared.runner.{Ended.Ended, Runner.Runner}
 use Rattle.ring_scenario.specs.Running.{BeginsBad, EndsAs, HaveRun, RunsAndEnds, RunsLine, RunsLines, RunsToEnd, StopsAt, end_text, ended_text, finished_text}
 

@@ -5,9 +5,9 @@ use Rattle.ring_table.specs.{ServiceSteps.DrawsId, ServiceSteps.LoadsHeartbeat, 
 use Rattle.ring_protocol.specs.Command.{content_of_owned}
 use Rattle.ring_storm.specs.{Storming.IsPlan, Storming.IsReportOf, declared.plan.StormReport.StormReport}
 use Rattle.ring_storm.specs.declared.plan.{StormFault.StormFault, StormFault.TheVariants.BadPlan, StormPlan.StormPlan}
-use Rattle.ring_lines.specs.declared.{call.Call.Call, service_call.ServiceCall.ServiceCall}
-use Rattle.ring_lines.specs.declared.call.Call.TheVariants as call
-use Rattle.ring_lines.specs.declared.service_call.ServiceCall.TheVariants as asks
+use Rattle.ring_scenario.specs.declared.lines.{call.Call.Call, service_call.ServiceCall.ServiceCall}
+use Rattle.ring_scenario.specs.declared.lines.call.Call.TheVariants as call
+use Rattle.ring_scenario.specs.declared.lines.service_call.ServiceCall.TheVariants as asks
 use Rattle.ring_ends.specs.{End.Does, End.LoadsThem, Held.IsFree, Held.held_in}
 use Rattle.ring_scenario.specs.declared.{runner.Runner.Runner, service.CommandService.CommandService}
 use Rattle.ring_scenario.specs.BoardLines.{LeavesLine, ReceivesLine, SubscribesLine, TransmitsLine}

@@ -1,7 +1,7 @@
 -- The parts that lines leave as they were.
 use Rattle.std.specs.Prelude.{◌≡◌, true}
-use Rattle.ring_lines.specs.declared.call.Call.{Call}
-use Rattle.ring_lines.specs.declared.call.Call.TheVariants.{Receive, Leave, Service, Storm, Subscribe, Transmit}
+use Rattle.ring_scenario.specs.declared.lines.call.Call.{Call}
+use Rattle.ring_scenario.specs.declared.lines.call.Call.TheVariants.{Receive, Leave, Service, Storm, Subscribe, Transmit}
 use Rattle.ring_scenario.specs.declared.{runner.Runner.Runner, service.CommandService.CommandService}
 
 -- the conductor's side is as it was, and so is the capacity of a storm's ring

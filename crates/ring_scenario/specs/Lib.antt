@@ -1,7 +1,10 @@
+pub mod Asking
 pub mod BoardLines
 pub mod Closing
+pub mod Cutting
 pub mod Executing
 pub mod Faults
+pub mod Forms
 pub mod Keeping
 pub mod Making
 pub mod Printing
@@ -13,5 +16,7 @@ pub mod ServiceLines
 pub mod ServiceTexts
 pub mod Serving
 pub mod Sizes
+pub mod Taking
 pub mod Texts
 pub mod Watchers
+pub mod Words

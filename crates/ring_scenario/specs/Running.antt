@@ -3,8 +3,8 @@ use Rattle.std.specs.Prelude.{◌≡◌, ◌⊎◌, ◌↔◌, ℕ, ◌+◌, Lis
 use Rattle.std.specs.Io.KnownBytes.{Appends}
 use Rattle.ring_board.specs.{Runs.AreAllRuns, Board.transmitted, Seats.view_of}
 use Rattle.ring_counters.specs.{Manager.registry_of, Registry.live_of}
-use Rattle.ring_lines.specs.{declared.call.Call.Call, Lines.AsksFor, Lines.AsksForNone}
-use Rattle.ring_lines.specs.Text.{AllBlank, IsBlank, IsEnd, lines_of, words_of}
+use Rattle.ring_scenario.specs.{declared.lines.call.Call.Call, Asking.AsksFor, Asking.AsksForNone}
+use Rattle.ring_scenario.specs.Cutting.{AllBlank, IsBlank, IsEnd, lines_of, words_of}
 use Rattle.ring_ends.specs.{Held.held_in, Receivers.all_left}
 use Rattle.ring_scenario.specs.{Closing.LeavesMessages, Closing.TookAndLeft, Closing.read_count, Keeping.KeepsRest}
 use Rattle.ring_scenario.specs.{declared.options.Options.Options, Executing.CannotExecute, Executing.Executes}

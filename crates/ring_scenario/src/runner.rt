@@ -1,19 +1,19 @@
 //! The parts of a run, and the text that its calls print.
-ghost use Rattle.std.specs.Prelude.{◌≡◌, ◌≢◌, ◌↔◌, ℕ, None, IfErr, IfOk, IfSome, IsOkUnless, IsSome, IsTrue, OnOk, codes, string_bytes};
-ghost use Rattle.ring_ends.specs.{End.Does, End.LoadsThem, Held.IsFree, Held.held_in};
-ghost use Rattle.ring_scenario.specs.{Closing.read_count, Sizes.size_fault_of, Texts.number_text, Texts.positions_text};
+ghost use Rattle.std.specs.Prelude.{◌≡◌, ◌≢◌, ◌↔◌, ℕ, None, IfErr, IfOk, IfSome, IsOkUnless, IsSome, IsTrue, OnOk, string_bytes};
+ghost use Rattle.ring_ends.specs.Held.{IsFree, held_in};
+ghost use Rattle.ring_scenario.specs.{Closing.read_count, Sizes.size_fault_of};
 
 mod serving;
 mod storming;
 mod texts;
 
 use crate::fault::RunFault;
+use crate::lines::{Call, LineError, LineFault};
 use crate::options::Options;
 use crate::printer::Printer;
 use crate::ring::RunRing;
 use crate::service::{CommandService, Served};
 use ring_ends::StandaloneBoard;
-use ring_lines::{Call, LineError, LineFault};
 use ring_words::{Action, Positions};
 use std::alloc::{AllocError, Global};
 use std::sync::Wait;
@@ -46,12 +46,10 @@ pub struct Ended {
 }
 
 impl Runner {
-    ghost use Rattle.ring_table.specs.ServiceSteps.{DrawsId, LoadsHeartbeat};
     ghost use Rattle.ring_scenario.specs.BoardLines.{ReceivesLine, SubscribesLine, TransmitsLine};
     ghost use Rattle.ring_scenario.specs.{Executing.CannotExecute, Executing.Executes, Making.RunsBy, Running.EndsAs};
     ghost use Rattle.ring_scenario.specs.Keeping.{KeepsButBoard, KeepsButRing, KeepsRest};
-    ghost use Rattle.ring_scenario.specs.RingLines.{CallsLine, ClaimsLine, ControlsLine, HasNoClaim, PutsLine};
-    ghost use Rattle.ring_scenario.specs.RingLines.{ReadsLine, WritesLine};
+    ghost use Rattle.ring_scenario.specs.RingLines.{ClaimsLine, ControlsLine, HasNoClaim, PutsLine, ReadsLine, WritesLine};
 
     /// Makes the parts that the options describe.
     pub fn new(alloc: Global, options: &Options) -> Result<Self, RunFault>
@@ -180,8 +178,7 @@ impl Runner {
     }
 
     fn positions(&mut self) -> Result<String, AllocError>
-        ensures line { IfOk result (λ text. CallsLine (Does (LoadsThem self.old.ring.producer.end.capacity)) positions_text
-            self.old.ring self.new.ring (string_bytes text)) }
+        ensures line { IfOk result (λ text. Executes Call.Positions self.old self.new (string_bytes text)) }
         ensures rest { KeepsButRing self.old self.new }
     {
         let Positions { head, tail } = self.ring.producer.positions();
@@ -189,8 +186,7 @@ impl Runner {
     }
 
     fn correlation(&mut self) -> Result<String, AllocError>
-        ensures line { IfOk result (λ text. CallsLine (Does DrawsId) (number_text (codes "correlation"))
-            self.old.ring self.new.ring (string_bytes text)) }
+        ensures line { IfOk result (λ text. Executes Call.Correlation self.old self.new (string_bytes text)) }
         ensures rest { KeepsButRing self.old self.new }
     {
         let id = self.ring.producer.next_correlation_id();
@@ -198,8 +194,7 @@ impl Runner {
     }
 
     fn heartbeat(&mut self) -> Result<String, AllocError>
-        ensures line { IfOk result (λ text. CallsLine (Does (LoadsHeartbeat self.old.ring.producer.end.capacity))
-            (number_text (codes "heartbeat")) self.old.ring self.new.ring (string_bytes text)) }
+        ensures line { IfOk result (λ text. Executes Call.Heartbeat self.old self.new (string_bytes text)) }
         ensures rest { KeepsButRing self.old self.new }
     {
         let value = self.ring.producer.heartbeat();

@@ -4,17 +4,17 @@ ghost use Rattle.ring_scenario.specs.{Faults.IsEarly, Faults.IsOfWriting, Faults
 ghost use Rattle.ring_scenario.specs.Running.{FailsAt, FailsScenario, IsNotBlankAt, RunsScenario, RunsText, RunsToEnd};
 ghost use Rattle.ring_scenario.specs.{Running.StopsAt, Running.ended_text, Running.finished_text, Sizes.size_fault_of};
 ghost use Rattle.std.specs.Io.KnownBytes.{Appends};
-ghost use Rattle.ring_lines.specs.{declared.fault.LineError.LineError, Lines.AsksForNone, Lines.IsLine};
-ghost use Rattle.ring_lines.specs.Text.{lines_of, words_of, AllBlank, IsBlank, IsEnd};
+ghost use Rattle.ring_scenario.specs.{declared.lines.fault.LineError.LineError, Asking.AsksForNone, Asking.IsLine};
+ghost use Rattle.ring_scenario.specs.Cutting.{lines_of, words_of, AllBlank, IsBlank, IsEnd};
 ghost use Rattle.ring_scenario.specs.Executing.{CannotExecute, Executes};
 ghost use Rattle.ring_counters.specs.{Manager.registry_of, Registry.live_of};
 
 use crate::fault::RunFault;
+use crate::lines::{Call, Line, LineError, Lines, MAX_INPUT};
 use crate::options::Options;
 use crate::runner::{Ended, Runner};
 use crate::service::Served;
 use ring_counters::CountersManager;
-use ring_lines::{Call, Line, LineError, Lines, MAX_INPUT};
 use std::alloc::Global;
 use std::io::{ErrorKind, Read, Write};
 use std::sync::Wait;

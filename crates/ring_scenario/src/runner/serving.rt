@@ -1,19 +1,19 @@
 //! The calls of the conductor's side. They print lines, and write commands into the ring.
 ghost use Rattle.std.specs.Prelude.{◌≡◌, ◌≢◌, true, IfErr, IfOk, string_bytes, ◌↔◌, IfNone, IfSome, IsSome, OnOk};
 ghost use Rattle.ring_protocol.specs.Command.{content_of_request};
-ghost use Rattle.ring_rings.specs.Seats.{all_shares, capacity_of, shares_of, view_of, IsProducerOf, OpensNone};
+ghost use Rattle.ring_rings.specs.Seats.{capacity_of, view_of};
 ghost use Rattle.ring_ends.specs.{End.WritesAlone, Held.IsFree, Held.held_in};
 ghost use Rattle.ring_scenario.specs.ServiceTexts.{counter_text, counters_text, work_stop_text};
 ghost use Rattle.ring_scenario.specs.Keeping.{KeepsButProducer};
 ghost use Rattle.ring_scenario.specs.Serving.{FitsRoom, RefusesRequest, SendsRequest};
 
+use crate::lines::{LineError, LineFault, Moment, ServiceCall};
 use crate::printer::hex_word;
 use crate::refusal::Refusal;
 use crate::runner::Runner;
 use crate::service::CommandService;
 use ring_counters::CounterInfo;
-use ring_lines::{LineError, LineFault, Moment, ServiceCall};
-use ring_rings::{ClaimFault, ManyToOneRing, Producer, TryFault};
+use ring_rings::{ClaimFault, TryFault};
 use ring_service::{Request, Work, WorkStop, encode_request};
 use std::alloc::{AllocError, Global};
 
@@ -178,59 +178,6 @@ fn counter_text(alloc: Global, info: &CounterInfo) -> Result<String, AllocError>
     )
 }
 
-/// Writes a message of a producer that holds all shares.
-fn write_message(
-    ring: &ManyToOneRing,
-    producer: &mut Producer,
-    type_id: i32,
-    body: &[u8],
-) -> Result<(), ClaimFault>
-    requires producer { IsProducerOf ring.now producer.old }
-    requires alone { shares_of producer.old ≡ all_shares }
-    ensures producer { IsProducerOf ring.now producer.new }
-    ensures wrote { WritesAlone true (capacity_of ring.now) type_id body.now (view_of producer.old) result
-        (view_of producer.new) }
-    ensures keeps { OpensNone ring.now producer.old producer.new }
-{
-    match ring.try_write(producer, type_id, body) {
-        Ok(()) => Ok(()),
-        Err(TryFault::Refused(fault)) => Err(fault),
-        Err(TryFault::Contended { .. }) => unreachable!(),
-    }
-}
-
-/// Draws a correlation id, and writes the command with this id. Returns `None` if the command has no room. The id is
-/// not drawn again.
-fn send_request(
-    ring: &ManyToOneRing,
-    producer: &mut Producer,
-    request: Request<&[u8]>,
-) -> Option<Result<u64, ClaimFault>>
-    requires producer { IsProducerOf ring.now producer.old }
-    requires alone { shares_of producer.old ≡ all_shares }
-    ensures producer { IsProducerOf ring.now producer.new }
-    ensures fits { IsSome result ↔ FitsRoom (content_of_request request.entry) }
-    ensures sent { IfSome result (λ answer. IfOk answer (λ correlation. SendsRequest (capacity_of ring.now)
-        (content_of_request request.entry) (view_of producer.old) correlation (view_of producer.new))) }
-    ensures refused { IfSome result (λ answer. IfErr answer (λ fault. RefusesRequest (capacity_of ring.now)
-        (content_of_request request.entry) (view_of producer.old) fault (view_of producer.new))) }
-    ensures none { IfNone result (producer.new ≡ producer.old) }
-    ensures keeps { OpensNone ring.now producer.old producer.new }
-{
-    if request.encoded_len()? > MAX_COMMAND {
-        return None;
-    }
-    let mut body = [0; MAX_COMMAND];
-    let correlation = ring.next_correlation_id(producer);
-    let Some(len) = encode_request(correlation, request, &mut body) else {
-        unreachable!()
-    };
-    match write_message(ring, producer, request.type_id(), &body[..len]) {
-        Ok(()) => Some(Ok(correlation)),
-        Err(fault) => Some(Err(fault)),
-    }
-}
-
 impl CommandService {
     /// Writes a message into the ring, as `ManyToOneRing::write` does.
     pub fn send(&mut self, type_id: i32, body: &[u8]) -> Result<(), ClaimFault>
@@ -238,7 +185,11 @@ impl CommandService {
             (view_of self.new.producer) }
         ensures rest { KeepsButProducer self.old self.new }
     {
-        write_message(&self.ring, &mut self.producer, type_id, body)
+        match self.ring.try_write(&mut self.producer, type_id, body) {
+            Ok(()) => Ok(()),
+            Err(TryFault::Refused(fault)) => Err(fault),
+            Err(TryFault::Contended { .. }) => unreachable!(),
+        }
     }
 
     /// Draws a correlation id, writes the command with it into the ring, and returns the id. The id is not drawn again,
@@ -256,6 +207,17 @@ impl CommandService {
         ensures none { IfNone result (self.new.producer ≡ self.old.producer) }
         ensures rest { KeepsButProducer self.old self.new }
     {
-        send_request(&self.ring, &mut self.producer, request)
+        if request.encoded_len()? > MAX_COMMAND {
+            return None;
+        }
+        let mut body = [0; MAX_COMMAND];
+        let correlation = self.ring.next_correlation_id(&mut self.producer);
+        let Some(len) = encode_request(correlation, request, &mut body) else {
+            unreachable!()
+        };
+        match self.send(request.type_id(), &body[..len]) {
+            Ok(()) => Some(Ok(correlation)),
+            Err(fault) => Some(Err(fault)),
+        }
     }
 }

@@ -4,7 +4,7 @@ ghost use Rattle.ring_scenario.specs.{RefusalTexts.claim_refused, RefusalTexts.l
 ghost use Rattle.ring_scenario.specs.Texts.{answer_text, claimed_text, done_text, number_text, ok_text, read_text, received_text, stop_text};
 
 use super::Runner;
-use crate::printer::{Printer, hex_of};
+use crate::printer::{Printer, hex_word};
 use crate::refusal::Refusal;
 use crate::ring::Claimed;
 use ring_counters::BadId;
@@ -94,7 +94,7 @@ impl Runner {
                 type_id,
                 body,
             } => {
-                let digits = hex_of(self.alloc, body)?;
+                let digits = hex_word(self.alloc, body.as_slice())?;
                 format!(in self.alloc; "copy {type_id} {digits} place {place}\n")
             }
             Received::Nothing => String::from_str(self.alloc, "none\n"),

@@ -6,8 +6,8 @@ ghost use Rattle.ring_service.specs.Conducting.{Works, manager_in, ledger_of, ri
 ghost use Rattle.ring_scenario.specs.Keeping.{KeepsButConductor};
 
 use super::CommandService;
+use crate::lines::Moment;
 use ring_counters::{CounterInfo, IdFault, OutOfMemory};
-use ring_lines::Moment;
 use ring_service::Work;
 use std::alloc::Global;
 

@@ -1,5 +1,6 @@
 use Rattle.std.proofs.Common.{◌∙◌, ◌++◌, ℕ, ℤ, FitsSigned, List, ap, codes, decimal, rules, string_bytes, w32}
 use Rattle.std.{specs.Fmt.signed_decimal, proofs.lemmas.Int.to_z-of_z, proofs.lemmas.Result.IfOk-weaker}
+use Rattle.ring_scenario.specs.Texts.{hex_text}
 use Rattle.ring_scenario.proofs.runner.Runner.received.Goals as goal
 
 abbrev copied : ℕ → ℤ → List ℕ → List ℕ
@@ -14,4 +15,4 @@ returns-in_ok-digits-in-Copy c =
     rw c.in-Copy.is (IfOk-weaker c.format.result _ _
     (λ text shown. shown
     ∙ (ap (λ (z : ℤ). copied copy.place z (string_bytes digits.digits)) (to_z-of_z w32 copy.type_id fits)
-    ∙ ap (copied copy.place copy.type_id) digits.ensures)) c.format.ensures.ok)
+    ∙ ap (copied copy.place copy.type_id) (digits.ensures ∙ ap hex_text c.as_slice.ensures.value))) c.format.ensures.ok)
