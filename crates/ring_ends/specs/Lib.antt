@@ -1,6 +1,7 @@
 pub mod BoardEnd
 pub mod Claiming
 pub mod Claims
+pub mod Conducting
 pub mod Counters
 pub mod End
 pub mod Ending
@@ -10,3 +11,4 @@ pub mod Lending
 pub mod Next
 pub mod Receivers
 pub mod Slots
+pub mod Stopping

@@ -1,5 +1,6 @@
 //! Ends, which own what they belong to: a producer or a consumer together with its ring, a transmitter or a receiver
-//! together with its broadcast buffer, and counters or a reader together with their values.
+//! together with its broadcast buffer, counters or a reader together with their values, and a conductor or a client
+//! together with its ring and its broadcast buffer.
 //!
 //! - `producer`: the calls of producers. `many_to_one` has the calls of one of many producers, and `batch` those that
 //!   write batches.
@@ -9,16 +10,21 @@
 //! - `transmitter`, `receiver`, `raw`: the calls of ends of broadcast buffers.
 //! - `numbered`: things that are kept by number. `board`: a broadcast buffer with its receivers.
 //! - `receiving`, `received`: a numbered receiver that asks for a message, and the result.
-//! - `counters`, `reader`: counters, and the readers of their values. `lending`: what a conductor shares with the ends
-//!   that it gives.
+//! - `counters`, `reader`: counters, and the readers of their values.
+//! - `conductor`: a conductor, which `hiring` gives clients, receivers and readers, and `finishing` takes apart. `client`:
+//!   the calls of its clients. `lending`: what a conductor shares with the ends that it gives.
 #![tactic(auto)]
 
 mod batch;
 mod board;
 mod claiming;
+mod client;
+mod conductor;
 mod consumer;
 mod copying;
 mod counters;
+mod finishing;
+mod hiring;
 mod last;
 mod lending;
 mod many_to_one;
@@ -36,9 +42,12 @@ mod transmitter;
 
 pub use board::StandaloneBoard;
 pub use claiming::{ClaimRefused, Claimed, NumberFault, NumberedEnd};
+pub use client::ClientEnd;
+pub use conductor::{ConductorEnd, ConductorFault, Sizes};
 pub use consumer::ConsumerEnd;
 pub use copying::NextMessage;
 pub use counters::CountersEnd;
+pub use finishing::{NotFinished, StopFault};
 pub use last::{CloseRefused, LastEnd};
 pub use lending::{Lender, Shared};
 pub use many_to_one::SplitFault;

@@ -1,7 +1,7 @@
 //! A reader of the values of counters.
-ghost use Rattle.std.specs.Prelude.{◌≡◌, false, true, IsSome, None};
+ghost use Rattle.std.specs.Prelude.{◌≡◌, false, true, IfSome, IsSome, None};
 ghost use Rattle.ring_counters.specs.Seats.{IsReaderOf};
-ghost use Rattle.ring_ends.specs.{Counters.Loads, Lending.conductor_of, Lending.values_in};
+ghost use Rattle.ring_ends.specs.Counters.{Loads};
 
 use crate::lending::Lender;
 use ring_counters::{BadId, CounterValues, ValueReader};
@@ -38,18 +38,10 @@ impl ReaderEnd {
         self.values.values().load(&mut self.reader, id)
     }
 
-    /// Puts a reader and its values together.
-    pub fn of(values: Lender<CounterValues>, reader: ValueReader) -> Self
-        requires { IsReaderOf (values_in values) reader }
-        ensures { result ≡ record { values = values_in values; lender = conductor_of values; reader = reader } }
-    {
-        ReaderEnd { values, reader }
-    }
-
     /// Returns the reader without its values.
-    pub fn into_reader(self) -> ValueReader
+    pub(crate) fn into_reader(self) -> ValueReader
         ensures reader { result ≡ self.reader }
-        ensures values { IsReaderOf self.values result }
+        ensures lent { IfSome self.lender (λ shared. IsReaderOf shared.values result) }
     {
         let ReaderEnd { values: _, reader } = self;
         reader

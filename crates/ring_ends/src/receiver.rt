@@ -1,9 +1,8 @@
 //! A receiver with its broadcast buffer.
-ghost use Rattle.std.specs.Prelude.{◌≡◌, ◌/◌, length, take, IfSome};
+ghost use Rattle.std.specs.Prelude.{◌≡◌, ◌/◌, false, length, take, true, IfSome, IsSome, None};
 ghost use Rattle.ring_layout.specs.History.{overwritten};
 ghost use Rattle.ring_board.specs.Seats.{receiver_seat, IsReceiverOf};
-ghost use Rattle.ring_ends.specs.BoardEnd.{Hears, CopiesInto, end_at, laps_of, place_of_end, DoesAt};
-ghost use Rattle.ring_ends.specs.Lending.{board_in, conductor_of};
+ghost use Rattle.ring_ends.specs.BoardEnd.{Hears, CopiesInto, laps_of, place_of_end, DoesAt};
 
 use crate::lending::Lender;
 use ring_board::{Board, CopyReceiver, Lapped};
@@ -110,26 +109,19 @@ impl ReceiverEnd {
         self.board.board().max_message()
     }
 
-    /// Puts a receiver and its broadcast buffer together.
-    pub fn of(board: Lender<Board>, receiver: CopyReceiver) -> Self
-        requires { IsReceiverOf (board_in board) receiver }
-        ensures { result ≡ record {
-          end = end_at (board_in board) (receiver_seat receiver);
-          lender = conductor_of board;
-        } }
+    /// Tests whether a conductor lends the broadcast buffer.
+    pub fn is_lent(&self) -> bool
+        ensures own { result ≡ false → self.now.lender ≡ None }
+        ensures lent { result ≡ true → IsSome self.now.lender }
     {
-        ReceiverEnd { board, receiver }
-    }
-
-    /// Returns the owner of the broadcast buffer.
-    pub fn lender(&self) -> &Lender<Board>
-        ensures { conductor_of result.now ≡ self.now.lender }
-    {
-        &self.board
+        match &self.board {
+            Lender::Own(_) => false,
+            Lender::Lent(_) => true,
+        }
     }
 
     /// Returns the receiver without its broadcast buffer.
-    pub fn into_receiver(self) -> CopyReceiver
+    pub(crate) fn into_receiver(self) -> CopyReceiver
         ensures same { receiver_seat result ≡ self.end.knows }
         ensures lent { IfSome self.lender (λ shared. IsReceiverOf shared.board result) }
     {

@@ -11,6 +11,7 @@ mod memory;
 mod numbering;
 mod places;
 mod receivers;
+mod serving;
 mod sharing;
 mod solo;
 
@@ -47,6 +48,7 @@ fn say_all<R: AllocGlobal + Print + Threads + Wait>(rt: &R) -> anyhow::Result<()
     say(rt, "ring_ends", ends::put_together(rt.alloc()))?;
     say(rt, "ring_ends", ends::counters(rt.alloc()))?;
     say(rt, "ring_ends", receivers::receive(rt.alloc()))?;
+    say(rt, "ring_ends", serving::serve(rt.alloc()))?;
     say(rt, "ring_ends", numbering::settle(rt.alloc()))?;
     say(rt, "ring_ends", numbering::board(rt.alloc()))?;
     say(rt, "ring_ends", numbering::kept(rt.alloc()))?;
