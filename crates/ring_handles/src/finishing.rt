@@ -21,7 +21,10 @@ impl ConductorSide {
         ensures refused { IfErr result (λ r. (r.1 ≡ self) × WhyNotFinished self r.0) }
     {
         let ConductorSide { end, identity } = self;
-        let NotFinished { reason, conductor } = match end.finish() {
+        let NotFinished {
+            reason,
+            conductor: end,
+        } = match end.finish() {
             Ok(mut finished) => {
                 return Ok(Ended {
                     received: finished.received,
@@ -30,18 +33,15 @@ impl ConductorSide {
             }
             Err(kept) => kept,
         };
-        let (code, end) = match reason {
-            StopFault::InUse => (IN_USE, conductor),
-            StopFault::Refused(fault) => match conductor.finish_without() {
-                Ok(mut parts) => {
-                    return Ok(Ended {
-                        received: parts.received,
-                        left: u64::from(parts.rescued.rest.drain()),
-                    });
-                }
-                Err(conductor) => (fault.code(), conductor),
-            },
+        let StopFault::Refused(fault) = reason else {
+            return Err((IN_USE, ConductorSide { end, identity }));
         };
-        Err((code, ConductorSide { end, identity }))
+        match end.finish_without() {
+            Ok(mut parts) => Ok(Ended {
+                received: parts.received,
+                left: u64::from(parts.rescued.rest.drain()),
+            }),
+            Err(end) => Err((fault.code(), ConductorSide { end, identity })),
+        }
     }
 }
