@@ -16,7 +16,7 @@ use Rattle.ring_counters.specs.{Seats.loads_of, Seats.made_of, Seats.IsNewReader
 use Rattle.ring_protocol.specs.Command.{LentRequest as Request}
 use Rattle.ring_service.specs.declared.client.{Client.Client, SendFault.SendFault}
 use Rattle.ring_service.specs.declared.conductor.{Conductor.Conductor, Work.Work}
-use Rattle.ring_service.specs.Asking.{client_seat, client_view, producer_of, receiver_of, IsSendable, RefusesSend, Sends}
+use Rattle.ring_service.specs.Asking.{client_seat, client_view, producer_of, receiver_of, IsSendable, RefusesAs, RefusesSend, Sends, SendsAs}
 use Rattle.ring_service.specs.Conducting.{board_view, ledger_of, manager_in, ring_view, value_shares_of, KeepsSeats, KeepsTheRest, KeepsWhatItServes, Works}
 use Rattle.ring_rings.specs.contracts.ring.Producer.{the_row as producer_row}
 use Rattle.ring_service.specs.contracts.client.Client.{the_row as client_row}
@@ -176,3 +176,11 @@ TriesSend request k x l = MatchResult x
     (λ id. IsSendable request × Sends (Writes true) (ring_bytes k) request (client_view k.client) id
     (client_view l.client))
     (λ fault. RefusesSend (RefusesTry true) (ring_bytes k) request (client_view k.client) fault (client_view l.client))
+
+-- a command was sent with this correlation id, or it was refused
+abbrev pub TriesSendAs : Request → ℕ → SeatedClient → Result (Unit {0}) SendFault → SeatedClient → Type 0
+TriesSendAs request correlation k x l = MatchResult x
+    (λ _. IsSendable request × SendsAs (Writes true) (ring_bytes k) correlation request (client_view k.client)
+    (client_view l.client))
+    (λ fault. RefusesAs (RefusesTry true) (ring_bytes k) correlation request (client_view k.client) fault
+    (client_view l.client))

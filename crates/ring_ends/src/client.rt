@@ -1,9 +1,9 @@
 //! A client with what its conductor shares.
-ghost use Rattle.std.specs.Prelude.{◌≡◌, IfOk, OnErr};
-ghost use Rattle.ring_table.specs.ServiceSteps.{LoadsHeartbeat};
+ghost use Rattle.std.specs.Prelude.{◌≡◌, IfOk, OnErr, OnOk};
+ghost use Rattle.ring_table.specs.ServiceSteps.{DrawsId, LoadsHeartbeat};
 ghost use Rattle.ring_service.specs.{Asking.client_seat, Asking.client_view, Asking.IsHeard, Service.sent_by};
 ghost use Rattle.ring_service.specs.Service.{Polls, SendsRequest};
-ghost use Rattle.ring_ends.specs.Conducting.{ring_bytes, KeepsReceiver, KeepsSender, TriesSend};
+ghost use Rattle.ring_ends.specs.Conducting.{ring_bytes, KeepsReceiver, KeepsSender, TriesSend, TriesSendAs};
 
 use crate::lending::Shared;
 use ring_protocol::Request;
@@ -37,6 +37,26 @@ impl Model for ClientEnd {
 }
 
 impl ClientEnd {
+    /// Draws the correlation id of a command, for `send_as`.
+    pub fn next_correlation_id(&mut self) -> u64
+        ensures sends { sent_by self.new.client ≡ sent_by self.old.client }
+        ensures draws { DrawsId (client_view self.old.client) result (client_view self.new.client) }
+        ensures keeps { KeepsReceiver self.old self.new }
+    {
+        self.client.next_correlation_id(&self.shared.ring)
+    }
+
+    /// Makes one try to send a command with a correlation id that was drawn for the command. After an error nothing was
+    /// sent, and the call can be made again with the same id. The errors are those of `Client::send_as`.
+    pub fn send_as(&mut self, correlation: u64, request: Request<&[u8]>) -> Result<(), SendFault>
+        ensures sends { OnOk result (SendsRequest request.entry correlation self.old.client self.new.client)
+            × OnErr result (sent_by self.new.client ≡ sent_by self.old.client) }
+        ensures does { TriesSendAs request.entry correlation self.old result self.new }
+        ensures keeps { KeepsReceiver self.old self.new }
+    {
+        self.client.send_as(&self.shared.ring, correlation, request)
+    }
+
     /// Draws a correlation id, makes one try to send a command with it, and returns the id. The errors are those of
     /// `Client::send`.
     pub fn send(&mut self, request: Request<&[u8]>) -> Result<u64, SendFault>
