@@ -63,7 +63,7 @@ polled_or before told.NoReply = before
 polled_or before told.Nothing = before
 polled_or before (told.Lapped lapped) = record before { lapped = lapped.count }
 
--- the next message was heard, and what it is is put out
+-- the next message was received, and what was found is put out
 abbrev pub WasPolled : ℕ → PollOut → PollOut → ClientSide → ClientSide → ℤ → Type 0
 WasPolled correlation before after k l code = (x : Polled) × (code ≡ poll_code x) × (after ≡ polled_or before x)
     × ByClient (λ p q. KeepsSender p q × IsHeard correlation (client_seat p.client) (client_seat q.client) x) k l
