@@ -1,8 +1,8 @@
 -- What the return value of an export says of the handles before and after it.
 use Rattle.std.specs.Prelude.{◌≡◌, ◌≢◌, ◌⊎◌, ◌/◌, ℕ, ℤ, MatchOption, Bool}
 use Rattle.std.specs.declared.option.Option.{Option, TheVariants.None, TheVariants.Some}
-use Rattle.ring_handles.specs.{declared.held.Held.Held, Serving.Sharing, Seating.IsOfThisConductor, Side.identity_of}
-use Rattle.ring_handles.specs.{Conducting.IsConductorCode, Closing.TellsEnd, Closing.WhyNotFinished, Producing.closing}
+use Rattle.ring_handles.specs.{declared.held.Held.Held, Side.identity_of}
+use Rattle.ring_handles.specs.{Conducting.IsConductorCode, Closing.EndsWith, Closing.WhyNotFinished, Producing.closing}
 use Rattle.ring_handles.specs.Kinds.{a_conductor, a_producer, capacity_held, HoldsOne}
 use Rattle.ring_handles.specs.Opening.{HoldFirstAdder, HoldFresh, HoldFreshCounters, HoldNewBoard, HoldNewConductor}
 use Rattle.ring_handles.specs.Opening.{IsAdderCode, IsBoardCode, IsCountersCode, IsMakeCode}
@@ -90,11 +90,6 @@ abbrev pub WhereBoth : {S T : Type 0} → (Held → Option S) → (Held → Opti
     → Option Held → Type 0
 WhereBoth kind other P p o = IfHolds kind (λ s. IfHolds other (P s) o) p
 
--- the same of a conductor and what another handle of this kind holds
-abbrev pub AreOfOneConductor : {S : Type 0} → (Held → Option S) → (S → Option Sharing) → Option Held → Option Held
-    → Type 0
-AreOfOneConductor other lender p o = WhereBoth a_conductor other (λ c r. IsOfThisConductor c (lender r)) p o
-
 -- the second was taken in by the first, or both stay as they were
 abbrev pub Joined : {S T : Type 0} → (Held → Option S) → (Held → Option T) → (S → T → S → Type 0)
     → (S → T → ℤ → Type 0) → S → T → Option Held → Option Held → ℤ → Type 0
@@ -133,7 +128,7 @@ counts received left = record { received = received; left = left }
 
 -- a conductor's handle is emptied once the conductor ended, or it stays as it is
 abbrev pub Ends : Counts → Counts → Option Held → Option Held → ℤ → Type 0
-Ends = EndsAs a_conductor (λ c ended. TellsEnd c ended.received ended.left) WhyNotFinished
+Ends = EndsAs a_conductor (λ c ended. EndsWith c.end ended.received ended.left) WhyNotFinished
 
 -- Sizes --------------------------------------------------------------------------
 

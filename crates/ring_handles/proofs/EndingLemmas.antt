@@ -1,21 +1,15 @@
 -- What the messages of a ring that ended add up to.
-use Rattle.std.proofs.Common.{◌≡◌, ℕ, ◌+◌, List, ◌++◌, length, length-append, refl, sym, ap, ◌∙◌, arith, Option, Some, None, Result, Ok}
-use Rattle.ring_layout.specs.Refusals.{IsRefusedAs}
+use Rattle.std.proofs.Common.{◌≡◌, ℕ, ◌+◌, List, ◌++◌, length, length-append, nat_lt, if◌then◌else◌, sym, ap, ◌∙◌, arith, Option, Some, None, MatchOption}
 use Rattle.ring_layout.specs.{History.committed_of, declared.message.Claim.Claim, declared.message.Message.Message}
 use Rattle.ring_words.specs.{Drain.AllSettled, Ring.Has}
 use Rattle.ring_table.specs.{Passing.placed_committed_of, Staged.Bodies, Staged.unplaced}
 use Rattle.ring_table.specs.declared.{claim.PlacedMessage.PlacedMessage, claim.StagedClaim.StagedClaim, view.View.View}
-use Rattle.ring_rings.{specs.Closing.close_refusal_of, proofs.ReceivedLemmas.lengths}
+use Rattle.ring_rings.proofs.ReceivedLemmas.{lengths}
 use Rattle.ring_rings.specs.{Reading.at_rest, Reading.messages_of, Rescuing.IsRescued, declared.rescue.Rescued.Rescued}
 use Rattle.ring_rings.proofs.SentLemmas.{messages_of-append, placed_committed_of-append}
 use Rattle.ring_service.{specs.declared.finishing.fault.FinishFault.FinishFault, proofs.FinishLemmas.all_settled}
+use Rattle.ring_ends.specs.declared.finishing.StopFault.{StopFault, TheVariants.InUse, TheVariants.Refused}
 use Rattle.ring_handles.specs.Finishing.{LeavesCommitted}
-
--- if it succeeded there was no refusal
-pub no_refusal : {T E : Type 0} (error : FinishFault → E) (o : Option FinishFault) (r : Result T E) (x : T)
-    → IsRefusedAs error o r → r ≡ Ok x → o ≡ None
-no_refusal error None r x h is = refl
-no_refusal error (Some fault) r x h is = absurd cc
 
 -- of two parts that are all together, the second has what the first lacks
 pub rest_counts : (received all : List PlacedMessage) (rest : List Message) (count : ℕ)
@@ -27,9 +21,17 @@ rest_counts received all rest count whole counted =
     let sum = ap length whole in
     omega arith
 
--- if a producer may close its ring, none of its claims is open
-pub none_is_open : (open_claims shares : ℕ) → close_refusal_of open_claims shares ≡ None → open_claims ≡ 0
-none_is_open open_claims shares e = grind arith
+-- if open claims are no reason to refuse, there is none
+pub none_is_open : {F : Type 0} (open_claims : ℕ) (fault : F) (others : Option F)
+    → (if nat_lt 0 open_claims then Some fault else others) ≡ None → open_claims ≡ 0
+none_is_open open_claims fault others e = grind arith
+
+-- a conductor that does not finish since shares are not back leaves what it leaves without them
+pub leaves_without : (A B : Type 0) (refusal : Option FinishFault) (reason : StopFault) (fault : FinishFault)
+    → reason ≡ Refused fault → MatchOption refusal (reason ≡ InUse) (λ why. reason ≡ Refused why) → B
+    → MatchOption refusal A (λ _. B)
+leaves_without A B None reason fault is told b = absurd cc
+leaves_without A B (Some why) reason fault is told b = b
 
 -- what a ring with lost producers leaves is what its rest has
 pub leaves_committed : (B : Bodies) (C start : ℕ) (v : View) (out : Rescued) → IsRescued B C start v out → (count : ℕ)

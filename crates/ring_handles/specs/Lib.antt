@@ -16,6 +16,5 @@ pub mod Raw
 pub mod Recovering
 pub mod Returning
 pub mod Seating
-pub mod Serving
 pub mod Side
 pub mod WritingBatch

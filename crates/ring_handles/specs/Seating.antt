@@ -1,109 +1,68 @@
 -- Seats that a conductor gives and takes back: c is the conductor before, d after, k is a client, r a receiver or a
 -- reader, and the code is what is returned.
-use Rattle.std.specs.Prelude.{◌≡◌, ◌⊎◌, ◌≤◌, ◌+◌, ℤ, IfSome, Option, None, Some}
-use Rattle.std.specs.Option.{option_map}
-use Rattle.ring_rings.specs.{Joining.Joins, Seats.capacity_of as ring_bytes, Seats.view_of}
-use Rattle.ring_board.specs.{declared.fault.SubscribeFault.TheVariants.NoShares, Runs.AreRuns}
-use Rattle.ring_board.specs.{Refusals.subscribe_refusal_of, Views.Sat, Views.fewer, Views.joined, Views.newcomer}
-use Rattle.ring_counters.specs.Manager.{registry_of, writes_of}
-use Rattle.ring_counters.specs.{Seats.loads_of, Seats.made_of, Seats.IsNewReaderOf, ValueWrites.AreLoads}
-use Rattle.ring_service.specs.Asking.{client_seat, client_view}
-use Rattle.ring_service.specs.Conducting.{board_view, manager_in, value_shares_of, KeepsSeats, KeepsTheRest}
-use Rattle.ring_handles.specs.{declared.client.ClientSide.ClientSide, Boards.lender_of, Boards.Listening}
-use Rattle.ring_handles.specs.declared.{conductor.ConductorSide.ConductorSide, counters.ReaderSide.ReaderSide}
-use Rattle.ring_ends.specs.BoardEnd.{end_at}
-use Rattle.ring_handles.specs.Conducting.{KeepsProducer}
-use Rattle.ring_handles.specs.Serving.{numbered, shared_by, shared_with, IsNumberedOtherwise, Sharing}
+use Rattle.std.specs.Prelude.{◌≡◌, ◌≢◌, ◌⊎◌, ◌≤◌, ℤ, IfSome, Option, None, Some}
+use Rattle.ring_service.specs.Conducting.{value_shares_of}
+use Rattle.ring_ends.specs.declared.lending.Shared.{Shared}
+use Rattle.ring_ends.specs.Conducting.{KeepsProducer, LastReplyShare, LendsValues, MayNotHire, SeatedConductor, TakesSeat, TakesValues}
+use Rattle.ring_ends.specs.Conducting.{Hires as HiresEnd, LendsReceiver as LendsReceiverEnd, TakesClient as TakesClientEnd}
+use Rattle.ring_handles.specs.{Boards.lender_of, Boards.Listening, Conducting.ByConductor}
+use Rattle.ring_handles.specs.declared.{client.ClientSide.ClientSide, conductor.ConductorSide.ConductorSide}
+use Rattle.ring_handles.specs.declared.{counters.ReaderSide.ReaderSide, identity.Identity.Identity}
 use Rattle.ring_layout.specs.declared.refusal_codes.TheConstants.{NO_SHARES, OUT_OF_MEMORY}
 use Rattle.ring_handles.specs.declared.code.TheConstants.{OTHER_RING}
 
--- what a conductor shares, if the client, the receiver or the reader is one's
-abbrev pub lends_client : ClientSide → Option Sharing
-lends_client k = Some (shared_with k)
+-- Giving -------------------------------------------------------------------------
 
-abbrev pub lends_reader : ReaderSide → Option Sharing
-lends_reader r = option_map (numbered r.identity) r.end.lender
+-- a share of the ring and one of the board were moved to a client, which has the conductor's number
+abbrev pub Hires : ConductorSide → ConductorSide → ClientSide → Type 0
+Hires c d k = (k.identity ≡ c.identity) × ByConductor (λ p q. HiresEnd p k.end q) c d
 
-abbrev pub lends_receiver : Listening → Option Sharing
-lends_receiver r = option_map (numbered r.identity) (lender_of r)
+-- why a client is not made: ring or board has one share left, or memory runs out
+abbrev pub IsUnhired : ConductorSide → ℤ → Type 0
+IsUnhired c code = ((code ≡ NO_SHARES) × MayNotHire c.end) ⊎ (code ≡ OUT_OF_MEMORY)
 
--- Lending ------------------------------------------------------------------------
-
--- a share of the board was moved to a receiver with this seat, which starts at the reply at latest
-pub record MovesShare (c d : ConductorSide) (m : Sat) : Type 0 where
-  pub left : board_view d.conductor ≡ fewer (board_view c.conductor)
-  pub right : m.0 ≡ newcomer (board_view c.conductor)
-  pub others : KeepsTheRest c.conductor d.conductor
-  pub rest : KeepsProducer c d
-
--- it was, and the receiver is one of this conductor's replies
-pub record LendsReceiver (c d : ConductorSide) (r : Listening) : Type 0 where
-  pub moved : MovesShare c d r.end.knows
-  pub lent : let s = shared_by c in
-      r ≡ record {
-        end = end_at s.shared.board r.end.knows;
-        identity = s.identity;
-        lap = None;
-        own = Some s.shared;
-      }
+-- a share of the board was moved to a receiver, which has the conductor's number, and was not lapped yet
+abbrev pub LendsReceiver : ConductorSide → ConductorSide → Listening → Type 0
+LendsReceiver c d r = (r.identity ≡ c.identity) × (r.lap ≡ None)
+    × ByConductor (λ p q. LendsReceiverEnd p (record { end = r.end; lender = lender_of r }) q) c d
 
 -- why a receiver is not made: the conductor needs its last share, or memory runs out
 abbrev pub IsUnheard : ConductorSide → ℤ → Type 0
-IsUnheard c code = ((code ≡ NO_SHARES) × (subscribe_refusal_of (board_view c.conductor).shares ≡ Some NoShares))
-    ⊎ (code ≡ OUT_OF_MEMORY)
+IsUnheard c code = ((code ≡ NO_SHARES) × LastReplyShare c.end) ⊎ (code ≡ OUT_OF_MEMORY)
 
--- the counters and their writes are the same
-pub record KeepsSideCounters (c d : ConductorSide) : Type 0 where
-  pub registry : registry_of (manager_in d.conductor) ≡ registry_of (manager_in c.conductor)
-  pub writes : writes_of (manager_in d.conductor) ≡ writes_of (manager_in c.conductor)
-  pub others : KeepsSeats c.conductor d.conductor
-  pub rest : KeepsProducer c d
-
--- a share of the values was moved to a reader, which has seen every write so far
-pub record LendsReader (c d : ConductorSide) (r : ReaderSide) : Type 0 where
-  pub shares : value_shares_of d.conductor + 1 ≡ value_shares_of c.conductor
-  pub lender : lends_reader r ≡ Some (shared_by c)
-  pub reader : IsNewReaderOf r.end.values (writes_of (manager_in c.conductor)) r.end.reader
-  pub keeps : KeepsSideCounters c d
+-- a share of the values was moved to a reader, which has the conductor's number
+abbrev pub LendsReader : ConductorSide → ConductorSide → ReaderSide → Type 0
+LendsReader c d r = (r.identity ≡ c.identity) × ByConductor (λ p q. LendsValues p r.end q) c d
 
 -- why a reader is not made: the conductor needs its last share, or memory runs out
 abbrev pub WhyNotSeated : ConductorSide → ℤ → Type 0
-WhyNotSeated c code = ((code ≡ NO_SHARES) × (value_shares_of c.conductor ≤ 1)) ⊎ (code ≡ OUT_OF_MEMORY)
+WhyNotSeated c code = ((code ≡ NO_SHARES) × (value_shares_of c.end.conductor ≤ 1)) ⊎ (code ≡ OUT_OF_MEMORY)
 
 -- Taking back --------------------------------------------------------------------
 
--- a receiver with this seat was taken back, with its share, and its copies are runs of the replies
-pub record TakesSeat (c d : ConductorSide) (m : Sat) : Type 0 where
-  pub joined_is : board_view d.conductor ≡ joined (board_view c.conductor) m.0
-  pub runs : AreRuns (board_view c.conductor).sent m.0.from m.0.copies
-  pub others : KeepsTheRest c.conductor d.conductor
+-- what has this number and this lender is this conductor's, and its end was taken back so
+abbrev pub TakesOwn : Identity → Option Shared → (SeatedConductor → SeatedConductor → Type 0) → ConductorSide
+    → ConductorSide → Type 0
+TakesOwn identity lender Takes c d =
+    (identity ≡ c.identity) × (lender ≡ Some c.end.shared) × ByConductor Takes c d
 
--- a client of this conductor was taken back: its claims are the conductor's producer's
-pub record TakesClient (c : ConductorSide) (k : ClientSide) (d : ConductorSide) : Type 0 where
-  pub lender : shared_with k ≡ shared_by c
-  pub shared : shared_by d ≡ shared_by c
-  pub producer : Joins (ring_bytes (shared_by c).shared.ring) (view_of c.producer) (client_view k.client)
-      (view_of d.producer)
-  pub receiver : TakesSeat c d (client_seat k.client)
+-- a client was taken back: its claims are the conductor's producer's
+abbrev pub TakesClient : ConductorSide → ClientSide → ConductorSide → Type 0
+TakesClient c k d = TakesOwn k.identity (Some k.end.shared) (λ p q. TakesClientEnd p k.end q) c d
 
--- a receiver of this conductor's replies was taken back
-pub record TakesReceiver (c : ConductorSide) (r : Listening) (d : ConductorSide) : Type 0 where
-  pub lender : lends_receiver r ≡ Some (shared_by c)
-  pub receiver : TakesSeat c d r.end.knows
-  pub rest : KeepsProducer c d
+-- a receiver of the replies was taken back
+abbrev pub TakesReceiver : ConductorSide → Listening → ConductorSide → Type 0
+TakesReceiver c r d =
+    TakesOwn r.identity (lender_of r) (λ p q. TakesSeat p r.end.knows q × KeepsProducer p q) c d
 
--- a reader of this conductor's values was taken back, with its share: what it loaded are values after first parts of
--- the writes
-pub record TakesReader (c : ConductorSide) (r : ReaderSide) (d : ConductorSide) : Type 0 where
-  pub lender : lends_reader r ≡ Some (shared_by c)
-  pub shares : value_shares_of d.conductor ≡ value_shares_of c.conductor + 1
-  pub loads : AreLoads (made_of r.end.reader) (loads_of r.end.reader) (writes_of (manager_in d.conductor))
-  pub keeps : KeepsSideCounters c d
+-- a reader of the values was taken back
+abbrev pub TakesReader : ConductorSide → ReaderSide → ConductorSide → Type 0
+TakesReader c r d = TakesOwn r.identity r.end.lender (λ p q. TakesValues p r.end q) c d
 
--- it is no conductor's, or that of one with another number
-abbrev pub IsForeign : ConductorSide → Option Sharing → ℤ → Type 0
-IsForeign c lender code = (code ≡ OTHER_RING) × IsNumberedOtherwise (shared_by c).identity lender
+-- what has this number and this lender is no conductor's, or that of one with another number
+abbrev pub IsForeign : ConductorSide → Identity → Option Shared → ℤ → Type 0
+IsForeign c identity lender code = (code ≡ OTHER_RING) × IfSome lender (λ _. identity ≢ c.identity)
 
 -- if it is a conductor's of the same number, it is this one's
-abbrev pub IsOfThisConductor : ConductorSide → Option Sharing → Type 0
-IsOfThisConductor c lender = IfSome lender (λ s. s.identity ≡ (shared_by c).identity → s ≡ shared_by c)
+abbrev pub IsOfThisConductor : ConductorSide → Identity → Option Shared → Type 0
+IsOfThisConductor c identity lender = IfSome lender (λ shared. identity ≡ c.identity → shared ≡ c.end.shared)

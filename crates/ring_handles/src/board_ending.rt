@@ -6,7 +6,6 @@ ghost use Rattle.ring_handles.specs.Returning.{IsRawAstray, TakesListener, Takes
 use crate::boards::{ReceiverSide, TransmitterSide};
 use crate::code::{IN_USE, OTHER_RING, RECEIVERS_OUT};
 use crate::raw::RawReceiverSide;
-use ring_ends::Lender;
 use ring_layout::ALL_SHARES;
 
 impl TransmitterSide {
@@ -17,10 +16,7 @@ impl TransmitterSide {
         ensures refused { IfErr result (λ r. (self.new ≡ self.old) × (r.1 ≡ receiver)
             × IsAstray self.old receiver r.0) }
     {
-        let Lender::Own(_) = receiver.end.lender() else {
-            return Err((OTHER_RING, receiver));
-        };
-        if !self.identity.is(receiver.identity) {
+        if receiver.end.is_lent() || !self.identity.is(receiver.identity) {
             return Err((OTHER_RING, receiver));
         }
         self.end.join(receiver.end);

@@ -45,7 +45,6 @@ pub use adders::AdderSide;
 pub use boards::{ReceiverSide, TransmitterSide};
 pub use client::ClientSide;
 pub use conductor::ConductorSide;
-pub use conductor::making::Sizes;
 pub use consumer::ConsumerSide;
 pub use counters::{CountersSide, ReaderSide};
 pub use counting::Wanted;
@@ -60,3 +59,4 @@ pub use opening::{
 pub use producer::ProducerSide;
 pub use raw::RawReceiverSide;
 pub use recovering::recover_into;
+pub use ring_ends::Sizes;

@@ -2,16 +2,15 @@
 ghost use Rattle.std.specs.Prelude.{◌≡◌, ◌≢◌, [], true, false, IfErr, IfOk, MatchResult};
 ghost use Rattle.std.specs.declared.option.Option.TheVariants.{Some};
 ghost use Rattle.ring_ends.specs.End.{AreOfOneRing};
-ghost use Rattle.ring_handles.specs.Conducting.{IsConductorCode};
+ghost use Rattle.ring_handles.specs.Conducting.{conductor_code, IsConductorCode};
 ghost use Rattle.ring_handles.specs.Opening.{HoldFirstAdder, HoldFresh, HoldFreshCounters, HoldNewBoard, IsMakeCode};
 ghost use Rattle.ring_handles.specs.Opening.{HoldNewConductor, HoldPair, IsAdderCode, IsBoardCode, IsCountersCode};
 ghost use Rattle.ring_handles.specs.Side.{consumer_in, numbered_in, IsOfKind, IsReaderOfKind};
 
 use crate::adders::AdderSide;
 use crate::boards::TransmitterSide;
-use crate::code::{DONE, OUT_OF_MEMORY};
+use crate::code::{BAD_CAPACITY, BAD_COUNT, DONE, OUT_OF_MEMORY};
 use crate::conductor::ConductorSide;
-use crate::conductor::making::Sizes;
 use crate::consumer::ConsumerSide;
 use crate::counters::CountersSide;
 use crate::held::Held;
@@ -19,7 +18,7 @@ use crate::identity::Identity;
 use crate::producer::ProducerSide;
 use crate::ring::{AnyConsumer, AnyProducer};
 use ring_adders::SharedCounter;
-use ring_ends::{CountersEnd, NumberedEnd, open};
+use ring_ends::{ConductorEnd, ConductorFault, CountersEnd, NumberedEnd, Sizes, open};
 use ring_rings::{InSlots, ManyToOne, OneToOne};
 use std::alloc::Global;
 use std::sync::Arc;
@@ -183,6 +182,17 @@ pub fn open_adder(alloc: Global, identity: Identity) -> Result<Box<Held>, i32>
     )
 }
 
+/// The number of why no conductor was made.
+fn conductor_code(fault: ConductorFault) -> i32
+    ensures { result ≡ conductor_code fault }
+{
+    match fault {
+        ConductorFault::BadCapacity => BAD_CAPACITY,
+        ConductorFault::BadCount => BAD_COUNT,
+        ConductorFault::OutOfMemory => OUT_OF_MEMORY,
+    }
+}
+
 /// Makes a conductor of these sizes, to which nothing was sent.
 ///
 /// The first refusal comes of ring, broadcast buffer and counters, and 3 if there is no memory.
@@ -192,6 +202,8 @@ pub fn open_conductor(alloc: Global, identity: Identity, sizes: Sizes) -> Result
     ensures code { MatchResult result (λ _. IsConductorCode sizes.capacity sizes.replies sizes.counters DONE)
         (λ code. IsConductorCode sizes.capacity sizes.replies sizes.counters code × (code ≢ DONE)) }
 {
-    let side = ConductorSide::new(alloc, identity, sizes)?;
-    boxed(alloc, Held::Conductor(side))
+    match ConductorEnd::new(alloc, sizes) {
+        Ok(end) => boxed(alloc, Held::Conductor(ConductorSide { end, identity })),
+        Err(fault) => Err(conductor_code(fault)),
+    }
 }

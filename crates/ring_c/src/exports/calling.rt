@@ -1,7 +1,7 @@
 //! What handles of clients do.
 // Written by c/bindings from felter.h and exports.txt. To change this file, change them and run c/bindings.
 ghost use Rattle.ring_c.specs.Told.{Yields};
-ghost use Rattle.ring_handles.specs.Calling.{poll_out, ClientBeat, Polled, WasSent};
+ghost use Rattle.ring_handles.specs.Calling.{poll_out, ClientBeat, WasPolled, WasSent};
 ghost use Rattle.ring_handles.specs.Kinds.{a_client};
 ghost use Rattle.ring_protocol.specs.declared.command.Request.TheVariants.{Allocate, AllocateOwned, Close, Free, Set};
 
@@ -121,7 +121,7 @@ pub extern "C" fn felter_poll(
     number: &mut i64,
     lapped: &mut u64,
 ) -> i32
-    ensures { Yields a_client (Polled correlation) (poll_out kind.old number.old lapped.old)
+    ensures { Yields a_client (WasPolled correlation) (poll_out kind.old number.old lapped.old)
         (poll_out kind.new number.new lapped.new) client.old.held client.new.held result }
 {
     work_on!(client, alloc, Client(side) => side.poll(correlation, kind, number, lapped))

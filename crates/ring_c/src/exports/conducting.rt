@@ -1,8 +1,8 @@
 //! What handles of conductors do.
 // Written by c/bindings from felter.h and exports.txt. To change this file, change them and run c/bindings.
 ghost use Rattle.ring_c.specs.Told.{GivesInto, OpensConductor, Uses, Yields};
-ghost use Rattle.ring_handles.specs.Conducting.{report_out, ConductorBeat, Hires, IsUnhired, Worked};
-ghost use Rattle.ring_handles.specs.Kinds.{a_client, a_conductor};
+ghost use Rattle.ring_handles.specs.Conducting.{report_out, ConductorBeat, Worked};
+ghost use Rattle.ring_handles.specs.{Kinds.a_client, Kinds.a_conductor, Seating.Hires, Seating.IsUnhired};
 
 use crate::work_on::{fill, make_into, work_on};
 use ring_handles::{Handle, Identity, Sizes, open_conductor};

@@ -1,10 +1,11 @@
 //! What conductors lend and take back.
 // Written by c/bindings from felter.h and exports.txt. To change this file, change them and run c/bindings.
-ghost use Rattle.ring_c.specs.Told.{AreOfOneConductor, GivesInto, JoinsInto};
+ghost use Rattle.ring_c.specs.Told.{GivesInto, JoinsInto, WhereBoth};
+ghost use Rattle.ring_handles.specs.Boards.{lender_of};
 ghost use Rattle.ring_handles.specs.Kinds.{a_client, a_conductor, a_reader, a_receiver};
-ghost use Rattle.ring_handles.specs.Seating.{IsUnheard, lends_client, lends_reader, lends_receiver, IsForeign};
-ghost use Rattle.ring_handles.specs.Seating.{LendsReader, LendsReceiver, TakesClient, TakesReader, TakesReceiver};
-ghost use Rattle.ring_handles.specs.Seating.{WhyNotSeated};
+ghost use Rattle.ring_handles.specs.Seating.{IsUnheard, IsForeign, IsOfThisConductor, LendsReader, LendsReceiver};
+ghost use Rattle.ring_handles.specs.Seating.{TakesClient, TakesReader, TakesReceiver, WhyNotSeated};
+ghost use Rattle.std.specs.Prelude.{Some};
 
 use crate::work_on::{join_into, make_into};
 use ring_handles::Handle;
@@ -46,8 +47,9 @@ pub extern "C" fn felter_conductor_join(
     conductor: &mut Handle,
     client: &mut Handle,
 ) -> i32
-    requires { AreOfOneConductor a_client lends_client conductor.old.held client.old.held }
-    ensures { JoinsInto a_conductor a_client TakesClient (λ c k code. IsForeign c (lends_client k) code)
+    requires { WhereBoth a_conductor a_client (λ c k. IsOfThisConductor c k.identity (Some k.end.shared))
+        conductor.old.held client.old.held }
+    ensures { JoinsInto a_conductor a_client TakesClient (λ c k. IsForeign c k.identity (Some k.end.shared))
         conductor.old.held client.old.held conductor.new.held client.new.held result }
 {
     join_into!(conductor, client, alloc, Conductor(side), Client(joining) => side.join(joining))
@@ -61,8 +63,9 @@ pub extern "C" fn felter_conductor_join_receiver(
     conductor: &mut Handle,
     receiver: &mut Handle,
 ) -> i32
-    requires { AreOfOneConductor a_receiver lends_receiver conductor.old.held receiver.old.held }
-    ensures { JoinsInto a_conductor a_receiver TakesReceiver (λ c r code. IsForeign c (lends_receiver r) code)
+    requires { WhereBoth a_conductor a_receiver (λ c r. IsOfThisConductor c r.identity (lender_of r)) conductor.old.held
+        receiver.old.held }
+    ensures { JoinsInto a_conductor a_receiver TakesReceiver (λ c r. IsForeign c r.identity (lender_of r))
         conductor.old.held receiver.old.held conductor.new.held receiver.new.held result }
 {
     join_into!(conductor, receiver, alloc, Conductor(side), Receiver(joining) => side.join_receiver(joining))
@@ -76,9 +79,10 @@ pub extern "C" fn felter_conductor_join_reader(
     conductor: &mut Handle,
     reader: &mut Handle,
 ) -> i32
-    requires { AreOfOneConductor a_reader lends_reader conductor.old.held reader.old.held }
-    ensures { JoinsInto a_conductor a_reader TakesReader (λ c r code. IsForeign c (lends_reader r) code)
-        conductor.old.held reader.old.held conductor.new.held reader.new.held result }
+    requires { WhereBoth a_conductor a_reader (λ c r. IsOfThisConductor c r.identity r.end.lender) conductor.old.held
+        reader.old.held }
+    ensures { JoinsInto a_conductor a_reader TakesReader (λ c r. IsForeign c r.identity r.end.lender) conductor.old.held
+        reader.old.held conductor.new.held reader.new.held result }
 {
     join_into!(conductor, reader, alloc, Conductor(side), Reader(joining) => side.join_reader(joining))
 }

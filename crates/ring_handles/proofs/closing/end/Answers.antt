@@ -9,7 +9,7 @@ pub returns : goal.returns
 returns g c =
     let out = c.in-Ok.ensures.rest in
     let cs = claims_of c.args.producer in
-    let settled = none_open cs (none_is_open _ _ c.requires.ready) in
+    let settled = none_open cs (none_is_open _ _ _ c.requires.ready) in
     let all = drained _ _ _ _ _ out settled.0 c.drain.result (λ g has closed. (c.drain.ensures.whole g has closed).0)
     in
     let whole = c.in-Ok.ensures.whole in
