@@ -3,7 +3,7 @@ use Rattle.ring_layout.specs.declared.message.Message.{Message}
 use Rattle.ring_rings.specs.{declared.ring.Consumer.Consumer, declared.ring.Producer.Producer, Reading.messages_of}
 use Rattle.ring_rings.specs.{Ring.received, Ring.sent, Ring.AreMerged, Ring.IsWhole, Seats.taken_of}
 use Rattle.ring_board.specs.declared.board.CopyReceiver.{CopyReceiver}
-use Rattle.ring_board.specs.{Board.copied, Board.subscribed_at, declared.shared.view.View.View as BoardView, Views.Sat}
+use Rattle.ring_board.specs.{Board.copied, Board.subscribed_at, declared.shared.view.View.View as BoardView}
 use Rattle.ring_counters.specs.{declared.manager.CountersManager.CountersManager, Manager.registry_of, Manager.writes_of}
 use Rattle.ring_service.specs.Account.{Account, account_of, messages_in, reply_message}
 use Rattle.ring_service.specs.{Asking.receiver_of, Finishing.replies_of, declared.conductor.Conductor.Conductor}
