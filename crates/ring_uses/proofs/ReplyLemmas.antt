@@ -1,13 +1,20 @@
 -- One request, and its reply.
-use Rattle.std.proofs.Common.{◌≡◌, ◌∙◌, ℕ, zero, suc, List, [], ◌∷◌, ◌++◌, length, sym, ap, arith}
+use Rattle.std.proofs.Common.{◌≡◌, ◌∙◌, ℕ, zero, suc, List, [], ◌∷◌, ◌++◌, inl, inr, length, sym, ap, arith}
 use Rattle.std.proofs.Math.{Option.some, Option.some-injective, Option.some-ne-none, ListN.get_elem?}
 use Rattle.ring_layout.specs.declared.message.Message.{Message}
 use Rattle.ring_board.specs.declared.board.CopyReceiver.{CopyReceiver}
 use Rattle.ring_board.specs.{declared.shared.view.Record.Record, declared.shared.view.Taken.Taken, Runs.AreRuns}
 use Rattle.ring_board.specs.Board.{copied, lapped_count_of, new_copy}
+use Rattle.ring_rings.specs.Ring.{AreMerged}
 use Rattle.ring_protocol.specs.{declared.reply.Reply.Reply, Reply.spelling_of, Reply.type_id_of}
 use Rattle.ring_service.specs.{Account.messages_in, Account.reply_message, Service.CopiesMessage}
 use Rattle.ring_uses.specs.{Laps.messages_of, Reply.replies_to}
+
+-- what is merged with nothing is as it was
+pub merged_alone : {A : Type 0} (ys zs : List A) → AreMerged [] ys zs → zs ≡ ys
+merged_alone ys [] m = sym m.1
+merged_alone ys (z ∷ zs) (inl m) = let clash = m.1 in absurd cc
+merged_alone ys (z ∷ zs) (inr m) = ap (λ l. z ∷ l) (merged_alone m.0 zs m.2) ∙ sym m.1
 
 -- a reply that was received is the message of a transmitted record
 pub record IsTransmitted (records : List Record) (m : Message) : Type 0 where

@@ -5,7 +5,8 @@ use Rattle.ring_board.specs.Board.{copied}
 use Rattle.ring_rings.specs.{Reading.messages_of, Ring.IsWhole, Ring.sent}
 use Rattle.ring_protocol.specs.{declared.command.Request.TheVariants.Allocate, Command.with_id, Reply.correlation_id_of}
 use Rattle.ring_service.specs.Account.{account_of, fresh_account, messages_in, reply_message}
-use Rattle.ring_service.specs.{Conducting.received_of, Finishing.replies_of, Fold.at_moment, Service.command_message}
+use Rattle.ring_service.specs.{Asking.receiver_of, Conducting.received_of, Finishing.replies_of, Fold.at_moment}
+use Rattle.ring_service.specs.Service.{command_message}
 use Rattle.ring_uses.specs.{declared.reply.Answer.Answer, Laps.messages_of as copied_messages}
 
 -- the command that asks for a counter of type 1, with an empty key and the label `requests`
@@ -24,5 +25,5 @@ pub record IsAnswered (a : Answer) : Type 0 where
   pub whole : IsWhole (sent a.producer.value) (messages_of (received_of a.conductor.value)) a.rest
   pub replies : messages_in (replies_of a.conductor.value) ≡ replies_to (messages_of (received_of a.conductor.value))
   pub transmits : messages_in (replies_of a.conductor.value) ≡ reply_message a.reply ∷ []
-  pub copies : copied_messages (copied a.receiver.value) ≡ reply_message a.reply ∷ []
+  pub copies : copied_messages (copied (receiver_of a.client.value.client)) ≡ reply_message a.reply ∷ []
   pub correlated : correlation_id_of a.reply ≡ a.correlation

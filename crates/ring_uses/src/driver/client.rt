@@ -1,11 +1,10 @@
 //! A client of the conductor. It sends commands into the ring, and receives their replies from the broadcast buffer.
 ghost use Rattle.std.specs.Prelude.{◌≡◌};
-ghost use Rattle.ring_uses.specs.Driver.{IsCallerOf};
 
-use crate::driver::shared::Shared;
 use crossbeam_utils::Backoff;
+use ring_ends::ClientEnd;
 use ring_rings::{ClaimFault, TryFault};
-use ring_service::{Client, Polled, Reply, Request, SendFault};
+use ring_service::{Polled, Reply, Request, SendFault};
 use std::sync::Wait;
 
 /// The number of commands that are sent before the caller waits for their replies. The commands of two callers fill the
@@ -19,17 +18,17 @@ const BATCHES: u32 = 125;
 #[derive(Drop)]
 pub struct Caller {
     pub label: &'static str,
-    pub client: Client,
+    pub client: ClientEnd,
     /// The number of replies to its commands.
     pub replies: u32,
     /// The number of times that the client was lapped.
     pub laps: u32,
 }
 
-// Each call states that the caller's producer stays one of the ring, and its receiver one of the broadcast buffer.
+// Each call states that the caller stays a client of the same conductor.
 impl Caller {
     /// Returns a caller that has sent nothing yet.
-    pub fn new(label: &'static str, client: Client) -> Caller
+    pub fn new(label: &'static str, client: ClientEnd) -> Caller
         ensures { result.client ≡ client }
     {
         Caller {
@@ -42,14 +41,13 @@ impl Caller {
 
     /// Sends a command, and waits while the ring is full. Returns the correlation id, or `None` if the ring never takes
     /// the command.
-    fn send<R: Wait>(&mut self, rt: &R, on: &Shared, request: Request<&[u8]>) -> Option<u64>
-        requires { IsCallerOf on.now self.old }
-        ensures { IsCallerOf on.now self.new }
+    fn send<R: Wait>(&mut self, rt: &R, request: Request<&[u8]>) -> Option<u64>
+        ensures { self.new.client.shared ≡ self.old.client.shared }
     {
-        let correlation = self.client.next_correlation_id(&on.ring);
+        let correlation = self.client.next_correlation_id();
         let backoff = Backoff::new();
         for _ in rt.forever() {
-            let reason = match self.client.send_as(&on.ring, correlation, request) {
+            let reason = match self.client.send_as(correlation, request) {
                 Ok(_) => return Some(correlation),
                 Err(SendFault::Refused { reason, .. }) => reason,
                 Err(SendFault::TooLong) => return None,
@@ -68,13 +66,12 @@ impl Caller {
 
     /// Waits for the reply to the command with this correlation id. Returns `None` if replies were missed. The result
     /// of the command is then unknown.
-    fn hear<R: Wait>(&mut self, rt: &R, on: &Shared, correlation: u64) -> Option<Reply>
-        requires { IsCallerOf on.now self.old }
-        ensures { IsCallerOf on.now self.new }
+    fn hear<R: Wait>(&mut self, rt: &R, correlation: u64) -> Option<Reply>
+        ensures { self.new.client.shared ≡ self.old.client.shared }
     {
         let backoff = Backoff::new();
         for _ in rt.forever() {
-            match self.client.poll(&on.board, correlation) {
+            match self.client.poll(correlation) {
                 Polled::Answered(reply) => {
                     self.replies = self.replies.saturating_add(1);
                     return Some(reply);
@@ -93,48 +90,45 @@ impl Caller {
     }
 
     /// Sets the counter to the next numbers, one command for each, and then waits for their replies.
-    fn set_batch<R: Wait>(&mut self, rt: &R, on: &Shared, id: u32, first: i64) -> Option<()>
-        requires { IsCallerOf on.now self.old }
-        ensures { IsCallerOf on.now self.new }
+    fn set_batch<R: Wait>(&mut self, rt: &R, id: u32, first: i64) -> Option<()>
+        ensures { self.new.client.shared ≡ self.old.client.shared }
     {
         let mut sent = [0; BATCH];
         for (value, slot) in (first..).zip(sent.iter_mut()) {
-            *slot = self.send(rt, on, Request::Set { id, value })?;
+            *slot = self.send(rt, Request::Set { id, value })?;
         }
         for correlation in sent {
-            self.hear(rt, on, correlation)?;
+            self.hear(rt, correlation)?;
         }
         Some(())
     }
 
     /// Allocates a counter with the caller's label, and sets it to 1, 2 and so on.
-    fn count_up<R: Wait>(&mut self, rt: &R, on: &Shared) -> Option<()>
-        requires { IsCallerOf on.now self.old }
-        ensures { IsCallerOf on.now self.new }
+    fn count_up<R: Wait>(&mut self, rt: &R) -> Option<()>
+        ensures { self.new.client.shared ≡ self.old.client.shared }
     {
         let allocate: Request<&[u8]> = Request::Allocate {
             type_id: 1,
             key: &[],
             label: self.label.as_bytes(),
         };
-        let correlation = self.send(rt, on, allocate)?;
-        let Reply::Allocated { id, .. } = self.hear(rt, on, correlation)? else {
+        let correlation = self.send(rt, allocate)?;
+        let Reply::Allocated { id, .. } = self.hear(rt, correlation)? else {
             return None;
         };
         for batch in 0..BATCHES {
             let first = BATCH as u32 * batch + 1;
-            self.set_batch(rt, on, id, i64::from(first))?;
+            self.set_batch(rt, id, i64::from(first))?;
         }
         Some(())
     }
 
-    /// Runs the caller to its end. Its producer and its receiver always come back. If one of them were dropped on a
-    /// thread, it would be lost, and the conductor could never finish.
-    pub fn run<R: Wait>(mut self, rt: &R, on: &Shared) -> Caller
-        requires { IsCallerOf on.now self }
-        ensures { IsCallerOf on.now result }
+    /// Runs the caller to its end. Its client always comes back. If the client were dropped on a thread, the client
+    /// would be lost, and the conductor could never finish.
+    pub fn run<R: Wait>(mut self, rt: &R) -> Caller
+        ensures { result.client.shared ≡ self.client.shared }
     {
-        let _ = self.count_up(rt, on);
+        let _ = self.count_up(rt);
         self
     }
 }
