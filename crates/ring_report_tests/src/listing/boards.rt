@@ -1,4 +1,5 @@
 //! What is listed of boards.
+use crate::compare::same;
 use crate::listing::random::Numbers;
 use crate::listing::words::words_of;
 use ring_board::{Board, ClosedBoard};
@@ -19,7 +20,7 @@ pub fn transmitted(
         let len = (numbers.next() % 33) as usize;
         let body = [type_id.to_le_bytes()[0]; 32];
         let is_sent = board.transmit(&mut transmitter, type_id + 1, &body[..len]);
-        assert_eq!(rt; is_sent, Ok(()));
+        same(rt, is_sent, Ok(()));
     }
     board.close(transmitter).ok().expect(rt, "a closed board")
 }
@@ -61,7 +62,7 @@ fn listed_of(rt: &impl Abort, alloc: Global, closed: &ClosedBoard, sent: i32) ->
     for entry in board.records().expect(rt, "records") {
         assert!(rt; lap.goes_on(entry.expect(rt, "a record")), "another record");
     }
-    assert_eq!(rt; (lap.place, lap.last), (closed.tail(), sent));
+    same(rt, (lap.place, lap.last), (closed.tail(), sent));
     lap.listed
 }
 
@@ -116,9 +117,13 @@ static REFUSALS: [(u64, u64, u64, BoardFinding); 2] = [
 #[test]
 fn names_what_is_wrong(rt: HostRuntime) {
     let too_few = BoardFinding::BadSize { words: 47 };
-    assert_eq!(rt; refusal(&[0; 47]), Some(too_few));
+    same(&rt, refusal(&[0; 47]), Some(too_few));
     for (intent, tail, latest, finding) in REFUSALS {
-        assert_eq!(rt; refusal(&words_with(intent, tail, latest)), Some(finding));
+        same(
+            &rt,
+            refusal(&words_with(intent, tail, latest)),
+            Some(finding),
+        );
     }
 }
 
@@ -139,9 +144,9 @@ fn nothing_comes_behind_a_finding(rt: HostRuntime) {
         index: 0,
         length: 0,
     };
-    assert_eq!(rt; only_finding(&board), Some(finding));
+    same(&rt, only_finding(&board), Some(finding));
     let outside = BoardFinding::OutsideOfRecords { position: 8 };
-    assert_eq!(rt; board.records_from(8).err(), Some(outside));
+    same(&rt, board.records_from(8).err(), Some(outside));
 }
 
 /// What came of words.
