@@ -216,7 +216,7 @@ def run_with(runs, other, rows):
 def from_c(runs):
     """Calls of felter.h in times the plain calls, by the length of a body."""
     run = run_with(runs, "felter", C_ROWS)
-    rows = [row for row in C_LENGTH_ROWS if any(run.ns(row[1], row[2], size, 1, "ns") for size in row[4])]
+    rows = [row for row in C_LENGTH_ROWS if any(run.against(row[3], row[1], row[2], size, 1, "ns") for size in row[4])]
     if run is not runs["sets"]:
         yield "The figures of this table were measured separately. [bench/RESULTS.md](../bench/RESULTS.md) says how."
         yield ""
