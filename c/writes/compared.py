@@ -62,7 +62,7 @@ def differences_of_numbers(top, header):
     yield from differences("WorkStop of python/felter", stops, numbers_of_python(conductor, "WorkStop"))
     yield from differences("ReplyKind of python/felter", kinds, numbers_of_python(conductor, "ReplyKind"))
     yield from differences("c/tests", set(codes), expected_in_tests(top))
-    path = "crates/ring_handles/src/conductor/calls.rt"
+    path = "crates/ring_handles/src/conductor.rt"
     yield from differences(path, stops, matched(text(path), r"WorkStop::(?P<name>\w+) => (?P<number>\d+),"))
     path = "crates/ring_protocol/src/reply.rt"
     yield from differences(path, kinds, matched(text(path), r"pub const (?P<name>\w+): i32 = (?P<number>\d+);"))
