@@ -2,6 +2,7 @@
 ghost use Rattle.std.specs.Thread.{IsSync};
 ghost use Rattle.ring_adders.specs.Adders.{IsAdderOf};
 
+use crate::compare::same;
 use ring_adders::{Adder, SharedCounter};
 use std::process::Abort;
 use std::test::*;
@@ -51,8 +52,26 @@ fn totals_of_threads_are_exact(rt: HostRuntime) {
     for _round in 0..50u32 {
         let (counter, adder) = SharedCounter::new(rt.alloc()).expect(&rt, "a counter");
         let mut adder = adds_on_threads(&rt, &counter, adder, 2000);
-        assert_eq!(rt; counter.value(&mut adder), 4000);
-        assert_eq!(rt; adder.shares(), 65536);
+        same(&rt, counter.value(&mut adder), 4000);
+        same(&rt, adder.shares(), 65536);
+    }
+}
+
+/// Amounts, each with the value before it is added.
+static WRAPS: [(i64, i64); 4] = [
+    (i64::MAX, 0),
+    (1, i64::MAX),
+    (-1, i64::MIN),
+    (i64::MIN, i64::MAX),
+];
+
+/// Adds amounts, and tests the value before each.
+fn wraps(rt: &impl Abort, counter: &SharedCounter, adder: &mut Adder)
+    requires { IsAdderOf counter.now adder.old }
+    ensures { IsAdderOf counter.now adder.new }
+{
+    for (amount, before) in &WRAPS {
+        same(rt, counter.add(adder, *amount), *before);
     }
 }
 
@@ -60,15 +79,8 @@ fn totals_of_threads_are_exact(rt: HostRuntime) {
 fn sums_wrap_and_the_value_before_is_returned(rt: HostRuntime) {
     let (counter, mut adder) = SharedCounter::new(rt.alloc()).expect(&rt, "a counter");
     let mut other = counter.split(&mut adder).expect(&rt, "an adder");
-    for (amount, before) in [
-        (i64::MAX, 0),
-        (1, i64::MAX),
-        (-1, i64::MIN),
-        (i64::MIN, i64::MAX),
-    ] {
-        assert_eq!(rt; counter.add(&mut other, amount), before);
-    }
-    assert_eq!(rt; counter.value(&mut adder), -1);
-    assert!(rt; counter.split(&mut other).is_err());
-    assert_eq!(rt; (adder.shares(), other.shares()), (65535, 1));
+    wraps(&rt, &counter, &mut other);
+    same(&rt, counter.value(&mut adder), -1);
+    same(&rt, counter.split(&mut other).is_err(), true);
+    same(&rt, (adder.shares(), other.shares()), (65535, 1));
 }

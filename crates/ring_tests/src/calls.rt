@@ -1,4 +1,5 @@
 //! Tables of calls, with what each call returns.
+use crate::compare::same_at;
 use std::fmt::Debug;
 use std::process::Abort;
 
@@ -10,7 +11,7 @@ pub trait Plays<C: Copy, S: Copy + PartialEq + Debug> {
     /// Makes the calls in order, and tests what each returns.
     fn plays(&mut self, rt: &impl Abort, calls: &[(C, S)]) {
         for (at, (call, said)) in calls.iter().enumerate() {
-            assert_eq!(rt; self.call(*call), *said, "call {at}");
+            same_at(rt, at, self.call(*call), *said);
         }
     }
 }

@@ -8,16 +8,10 @@ mod board;
 #[cfg(test)]
 mod calls;
 #[cfg(test)]
+mod compare;
+#[cfg(test)]
 mod conductor;
 #[cfg(test)]
 mod counters;
 #[cfg(test)]
-mod play;
-#[cfg(test)]
-mod rings;
-#[cfg(test)]
-mod script;
-#[cfg(test)]
 mod texts;
-#[cfg(test)]
-mod words;

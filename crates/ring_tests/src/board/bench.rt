@@ -1,8 +1,11 @@
 //! A board with its transmitter and a receiver of each kind, on which calls are made.
+ghost use Rattle.std.specs.Prelude.{◌≡◌};
+ghost use Rattle.ring_board.specs.Seats.{IsReceiverOf, IsTransmitterOf};
+
 use crate::calls::Plays;
 use ring_board::{
-    Begun, Board, ClosedBoard, CopyReceiver, Filled, Lapped, RawRecord, Receiver, TransmitFault,
-    Transmitter,
+    Begun, Board, BoardCloseRefused, ClosedBoard, CopyReceiver, Filled, Lapped, RawRecord,
+    Receiver, TransmitFault, Transmitter,
 };
 use std::alloc::Global;
 use std::marker::Model;
@@ -65,6 +68,43 @@ pub enum Answer {
     Body([u8; 12]),
     Valid(bool),
     Number(u64),
+}
+
+/// A board of this capacity with its transmitter.
+pub fn opened(rt: &impl Abort, alloc: Global, capacity: u32) -> (Board, Transmitter)
+    ensures { IsTransmitterOf result.0 result.1 }
+{
+    Board::new(alloc, capacity).expect(rt, "a board")
+}
+
+/// A copying receiver.
+pub fn subscribed(
+    rt: &impl Abort,
+    alloc: Global,
+    board: &Board,
+    transmitter: &mut Transmitter,
+) -> CopyReceiver
+    requires { IsTransmitterOf board.now transmitter.old }
+    ensures transmitter { IsTransmitterOf board.now transmitter.new }
+    ensures receiver { IsReceiverOf board.now result }
+{
+    board.subscribe(alloc, transmitter).expect(rt, "a receiver")
+}
+
+/// Why a board does not close, with the board and its transmitter.
+pub fn refused(rt: &impl Abort, board: Board, transmitter: Transmitter) -> BoardCloseRefused
+    requires { IsTransmitterOf board transmitter }
+    ensures board { result.board ≡ board }
+    ensures transmitter { result.transmitter ≡ transmitter }
+{
+    board.close(transmitter).err().expect(rt, "a refusal")
+}
+
+/// What a board holds that closes.
+pub fn closed(rt: &impl Abort, board: Board, transmitter: Transmitter) -> ClosedBoard
+    requires { IsTransmitterOf board transmitter }
+{
+    board.close(transmitter).ok().expect(rt, "a closed board")
 }
 
 /// A board with its seats.

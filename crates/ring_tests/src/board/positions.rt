@@ -5,6 +5,7 @@ use crate::board::bench::Call::{
     SubscribeRaw, Tail,
 };
 use crate::board::bench::{Answer, Call, played, plays};
+use crate::compare::same;
 use ring_board::ClosedBoard;
 
 #[test]
@@ -70,6 +71,6 @@ fn trailer_words_without_a_name_are_zero(rt: HostRuntime) {
     for count in [0, 9] {
         let bench = played(&rt, rt.alloc(), 256, 1024, &[(Send(count, 32), Done)]);
         let closed = bench.close().expect(&rt, "a closed board");
-        assert!(rt; has_unnamed_zeros(&closed), "{count}");
+        same(&rt, (count, has_unnamed_zeros(&closed)), (count, true));
     }
 }

@@ -4,15 +4,17 @@ ghost use mathlib.Core.Option.{some};
 ghost use lib.ListN.{get_elem?};
 ghost use Rattle.ring_board.specs.declared.{shared.view.Taken.Taken, board.RawRecord.RawRecord};
 ghost use Rattle.ring_board.specs.Board.{returned};
-ghost use Rattle.ring_board.specs.Seats.{IsRawOf, IsAnsweredRecord, raw_view, place_of, len_of};
+ghost use Rattle.ring_board.specs.Seats.{IsRawOf, IsAnsweredRecord, IsTransmitterOf, raw_view, place_of, len_of};
 
 use crate::board::bench::Answer::{Body, Done, Lapped, Nothing, Number, Record, Valid};
 use crate::board::bench::Call::{
     Begin, JoinRaw, LoadBody, PassNext, RawLappedCount, ReceiveNext, Send, Shares, SubscribeRaw,
     Transmit, Validate,
 };
-use crate::board::bench::{Answer, Call, plays};
-use ring_board::{Board, NoShares, RawRecord, Receiver, ReceiversOut, SubscribeFault};
+use crate::board::bench::{Answer, Call, opened, plays, refused};
+use crate::compare::same;
+use ring_board::{Board, NoShares, RawRecord, Receiver, ReceiversOut, SubscribeFault, Transmitter};
+use std::process::Abort;
 
 /// Loads the body of a record and validates it. With true, the bytes are the body that was transmitted: that of the
 /// record's copy, which `join_raw` says is an entry of the list.
@@ -28,20 +30,33 @@ fn is_loaded_whole(board: &Board, receiver: &mut Receiver, raw: &RawRecord, out:
     receiver.validate(board, raw)
 }
 
-#[test]
-fn a_body_is_whole_while_it_is_valid(rt: HostRuntime) {
-    let (board, mut transmitter) = Board::new(rt.alloc(), 256).expect(&rt, "a board");
-    let mut receiver = board
-        .subscribe_raw(&mut transmitter)
-        .expect(&rt, "a receiver");
-    assert_eq!(rt; board.transmit(&mut transmitter, 1, &[7; 24]), Ok(()));
-    let Ok(Some(first)) = receiver.receive_next(&board) else {
+/// Transmits a message, and tests that a receiver loads its body whole.
+fn loads_whole(
+    rt: &impl Abort,
+    board: &Board,
+    transmitter: &mut Transmitter,
+    receiver: &mut Receiver,
+)
+    requires transmitter { IsTransmitterOf board.now transmitter.old }
+    requires receiver { IsRawOf board.now receiver.old }
+{
+    same(rt, board.transmit(transmitter, 1, &[7; 24]), Ok(()));
+    let Ok(Some(first)) = receiver.receive_next(board) else {
         panic!(rt; "no record");
     };
     let mut out = [0; 24];
     assert!(rt; first.len() <= out.len());
-    assert!(rt; is_loaded_whole(&board, &mut receiver, &first, &mut out));
-    assert_eq!(rt; out, [7; 24]);
+    same(rt, is_loaded_whole(board, receiver, &first, &mut out), true);
+    same(rt, out, [7; 24]);
+}
+
+#[test]
+fn a_body_is_whole_while_it_is_valid(rt: HostRuntime) {
+    let (board, mut transmitter) = opened(&rt, rt.alloc(), 256);
+    let mut receiver = board
+        .subscribe_raw(&mut transmitter)
+        .expect(&rt, "a receiver");
+    loads_whole(&rt, &board, &mut transmitter, &mut receiver);
 }
 
 /// The transmission that begins reaches the first record, and not the second.
@@ -127,15 +142,24 @@ fn raw_receivers_are_lapped_too(rt: HostRuntime) {
     plays(&rt, rt.alloc(), 0, &LAPPED);
 }
 
+/// Takes all shares but one by receivers that are lost.
+fn take_shares(rt: &impl Abort, board: &Board, transmitter: &mut Transmitter)
+    requires { IsTransmitterOf board.now transmitter.old }
+    ensures { IsTransmitterOf board.now transmitter.new }
+{
+    'shares: for _ in 0..65535 {
+        assert!(rt; board.subscribe_raw(transmitter).is_ok());
+    }
+}
+
 #[test]
 fn all_shares_but_one_go_to_receivers(rt: HostRuntime) {
-    let (board, mut transmitter) = Board::new(rt.alloc(), 256).expect(&rt, "a board");
-    'shares: for _ in 0..65535 {
-        assert!(rt; board.subscribe_raw(&mut transmitter).is_ok());
-    }
-    assert_eq!(rt; board.subscribe_raw(&mut transmitter).err(), Some(NoShares));
+    let (board, mut transmitter) = opened(&rt, rt.alloc(), 256);
+    take_shares(&rt, &board, &mut transmitter);
+    let raw = board.subscribe_raw(&mut transmitter).err();
+    same(&rt, raw, Some(NoShares));
     let copying = board.subscribe(rt.alloc(), &mut transmitter).err();
-    assert_eq!(rt; copying, Some(SubscribeFault::NoShares));
-    let refused = board.close(transmitter).err().expect(&rt, "a refusal");
-    assert_eq!(rt; refused.reason, ReceiversOut { receivers: 65535 });
+    same(&rt, copying, Some(SubscribeFault::NoShares));
+    let refused = refused(&rt, board, transmitter);
+    same(&rt, refused.reason, ReceiversOut { receivers: 65535 });
 }

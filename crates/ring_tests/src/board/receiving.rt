@@ -4,8 +4,10 @@ use crate::board::bench::Call::{
     Begin, Fill, Join, LappedCount, PassNext, Publish, Receive, Send, Shares, Subscribe,
     SubscribeRaw, Transmit,
 };
-use crate::board::bench::{Answer, Call, plays};
-use ring_board::{Board, ReceiversOut};
+use crate::board::bench::{Answer, Call, closed, opened, plays, refused, subscribed};
+use crate::compare::same;
+use ring_board::{ClosedBoard, ReceiversOut};
+use std::process::Abort;
 
 static LAPPED: [(Call<'static>, Answer); 6] = [
     (Subscribe, Done),
@@ -135,35 +137,31 @@ fn a_transmission_kept_aside_holds_nothing_up(rt: HostRuntime) {
 
 #[test]
 fn closes_once_receivers_are_back(rt: HostRuntime) {
-    let (board, mut transmitter) = Board::new(rt.alloc(), 256).expect(&rt, "a board");
-    let receiver = board
-        .subscribe(rt.alloc(), &mut transmitter)
-        .expect(&rt, "a receiver");
-    let refused = board.close(transmitter).err().expect(&rt, "a refusal");
-    assert_eq!(rt; refused.reason, ReceiversOut { receivers: 1 });
-    let board = refused.board;
-    transmitter = refused.transmitter;
-    board.join(&mut transmitter, receiver);
-    let closed = board.close(transmitter).ok().expect(&rt, "a closed board");
-    assert_eq!(rt; closed.tail(), 0);
+    let (board, mut transmitter) = opened(&rt, rt.alloc(), 256);
+    let receiver = subscribed(&rt, rt.alloc(), &board, &mut transmitter);
+    let mut back = refused(&rt, board, transmitter);
+    same(&rt, back.reason, ReceiversOut { receivers: 1 });
+    back.board.join(&mut back.transmitter, receiver);
+    let closed = closed(&rt, back.board, back.transmitter);
+    same(&rt, closed.tail(), 0);
+}
+
+/// Tests what a board holds on which one message of five bytes 7 was transmitted.
+fn has_five(rt: &impl Abort, closed: &ClosedBoard) {
+    let positions = [closed.intent(), closed.tail(), closed.latest()];
+    same(rt, positions, [16, 16, 0]);
+    let words = [closed.word(0), closed.word(1), closed.word(2)];
+    let wanted = [Some(0x0000_0003_0000_000D), Some(0x07_0707_0707), Some(0)];
+    same(rt, words, wanted);
 }
 
 #[test]
 fn is_rescued_though_receivers_are_lost(rt: HostRuntime) {
-    let (board, mut transmitter) = Board::new(rt.alloc(), 256).expect(&rt, "a board");
-    let lost = board
-        .subscribe(rt.alloc(), &mut transmitter)
-        .expect(&rt, "a receiver");
+    let (board, mut transmitter) = opened(&rt, rt.alloc(), 256);
+    let lost = subscribed(&rt, rt.alloc(), &board, &mut transmitter);
     let raw = board.subscribe_raw(&mut transmitter).expect(&rt, "a share");
     let sent = board.transmit(&mut transmitter, 3, &[7; 5]);
-    assert_eq!(rt; sent, Ok(()));
+    same(&rt, sent, Ok(()));
     let _lost = (lost, raw);
-    let closed = board.rescue(transmitter);
-    assert_eq!(rt;
-        [closed.intent(), closed.tail(), closed.latest()],
-        [16, 16, 0]
-    );
-    let words = [closed.word(0), closed.word(1), closed.word(2)];
-    let wanted = [0x0000_0003_0000_000D, 0x07_0707_0707, 0];
-    assert_eq!(rt; words, wanted.map(Some));
+    has_five(&rt, &board.rescue(transmitter));
 }

@@ -1,6 +1,8 @@
 ghost use Rattle.std.specs.Thread.{IsSync};
 ghost use Rattle.ring_board.specs.Seats.{IsTransmitterOf, IsReceiverOf};
 
+use crate::board::bench::{closed, opened, subscribed};
+use crate::compare::same;
 use ring_board::{Board, CopyReceiver, Transmitter};
 use std::thread::{Threads, join};
 
@@ -130,18 +132,14 @@ fn run<R: Threads + Sync>(
 
 #[test]
 fn copies_are_whole_and_in_order(rt: HostRuntime) {
-    let (board, mut transmitter) = Board::new(rt.alloc(), 4096).expect(&rt, "a board");
-    let one = board
-        .subscribe(rt.alloc(), &mut transmitter)
-        .expect(&rt, "a receiver");
-    let two = board
-        .subscribe(rt.alloc(), &mut transmitter)
-        .expect(&rt, "a receiver");
+    let (board, mut transmitter) = opened(&rt, rt.alloc(), 4096);
+    let one = subscribed(&rt, rt.alloc(), &board, &mut transmitter);
+    let two = subscribed(&rt, rt.alloc(), &board, &mut transmitter);
     let (mut transmitter, (one, two)) = run(&rt, &board, transmitter, one, two);
-    assert!(rt; one.right && two.right);
-    assert_eq!(rt; [one.last, two.last], [Some(BODIES - 1); 2]);
+    same(&rt, (one.right, one.last), (true, Some(BODIES - 1)));
+    same(&rt, (two.right, two.last), (true, Some(BODIES - 1)));
     board.join(&mut transmitter, one.receiver);
     board.join(&mut transmitter, two.receiver);
-    let closed = board.close(transmitter).ok().expect(&rt, "a closed board");
-    assert_eq!(rt; closed.tail(), closed.intent());
+    let closed = closed(&rt, board, transmitter);
+    same(&rt, closed.tail(), closed.intent());
 }

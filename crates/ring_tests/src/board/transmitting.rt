@@ -3,6 +3,7 @@ use crate::board::bench::Answer::{Done, Number, Refused};
 use crate::board::bench::Call::{Begin, Capacity, Fill, Publish, Send, Shares, Transmit};
 use crate::board::bench::{Answer, Bench, Call, played, plays};
 use crate::calls::Plays;
+use crate::compare::{same, same_at};
 use ring_board::{Board, ClosedBoard, MakeFault, TransmitFault};
 use std::alloc::Global;
 use std::process::Abort;
@@ -23,30 +24,36 @@ fn transmitted_in_steps(rt: &impl Abort, alloc: Global, count: u32) -> ClosedBoa
     bench.close().expect(rt, "a closed board")
 }
 
+/// Tests intent, tail and latest place.
+fn is_at(rt: &impl Abort, closed: &ClosedBoard, positions: [u64; 3]) {
+    same(
+        rt,
+        [closed.intent(), closed.tail(), closed.latest()],
+        positions,
+    );
+}
+
 #[test]
 fn six_records_lie_behind_each_other(rt: HostRuntime) {
     let closed = transmitted(&rt, rt.alloc(), 6);
-    assert_eq!(rt;
-        [closed.intent(), closed.tail(), closed.latest()],
-        [240, 240, 200]
-    );
-    assert_eq!(rt; closed.word(48), None);
+    is_at(&rt, &closed, [240, 240, 200]);
+    same(&rt, closed.word(48), None);
 }
+
+/// Words 30, 0 and 1.
+static WRAPPED: [(usize, u64); 3] = [
+    (30, 0xFFFF_FFFF_0000_0010),
+    (0, 0x0000_0001_0000_0028),
+    (1, 0x0707_0707_0707_0707),
+];
 
 #[test]
 fn a_seventh_wraps_behind_padding(rt: HostRuntime) {
     let closed = transmitted(&rt, rt.alloc(), 7);
-    assert_eq!(rt;
-        [closed.intent(), closed.tail(), closed.latest()],
-        [296, 296, 256]
-    );
-    let words = [closed.word(30), closed.word(0), closed.word(1)];
-    let wanted = [
-        0xFFFF_FFFF_0000_0010,
-        0x0000_0001_0000_0028,
-        0x0707_0707_0707_0707,
-    ];
-    assert_eq!(rt; words, wanted.map(Some));
+    is_at(&rt, &closed, [296, 296, 256]);
+    for (index, word) in WRAPPED {
+        same_at(&rt, index, closed.word(index), Some(word));
+    }
 }
 
 #[test]
@@ -54,7 +61,7 @@ fn steps_store_the_same_words(rt: HostRuntime) {
     let whole = transmitted(&rt, rt.alloc(), 7);
     let steps = transmitted_in_steps(&rt, rt.alloc(), 7);
     for index in 0..49 {
-        assert_eq!(rt; steps.word(index), whole.word(index), "at {index}");
+        same_at(&rt, index, steps.word(index), whole.word(index));
     }
 }
 
@@ -95,15 +102,17 @@ fn ends_at_the_last_position(rt: HostRuntime) {
 #[test]
 fn lawful_capacities_and_starts(rt: HostRuntime) {
     for capacity in [0, 128, 300, 33554432] {
-        assert_eq!(rt;
+        same(
+            &rt,
             Board::new(rt.alloc(), capacity).err(),
-            Some(MakeFault::BadCapacity)
+            Some(MakeFault::BadCapacity),
         );
     }
     for start in [128, 4611686018427388160] {
-        assert_eq!(rt;
+        same(
+            &rt,
             Board::new_at(rt.alloc(), 256, start).err(),
-            Some(MakeFault::BadStart)
+            Some(MakeFault::BadStart),
         );
     }
 }

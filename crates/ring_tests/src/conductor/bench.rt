@@ -192,5 +192,15 @@ impl<'a, K: Kind, B: Bodies> Plays<Call<'a>, Answer> for Bench<K, B> {
 
 /// Makes calls on a conductor of four counters over a ring of this kind, and tests what each answers.
 pub fn plays<K: Kind>(rt: &impl Abort, alloc: Global, calls: &[(Call<'_>, Answer)]) {
-    Bench::<K>::new(rt, alloc, 4).plays(rt, calls);
+    plays_from::<K>(rt, alloc, 0, calls);
+}
+
+/// The same with a board that begins at this position.
+pub fn plays_from<K: Kind>(
+    rt: &impl Abort,
+    alloc: Global,
+    start: u64,
+    calls: &[(Call<'_>, Answer)],
+) {
+    Bench::<K>::new_at(rt, alloc, 4, start).plays(rt, calls);
 }

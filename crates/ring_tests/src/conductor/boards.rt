@@ -1,8 +1,9 @@
 //! The conductor at the end of its board.
 use crate::calls::Plays;
+use crate::compare::same;
 use crate::conductor::bench::Answer::{Done, Value, Worked};
 use crate::conductor::bench::Call::{Send, Work};
-use crate::conductor::bench::{Answer, Bench, Call};
+use crate::conductor::bench::{Answer, Bench, Call, plays_from};
 use ring_rings::ManyToOne;
 use ring_service::{Command, Finished, WorkStop};
 use std::alloc::Global;
@@ -39,7 +40,7 @@ static NO_ROOM: [(Call<'static>, Answer); 2] = [
 #[test]
 fn leaves_a_command_where_the_board_is_at_its_end(rt: HostRuntime) {
     let left = leaves(&rt, rt.alloc(), 4611686018427387904, &NO_ROOM);
-    assert_eq!(rt; left, (0, 4611686018427387904, 1));
+    same(&rt, left, (0, 4611686018427387904, 1));
 }
 
 const FREE: Command<'static> = Command::Free {
@@ -56,7 +57,7 @@ static UP_TO_THE_END: [(Call<'static>, Answer); 3] = [
 #[test]
 fn answers_up_to_the_end_of_the_board(rt: HostRuntime) {
     let left = leaves(&rt, rt.alloc(), 4611686018427387648, &UP_TO_THE_END);
-    assert_eq!(rt; left, (10, 4611686018427387888, 1));
+    same(&rt, left, (10, 4611686018427387888, 1));
 }
 
 /// Nine commands to free, one to allocate and one to set. Ten replies of 12 bytes leave 16 bytes, which one of 8 would
@@ -92,5 +93,5 @@ static SHORTER: [(Call<'static>, Answer); 3] = [
 
 #[test]
 fn a_command_waits_also_where_its_shorter_reply_would_fit(rt: HostRuntime) {
-    Bench::<ManyToOne>::new_at(&rt, rt.alloc(), 4, 4611686018427387648).plays(&rt, &SHORTER);
+    plays_from::<ManyToOne>(&rt, rt.alloc(), 4611686018427387648, &SHORTER);
 }

@@ -2,6 +2,7 @@
 ghost use Rattle.ring_board.specs.Seats.{IsTransmitterOf};
 
 use crate::calls::Plays;
+use crate::compare::same;
 use crate::conductor::talk::Call::{Poll, Send, SendAs, Work};
 use crate::conductor::talk::Said::{Full, Id, Sent, TooLong};
 use crate::conductor::talk::{Call, Said, Talk, plays};
@@ -80,8 +81,8 @@ fn received<K: Kind>(rt: &impl Abort, alloc: Global, calls: &[(Call<'_>, Said)])
 
 #[test]
 fn each_request_is_the_command_with_the_drawn_id(rt: HostRuntime) {
-    assert_eq!(rt; received::<ManyToOne>(&rt, rt.alloc(), &ASKED), 5);
-    assert_eq!(rt; received::<OneToOne>(&rt, rt.alloc(), &ASKED), 5);
+    same(&rt, received::<ManyToOne>(&rt, rt.alloc(), &ASKED), 5);
+    same(&rt, received::<OneToOne>(&rt, rt.alloc(), &ASKED), 5);
 }
 
 /// A command to set, whose record takes 32 bytes of the ring.
@@ -276,12 +277,12 @@ fn transmits(rt: &impl Abort, board: &Board, transmitter: &mut Transmitter)
         correlation: 3,
         id: 1,
     };
-    assert_eq!(rt; encode_command(&free, &mut body), Some(12));
+    same(rt, encode_command(&free, &mut body), Some(12));
     let sent = [
         board.transmit(transmitter, 102, &body[..12]),
         board.transmit(transmitter, 102, &body[..8]),
     ];
-    assert_eq!(rt; sent, [Ok(()), Ok(())]);
+    same(rt, sent, [Ok(()), Ok(())]);
 }
 
 #[test]
@@ -295,5 +296,5 @@ fn what_is_no_reply_is_told_apart(rt: HostRuntime) {
     let mut client = Client::new(producer, receiver);
     let polled = [client.poll(&board, 3), client.poll(&board, 3)];
     let done = Reply::Done { correlation: 3 };
-    assert_eq!(rt; polled, [Polled::NoReply, Polled::Answered(done)]);
+    same(&rt, polled, [Polled::NoReply, Polled::Answered(done)]);
 }

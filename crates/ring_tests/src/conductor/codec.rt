@@ -1,4 +1,5 @@
 //! Commands and replies as bytes.
+use crate::compare::same;
 use ring_service::Command::{Allocate, AllocateOwned, Close, Free, Set};
 use ring_service::{
     Bad, Command, Reply, decode_command, decode_reply, encode_command, encode_reply,
@@ -64,9 +65,9 @@ static COMMANDS: [(Command<'static>, i32, &'static [u8]); 5] = [
 fn is_spelled(rt: &impl Abort, command: &Command<'_>, type_id: i32, bytes: &[u8]) {
     let mut out = [7; 40];
     let len = encode_command(command, &mut out);
-    assert_eq!(rt; (command.type_id(), len), (type_id, Some(bytes.len())));
+    same(rt, (command.type_id(), len), (type_id, Some(bytes.len())));
     assert!(rt; begins_with(&out, bytes));
-    assert_eq!(rt; decode_command(type_id, bytes), Ok(*command));
+    same(rt, decode_command(type_id, bytes), Ok(*command));
 }
 
 /// Tests whether these are the first bytes, and the rest are 7.
@@ -89,7 +90,7 @@ fn nothing_is_written_where_it_does_not_fit(rt: HostRuntime) {
     };
     let mut out = [7; 11];
     let len = encode_command(&free, &mut out);
-    assert_eq!(rt; (len, out), (None, [7; 11]));
+    same(&rt, (len, out), (None, [7; 11]));
 }
 
 /// Type ids and bytes that are no command.
@@ -167,16 +168,13 @@ static NO_COMMANDS: [(i32, &'static [u8], Bad); 12] = [
 #[test]
 fn other_bytes_are_no_message(rt: HostRuntime) {
     for (type_id, bytes, bad) in NO_COMMANDS.iter() {
-        assert_eq!(rt;
-            decode_command(*type_id, bytes),
-            Err(*bad),
-            "type id {type_id}"
-        );
+        let found = decode_command(*type_id, bytes);
+        same(&rt, (*type_id, found), (*type_id, Err(*bad)));
     }
     let done = [1, 0, 0, 0, 0, 0, 0, 0, 2, 0, 0, 0];
     for type_id in [100, 105] {
         let unknown = Bad::UnknownType { correlation: 1 };
-        assert_eq!(rt; decode_reply(type_id, &done), Err(unknown));
+        same(&rt, decode_reply(type_id, &done), Err(unknown));
     }
 }
 
@@ -222,9 +220,9 @@ fn is_reply(rt: &impl Abort, reply: &Reply, type_id: i32, bytes: &[u8]) {
     let mut out = [7; 12];
     let len = encode_reply(reply, &mut out);
     let lengths = (reply.type_id(), reply.encoded_len(), len);
-    assert_eq!(rt; lengths, (type_id, bytes.len(), bytes.len()));
+    same(rt, lengths, (type_id, bytes.len(), bytes.len()));
     assert!(rt; begins_with(&out, bytes));
-    assert_eq!(rt; decode_reply(type_id, bytes), Ok(*reply));
+    same(rt, decode_reply(type_id, bytes), Ok(*reply));
     let short = bytes.get(1..).unwrap_or(bytes);
     assert!(rt; decode_reply(type_id, short).is_err());
 }
@@ -232,7 +230,7 @@ fn is_reply(rt: &impl Abort, reply: &Reply, type_id: i32, bytes: &[u8]) {
 #[test]
 fn replies_have_one_spelling_each(rt: HostRuntime) {
     for (reply, correlation, type_id, bytes) in REPLIES.iter() {
-        assert_eq!(rt; reply.correlation(), *correlation);
+        same(&rt, reply.correlation(), *correlation);
         is_reply(&rt, reply, *type_id, bytes);
     }
 }

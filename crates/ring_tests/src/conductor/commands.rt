@@ -1,4 +1,5 @@
 //! What the conductor does with commands, on rings of both kinds.
+use crate::compare::same;
 use crate::conductor::bench::Answer::{Done, State, Worked};
 use crate::conductor::bench::Call::{Receive, Send, Work, Write};
 use crate::conductor::bench::{Answer, Bench, Call, plays};
@@ -68,17 +69,17 @@ static REPLIES: [(u64, Reply); 4] = [
 
 fn works<K: Kind>(rt: &impl Abort, bench: &mut Bench<K>) {
     assert!(rt; bench.send(&COMMANDS));
-    assert_eq!(rt; bench.run(&[]), work(0, WorkStop::Limit));
-    assert_eq!(rt; bench.run(&CYCLES), work(4, WorkStop::Limit));
+    same(rt, bench.run(&[]), work(0, WorkStop::Limit));
+    same(rt, bench.run(&CYCLES), work(4, WorkStop::Limit));
     assert!(rt; bench.receives(&REPLIES));
 }
 
 /// Finishes once the listener is back.
 fn finishes<K: Kind>(rt: &impl Abort, bench: Bench<K>) {
     let (reason, bench) = bench.finish().err().expect(rt, "a refusal");
-    assert_eq!(rt; reason, FinishFault::ReceiversOut { receivers: 1 });
+    same(rt, reason, FinishFault::ReceiversOut { receivers: 1 });
     let finished = bench.finish_alone().expect(rt, "an end");
-    assert_eq!(rt; (finished.received, finished.board.latest()), (4, 64));
+    same(rt, (finished.received, finished.board.latest()), (4, 64));
 }
 
 fn gives_a_freed_id_again<K: Kind>(rt: &impl Abort, alloc: Global) {

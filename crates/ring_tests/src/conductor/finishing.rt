@@ -3,6 +3,7 @@ ghost use Rattle.std.specs.Prelude.{◌≡◌};
 ghost use Rattle.ring_rings.specs.Seats.{IsConsumerOf, IsProducerOf};
 ghost use Rattle.ring_service.specs.Conducting.{IsConductorOf};
 
+use crate::compare::same;
 use crate::conductor::bench::Bench;
 use crate::conductor::sending::work;
 use ring_board::Board;
@@ -31,7 +32,7 @@ fn refused<B: Bodies>(
     let back = finish(ring, board, values, conductor, producer)
         .err()
         .expect(rt, "a refusal");
-    assert_eq!(rt; back.reason, reason);
+    same(rt, back.reason, reason);
     back
 }
 
@@ -44,7 +45,7 @@ fn finishes<B: Bodies>(rt: &impl Abort, back: FinishRefused<Ring<ManyToOne, B>>)
     let one = back
         .conductor
         .do_work(&back.ring, &back.board, &back.values, 0, 9);
-    assert_eq!(rt; one, work(1, WorkStop::Unpublished));
+    same(rt, one, work(1, WorkStop::Unpublished));
     let finished = finish(
         back.ring,
         back.board,
@@ -54,7 +55,7 @@ fn finishes<B: Bodies>(rt: &impl Abort, back: FinishRefused<Ring<ManyToOne, B>>)
     )
     .ok()
     .expect(rt, "an end");
-    assert_eq!(rt; (finished.received, finished.board.tail()), (1, 24));
+    same(rt, (finished.received, finished.board.tail()), (1, 24));
 }
 
 /// Does not finish before the other producer is back, which writes a message that is no command.
@@ -77,7 +78,7 @@ fn finishes_with_both<B: Bodies>(
         back.producer,
         out,
     );
-    assert_eq!(rt; back.ring.write_once(&mut other, 2, &[]), Ok(()));
+    same(rt, back.ring.write_once(&mut other, 2, &[]), Ok(()));
     back.ring.join(&mut back.producer, other);
     finishes(rt, back);
 }

@@ -1,5 +1,6 @@
 //! When a storm's clients ask their gate, and when they report an answer to it; and threads that do not start.
-use crate::conductor::storms::{Form, run_in};
+use crate::compare::same;
+use crate::conductor::storms::{Form, all_answered, run_in};
 use ring_storm::{Gate, OpenGate, StormFault, StormPlan};
 use std::sync::atomic::Ordering::SeqCst;
 use std::sync::atomic::{AtomicBool, AtomicU32};
@@ -47,11 +48,14 @@ fn each_answer_is_told_before_the_next_command(rt: HostRuntime) {
         ring: 256,
         turns: 50_000_000,
     };
-    let report = run_in(&rt, rt.alloc(), Form::InWords, &plan, &gate).expect(&rt, "a report");
-    assert_eq!(rt; (report.seen, report.sum), (600, 600));
-    assert!(rt; !gate.broken.load(SeqCst));
-    let answered = [gate.answered[0].load(SeqCst), gate.answered[1].load(SeqCst)];
-    assert_eq!(rt; answered, [300; 2]);
+    let report = run_in(&rt, rt.alloc(), Form::InWords, &plan, &gate);
+    same(&rt, report, Ok(all_answered(2, 600)));
+    let answered = (gate.answered[0].load(SeqCst), gate.answered[1].load(SeqCst));
+    same(
+        &rt,
+        (gate.broken.load(SeqCst), answered),
+        (false, (300, 300)),
+    );
 }
 
 /// Lets no thread start with this number.
@@ -82,7 +86,7 @@ fn a_thread_that_cannot_be_started_is_told_as_memory(rt: HostRuntime) {
     };
     for thread in 0..5 {
         let report = run_in(&rt, rt.alloc(), Form::InWords, &plan, &Without { thread });
-        assert_eq!(rt; report, Err(StormFault::OutOfMemory));
+        same(&rt, report, Err(StormFault::OutOfMemory));
     }
 }
 
@@ -127,9 +131,9 @@ fn no_answer_is_told_where_no_conductor_works(rt: HostRuntime) {
         turns: 50_000_000,
     };
     let report = run_in(&rt, rt.alloc(), Form::InWords, &plan, &gate);
-    assert_eq!(rt; report, Err(StormFault::OutOfMemory));
-    assert!(rt; gate.asked.load(SeqCst));
-    assert!(rt; !gate.told.load(SeqCst));
+    same(&rt, report, Err(StormFault::OutOfMemory));
+    let noted = (gate.asked.load(SeqCst), gate.told.load(SeqCst));
+    same(&rt, noted, (true, false));
 }
 
 /// Keeps the conductor back until both clients were let send and had time to do so, and notes how many answers were
@@ -189,9 +193,9 @@ fn no_answer_is_told_before_the_conductor_works(rt: HostRuntime) {
         ring: 256,
         turns: 50_000_000,
     };
-    let report = run_in(&rt, rt.alloc(), Form::InWords, &plan, &gate).expect(&rt, "a report");
+    let report = run_in(&rt, rt.alloc(), Form::InWords, &plan, &gate);
     let told = (gate.told_before.load(SeqCst), gate.told.load(SeqCst));
-    assert_eq!(rt; (report.seen, told), (2, (0, 2)));
+    same(&rt, (report, told), (Ok(all_answered(2, 2)), (0, 2)));
 }
 
 /// The turns of each wait of the storms below.
@@ -258,9 +262,9 @@ fn a_client_that_gives_up_stops_the_others(rt: HostRuntime) {
         turns: u64::from(TURNS),
     };
     let report = run_in(&rt, rt.alloc(), Form::InWords, &plan, &gate);
-    assert_eq!(rt; report, Err(StormFault::TurnsSpent));
-    assert!(rt; gate.stopped.load(SeqCst));
-    assert!(rt; gate.asked_second.load(SeqCst) < TURNS);
+    same(&rt, report, Err(StormFault::TurnsSpent));
+    same(&rt, gate.stopped.load(SeqCst), true);
+    same(&rt, gate.asked_second.load(SeqCst) < TURNS, true);
 }
 
 /// Lets no client send, and lets each sleep in its turns, so that they would last for 40 seconds: the conductor spends
@@ -294,6 +298,6 @@ fn a_conductor_that_gives_up_stops_the_clients(rt: HostRuntime) {
         turns: u64::from(TURNS),
     };
     let report = run_in(&rt, rt.alloc(), Form::InWords, &plan, &gate);
-    assert_eq!(rt; report, Err(StormFault::TurnsSpent));
-    assert!(rt; gate.asked.load(SeqCst) < TURNS);
+    same(&rt, report, Err(StormFault::TurnsSpent));
+    same(&rt, gate.asked.load(SeqCst) < TURNS, true);
 }

@@ -5,6 +5,7 @@ ghost use Rattle.ring_rings.specs.Seats.{capacity_of, start_of, IsConsumerOf, Is
 ghost use Rattle.ring_service.specs.Conducting.{IsConductorOf};
 ghost use Rattle.ring_service.specs.Finishing.{ComesBack, HandsOn, Headline, handed_back, refusal_to};
 
+use crate::compare::same;
 use crate::conductor::bench::Bench;
 use crate::conductor::sending::work;
 use ring_board::Board;
@@ -65,10 +66,10 @@ fn the_headline_holds_of_bodies_in_slots(rt: HostRuntime) {
         listener,
     } = bench;
     let one = conductor.do_work(&ring, &board, &values, 0, 9);
-    assert_eq!(rt; one, work(1, WorkStop::Unpublished));
+    same(&rt, one, work(1, WorkStop::Unpublished));
     conductor.join_receiver(&board, listener);
     let finished = finished_over_slots(ring, board, values, conductor, producer).expect(
         &rt, "an end",
     );
-    assert_eq!(rt; (finished.received, finished.board.tail()), (1, 24));
+    same(&rt, (finished.received, finished.board.tail()), (1, 24));
 }

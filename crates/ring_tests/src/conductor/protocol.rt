@@ -1,4 +1,5 @@
 //! Numbers and lengths of the protocol, as clients name them.
+use crate::compare::same;
 use crate::texts::tells;
 use ring_counters::{AllocateRefused, BadOwner, IdFault};
 use ring_service::{
@@ -18,14 +19,14 @@ fn commands_and_replies_have_these_type_ids(rt: HostRuntime) {
         command_type_ids::ALLOCATE_OWNED,
         command_type_ids::CLOSE,
     ];
-    assert_eq!(rt; commands, [1, 2, 3, 4, 5]);
+    same(&rt, commands, [1, 2, 3, 4, 5]);
     let replies = [
         reply_type_ids::ALLOCATED,
         reply_type_ids::DONE,
         reply_type_ids::REFUSED,
         reply_type_ids::CLOSED,
     ];
-    assert_eq!(rt; replies, [101, 102, 103, 104]);
+    same(&rt, replies, [101, 102, 103, 104]);
 }
 
 /// Commands with their correlation ids, and how many bytes spell them.
@@ -84,7 +85,7 @@ fn commands_tell_their_correlation_and_their_length(rt: HostRuntime) {
         let mut out = [0; 64];
         let written = encode_command(command, &mut out);
         let told = (command.correlation(), command.encoded_len(), written);
-        assert_eq!(rt; told, (*correlation, Some(*len), Some(*len)));
+        same(&rt, told, (*correlation, Some(*len), Some(*len)));
     }
 }
 
@@ -104,9 +105,9 @@ fn the_longest_key_and_label_make_the_longest_command(rt: HostRuntime) {
         longest.encoded_len(),
         encode_command(&longest, &mut out),
     ];
-    assert_eq!(rt; lengths, [Some(520); 3]);
-    assert_eq!(rt; encode_command(&longest, &mut short), None);
-    assert_eq!(rt; LONGEST_REPLY, 12);
+    same(&rt, lengths, [Some(520); 3]);
+    same(&rt, encode_command(&longest, &mut short), None);
+    same(&rt, LONGEST_REPLY, 12);
 }
 
 /// Refusals with their numbers and their texts.
@@ -125,12 +126,16 @@ static REFUSALS: [(RefusalCode, i32, &'static str); 9] = [
 #[test]
 fn refusals_have_these_numbers_and_texts(rt: HostRuntime) {
     for (refusal, number, text) in REFUSALS.iter() {
-        assert_eq!(rt; refusal.number(), *number);
-        assert_eq!(rt; RefusalCode::try_from(*number), Ok(*refusal));
+        same(&rt, refusal.number(), *number);
+        same(&rt, RefusalCode::try_from(*number), Ok(*refusal));
         tells(&rt, rt.alloc(), *refusal, text);
     }
     for number in [i32::MIN, -16, 0, 15, 24, 27, 29, 272, i32::MAX] {
-        assert_eq!(rt; RefusalCode::try_from(number), Err(UnknownCode { number }));
+        same(
+            &rt,
+            RefusalCode::try_from(number),
+            Err(UnknownCode { number }),
+        );
     }
     let unknown = UnknownCode { number: 24 };
     tells(&rt, rt.alloc(), unknown, "no refusal has the number 24");

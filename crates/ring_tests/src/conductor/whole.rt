@@ -1,4 +1,5 @@
 //! One run of the whole, as a user sees what comes out.
+use crate::compare::same;
 use ring_rings::InSlots;
 use ring_service::{Polled, Reply, WholeRun, Work, WorkStop, whole_run, whole_run_over};
 use std::process::Abort;
@@ -20,13 +21,13 @@ fn check(rt: &impl Abort, run: WholeRun) {
         correlation: 0,
         id: 0,
     };
-    assert_eq!(rt; (first, second), (one, one));
-    assert_eq!(rt; polled, Polled::Answered(reply));
+    same(rt, (first, second), (one, one));
+    same(rt, polled, Polled::Answered(reply));
     let mut rest = finished.rest;
     let commands = (finished.received, rest.drain());
     let places = (finished.board.latest(), finished.board.tail());
     let value = finished.counters.value(0);
-    assert_eq!(rt; (commands, places, value), ((2, 0), (24, 40), Ok(7)));
+    same(rt, (commands, places, value), ((2, 0), (24, 40), Ok(7)));
 }
 
 #[test]

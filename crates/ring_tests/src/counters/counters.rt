@@ -1,12 +1,16 @@
 //! Worked examples of the manager.
-use crate::calls::Plays;
+ghost use Rattle.std.specs.Prelude.{◌≤◌};
+
+use crate::compare::same;
 use crate::counters::desk::Call::{
     Allocate, AllocateOwned, AllocateWith, CloseOwner, Deadline, Free, Owner, Read, Set, State,
     Value, Words,
 };
 use crate::counters::desk::Said::{Bad, Done, Id, NoOwner, Number, Refused, Signed};
-use crate::counters::desk::{Call, Desk, Said};
-use ring_counters::{AllocateRefused, IdFault, MakeFault};
+use crate::counters::desk::{Call, Desk, Said, begins, plays};
+use ring_counters::{AllocateRefused, CounterInfo, IdFault, MakeFault};
+use std::alloc::Global;
+use std::process::Abort;
 use std::test::*;
 
 type Row = (Call<'static>, Said);
@@ -53,16 +57,10 @@ static IN_ORDER: [Row; 8] = [
 
 #[test]
 fn gives_ids_again_once_they_are_due(rt: HostRuntime) {
-    for (count, reuse_ms, rows) in [
-        (4, 50, AGAIN.as_slice()),
-        (1, 50, NONE_DUE.as_slice()),
-        (4, 50, DUE_EARLIER.as_slice()),
-        (4, 0, IN_ORDER.as_slice()),
-    ] {
-        Desk::new(rt.alloc(), count, reuse_ms)
-            .expect(&rt, "a manager")
-            .plays(&rt, rows);
-    }
+    plays(&rt, rt.alloc(), 4, 50, &AGAIN);
+    plays(&rt, rt.alloc(), 1, 50, &NONE_DUE);
+    plays(&rt, rt.alloc(), 4, 50, &DUE_EARLIER);
+    plays(&rt, rt.alloc(), 4, 0, &IN_ORDER);
 }
 
 static REFUSALS: [Row; 7] = [
@@ -86,13 +84,10 @@ static REFUSALS: [Row; 7] = [
 
 #[test]
 fn refuses_counts_texts_and_ids(rt: HostRuntime) {
-    for count in [0, 4097] {
-        let refused = Desk::new(rt.alloc(), count, 50).err();
-        assert_eq!(rt; refused, Some(MakeFault::BadCount));
-    }
-    Desk::new(rt.alloc(), 4, 50)
-        .expect(&rt, "a manager")
-        .plays(&rt, &REFUSALS);
+    let none = Desk::new(rt.alloc(), 0, 50).err();
+    let many = Desk::new(rt.alloc(), 4097, 50).err();
+    same(&rt, [none, many], [Some(MakeFault::BadCount); 2]);
+    plays(&rt, rt.alloc(), 4, 50, &REFUSALS);
 }
 
 static WORDS: [Row; 8] = [
@@ -139,46 +134,47 @@ static READS: [Row; 9] = [
 
 #[test]
 fn lays_out_words_closes_owners_and_is_read(rt: HostRuntime) {
-    for rows in [WORDS.as_slice(), OWNERS.as_slice(), READS.as_slice()] {
-        let mut desk = Desk::new(rt.alloc(), 4, 50).expect(&rt, "a manager");
-        desk.plays(&rt, rows);
-        assert_eq!(rt; desk.counters.value_shares(), 65536);
-    }
+    plays(&rt, rt.alloc(), 4, 50, &WORDS);
+    plays(&rt, rt.alloc(), 4, 50, &OWNERS);
+    plays(&rt, rt.alloc(), 4, 50, &READS);
 }
 
 #[test]
 fn copies_key_and_label(rt: HostRuntime) {
     let mut desk = Desk::new(rt.alloc(), 4, 50).expect(&rt, "a manager");
-    assert_eq!(rt; desk.allocate_with(&[1, 2], b"ab"), Ok(0));
-    let (mut key, mut label) = ([9; 112], [9; 380]);
-    let copied = (
-        desk.counters.key_into(0, &mut key),
-        desk.counters.label_into(0, &mut label),
-    );
-    let (mut all_key, mut all_label) = ([0; 112], [0; 380]);
-    (all_key[0], all_key[1]) = (1, 2);
-    (all_label[0], all_label[1]) = (b'a', b'b');
-    assert_eq!(rt; copied, (Ok(()), Ok(2)));
-    assert!(rt; key == all_key && label == all_label);
+    same(&rt, desk.allocate_with(&[1, 2], b"ab"), Ok(0));
+    let mut key = [9; 112];
+    same(&rt, desk.counters.key_into(0, &mut key), Ok(()));
+    same(&rt, begins(&key, &[1, 2]), true);
+    let mut label = [9; 380];
+    same(&rt, desk.counters.label_into(0, &mut label), Ok(2));
+    same(&rt, begins(&label, b"ab"), true);
+}
+
+/// Allocates 4,096 counters at a moment, whose ids come in order.
+fn allocate_all(rt: &impl Abort, desk: &mut Desk, now: u64) {
+    for id in 0..4096u32 {
+        same(rt, desk.allocate(now), Ok(id));
+    }
+}
+
+/// Frees 4,096 counters, each at the moment of its id, and tests that none is due until then.
+fn free_all(rt: &impl Abort, desk: &mut Desk) {
+    for id in 0..4096u32 {
+        same(rt, desk.free(u64::from(id), id), Ok(()));
+    }
+    for now in 0..4096u64 {
+        same(rt, desk.allocate(now), Err(AllocateRefused::NoFreeCounter));
+    }
 }
 
 /// No call of these looks at all the counters.
 #[test]
 fn reuses_all_counters(rt: HostRuntime) {
     let mut desk = Desk::new(rt.alloc(), 4096, 1_000_000).expect(&rt, "a manager");
-    for id in 0..4096u32 {
-        assert_eq!(rt; desk.allocate(0), Ok(id));
-    }
-    for id in 0..4096u32 {
-        assert_eq!(rt; desk.free(u64::from(id), id), Ok(()));
-    }
-    // None is due yet.
-    for now in 0..4096u64 {
-        assert_eq!(rt; desk.allocate(now), Err(AllocateRefused::NoFreeCounter));
-    }
-    for id in 0..4096u32 {
-        assert_eq!(rt; desk.allocate(1_004_095), Ok(id));
-    }
+    allocate_all(&rt, &mut desk, 0);
+    free_all(&rt, &mut desk);
+    allocate_all(&rt, &mut desk, 1_004_095);
 }
 
 /// The last digit of a number.
@@ -196,21 +192,42 @@ fn value_of(id: u32) -> i64 {
     i64::from(u32::MAX - id)
 }
 
+/// Allocates 4,096 counters, each with its label and its value.
+fn fill(rt: &impl Abort, desk: &mut Desk) {
+    for id in 0..4096u32 {
+        same(rt, desk.allocate_with(&[7], &label_of(id)), Ok(id));
+        same(rt, desk.set(id, value_of(id)), Ok(()));
+    }
+}
+
+/// Tests that this is what `fill` made of an id.
+fn is_listed(rt: &impl Abort, id: u32, info: &CounterInfo) {
+    same(
+        rt,
+        (info.id, info.value, info.key[0]),
+        (id, value_of(id), 7),
+    );
+    same(rt, (info.type_id, info.registration, info.owner), (5, 9, 0));
+    same(rt, info.label.as_slice(), label_of(id).as_slice());
+}
+
+/// Tests that all counters from an id on are listed, and no others.
+fn lists_from(rt: &impl Abort, alloc: Global, desk: &Desk, first: u32)
+    requires { first ≤ 4096 }
+{
+    let live = desk.live(alloc).expect(rt, "a list");
+    same(rt, live.len(), 4096 - first as usize);
+    for (id, info) in (first..4096).zip(live.iter()) {
+        is_listed(rt, id, info);
+    }
+}
+
 /// But a freed one.
 #[test]
 fn lists_all_counters(rt: HostRuntime) {
     let mut desk = Desk::new(rt.alloc(), 4096, 0).expect(&rt, "a manager");
-    for id in 0..4096u32 {
-        assert_eq!(rt; desk.allocate_with(&[7], &label_of(id)), Ok(id));
-        assert_eq!(rt; desk.set(id, value_of(id)), Ok(()));
-    }
-    assert_eq!(rt; desk.live(rt.alloc()).expect(&rt, "a list").len(), 4096);
-    assert_eq!(rt; desk.free(100, 0), Ok(()));
-    let live = desk.live(rt.alloc()).expect(&rt, "a list");
-    assert_eq!(rt; live.len(), 4095);
-    for (id, info) in (1..4096u32).zip(live.iter()) {
-        assert_eq!(rt; (info.id, info.value, info.key[0]), (id, value_of(id), 7));
-        assert_eq!(rt; (info.type_id, info.registration, info.owner), (5, 9, 0));
-        assert_eq!(rt; info.label.as_slice(), label_of(id).as_slice());
-    }
+    fill(&rt, &mut desk);
+    lists_from(&rt, rt.alloc(), &desk, 0);
+    same(&rt, desk.free(100, 0), Ok(()));
+    lists_from(&rt, rt.alloc(), &desk, 1);
 }

@@ -3,11 +3,13 @@ ghost use Rattle.std.specs.Prelude.{◌^◌, ◌≤◌};
 ghost use Rattle.ring_counters.specs.Manager.{IsManagerOf};
 
 use crate::calls::Plays;
+use crate::compare::same;
 use ring_counters::{
     AllocateRefused, BadId, BadOwner, CounterInfo, CounterValues, CountersManager, IdFault,
     MakeFault, NoShares, OutOfMemory,
 };
 use std::alloc::Global;
+use std::process::Abort;
 
 /// A call on a manager or its values. Counters are of type 5; a moment is a number of ms.
 #[derive(Clone, Copy)]
@@ -80,6 +82,11 @@ fn number(found: Result<u64, IdFault>) -> Said {
         Ok(value) => Said::Number(value),
         Err(fault) => Said::Bad(fault),
     }
+}
+
+/// Tests whether bytes begin with these, and zeros follow.
+pub fn begins(bytes: &[u8], wanted: &[u8]) -> bool {
+    bytes.starts_with(wanted) && bytes.iter().skip(wanted.len()).all(|byte| *byte == 0)
 }
 
 /// A manager with its values.
@@ -204,4 +211,11 @@ impl<'a> Plays<Call<'a>, Said> for Desk {
             _ => self.looked(call),
         }
     }
+}
+
+/// Plays rows on a manager of this many counters, whose ids are given again after this many ms.
+pub fn plays(rt: &impl Abort, alloc: Global, count: u32, reuse_ms: u32, rows: &[(Call<'_>, Said)]) {
+    let mut desk = Desk::new(alloc, count, reuse_ms).expect(rt, "a manager");
+    desk.plays(rt, rows);
+    same(rt, desk.counters.value_shares(), 65536);
 }

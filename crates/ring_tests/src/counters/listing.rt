@@ -1,11 +1,13 @@
 //! Looks at the counters in use.
 use crate::calls::Plays;
+use crate::compare::same;
 use crate::counters::desk::Call::{
     Allocate, AllocateOwned, AllocateWith, Count, Find, Free, Registration, Set, TypeId,
 };
 use crate::counters::desk::Said::{Bad, Done, Id, Number, Signed};
-use crate::counters::desk::{Call, Desk, Said};
+use crate::counters::desk::{Call, Desk, Said, begins};
 use ring_counters::{IdFault, LiveCounter};
+use std::process::Abort;
 use std::test::*;
 
 /// Five ids, of which 0, 2 and 3 are in use: all of type 5, with the registration ids 9, 9 and 0 and the owners 0, 0
@@ -20,14 +22,11 @@ static FIVE_IDS: [(Call<'static>, Said); 7] = [
     (Free(100, 1), Done),
 ];
 
-/// Whether the key begins with these bytes, and zeros follow.
+/// Tests whether the key begins with these bytes, and zeros follow.
 fn has_key(counter: &LiveCounter<'_>, key: &[u8]) -> bool {
     let mut found = [1; 112];
     counter.key_into(&mut found);
-    found
-        .iter()
-        .enumerate()
-        .all(|(at, byte)| *byte == key.get(at).copied().unwrap_or(0))
+    begins(&found, key)
 }
 
 fn has_label(counter: &LiveCounter<'_>, label: &[u8]) -> bool {
@@ -35,27 +34,43 @@ fn has_label(counter: &LiveCounter<'_>, label: &[u8]) -> bool {
     counter.label_into(&mut found) == label.len() && found.starts_with(label)
 }
 
+/// Id, value, registration id, owner, key and label.
+type Facts = (u32, i64, u64, u64, &'static [u8], &'static [u8]);
+
+/// Of the five ids those that are in use.
+static IN_USE: [Facts; 3] = [
+    (0, 40, 9, 0, b"\x07", b"first"),
+    (2, -42, 9, 0, b"\x07\x08", b"second"),
+    (3, 0, 0, 7, b"", b""),
+];
+
+/// Tests that a counter is of type 5, and has these facts.
+fn has_facts(rt: &impl Abort, counter: &LiveCounter<'_>, facts: Facts) {
+    let (id, value, registration, owner, key, label) = facts;
+    let numbers = (counter.id(), counter.type_id(), counter.value());
+    same(rt, numbers, (id, 5, value));
+    let owned = (counter.registration(), counter.owner());
+    same(rt, owned, (registration, owner));
+    let texts = (has_key(counter, key), has_label(counter, label));
+    same(rt, texts, (true, true));
+}
+
+/// Tests that the counters in use have these facts, and no more follow.
+fn goes_over(rt: &impl Abort, desk: &Desk, all: &[Facts]) {
+    let mut counters = desk.counters.iter();
+    for facts in all {
+        let counter = counters.next().expect(rt, "a counter");
+        has_facts(rt, &counter, *facts);
+    }
+    let after = (counters.next().is_none(), counters.next().is_none());
+    same(rt, after, (true, true));
+}
+
 #[test]
 fn goes_over_counters_in_use(rt: HostRuntime) {
     let mut desk = Desk::new(rt.alloc(), 5, 50).expect(&rt, "a manager");
     desk.plays(&rt, &FIVE_IDS);
-    let mut counters = desk.counters.iter();
-    for (id, value, registration, owner, key, label) in [
-        (0, 40, 9, 0, b"\x07".as_slice(), b"first".as_slice()),
-        (2, -42, 9, 0, b"\x07\x08".as_slice(), b"second".as_slice()),
-        (3, 0, 0, 7, b"".as_slice(), b"".as_slice()),
-    ] {
-        let counter = counters.next().expect(&rt, "a counter");
-        let numbers = (counter.id(), counter.type_id(), counter.value());
-        assert_eq!(rt; numbers, (id, 5, value));
-        assert_eq!(rt;
-            (counter.registration(), counter.owner()),
-            (registration, owner)
-        );
-        assert!(rt; has_key(&counter, key) && has_label(&counter, label));
-    }
-    assert!(rt; counters.next().is_none());
-    assert!(rt; counters.next().is_none());
+    goes_over(&rt, &desk, &IN_USE);
 }
 
 static LOOKS: [(Call<'static>, Said); 13] = [

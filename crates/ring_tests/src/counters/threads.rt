@@ -2,6 +2,7 @@
 ghost use Rattle.std.specs.Thread.{IsSync};
 ghost use Rattle.ring_counters.specs.{Seats.IsReaderOf, Manager.IsManagerOf};
 
+use crate::compare::same;
 use crate::counters::desk::Desk;
 use ring_counters::{CounterValues, CountersManager, ValueReader};
 use std::process::Abort;
@@ -83,7 +84,7 @@ fn counts_and_watches<R: Abort + Threads + Sync>(
 fn readers_never_see_values_fall(rt: HostRuntime) {
     for _round in 0..100u32 {
         let mut desk = Desk::new(rt.alloc(), 1, 0).expect(&rt, "a manager");
-        assert_eq!(rt; desk.allocate(0), Ok(0));
+        same(&rt, desk.allocate(0), Ok(0));
         let Desk { values, counters } = desk;
         assert!(rt; counts_and_watches(&rt, &values, counters, 1000));
     }

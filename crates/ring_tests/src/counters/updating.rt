@@ -1,8 +1,7 @@
 //! Values that are added to and raised.
-use crate::calls::Plays;
 use crate::counters::desk::Call::{Add, Allocate, ProposeMax, Read, Set, Value};
-use crate::counters::desk::Desk;
 use crate::counters::desk::Said::{Bad, Done, Id, Raised, Signed};
+use crate::counters::desk::plays;
 use ring_counters::IdFault;
 use std::test::*;
 
@@ -25,9 +24,7 @@ fn adds_and_gives_value_before(rt: HostRuntime) {
             (Add(1, 1), Bad(IdFault::NotAllocated)),
             (Add(2, 1), Bad(IdFault::BadId)),
         ];
-        Desk::new(rt.alloc(), 2, 50)
-            .expect(&rt, "a manager")
-            .plays(&rt, &rows);
+        plays(&rt, rt.alloc(), 2, 50, &rows);
     }
 }
 
@@ -49,8 +46,6 @@ fn raises_smaller_value_alone(rt: HostRuntime) {
             (ProposeMax(1, 1), Bad(IdFault::NotAllocated)),
             (ProposeMax(2, 1), Bad(IdFault::BadId)),
         ];
-        Desk::new(rt.alloc(), 2, 50)
-            .expect(&rt, "a manager")
-            .plays(&rt, &rows);
+        plays(&rt, rt.alloc(), 2, 50, &rows);
     }
 }

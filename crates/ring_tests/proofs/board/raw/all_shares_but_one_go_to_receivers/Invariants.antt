@@ -1,5 +1,0 @@
-use Rattle.ring_board.specs.Seats.{IsTransmitterOf}
-use Rattle.ring_tests.proofs.board.raw.all_shares_but_one_go_to_receivers.Given as goal
-
-abbrev pub invariant-shares : goal.invariant-shares
-invariant-shares g l = IsTransmitterOf l.board l.transmitter

@@ -1,5 +1,0 @@
-use Rattle.ring_rings.specs.Seats.{IsConsumerOf}
-use Rattle.ring_tests.proofs.rings.losing.read_some.Given as goal
-
-abbrev pub invariant-turns : goal.invariant-turns
-invariant-turns g l = IsConsumerOf l.ring l.consumer

@@ -1,5 +1,0 @@
-use Rattle.ring_rings.specs.Seats.{IsConsumerOf}
-use Rattle.ring_tests.proofs.rings.threads.read_shares.Given as goal
-
-abbrev pub invariant-turns : goal.invariant-turns
-invariant-turns g l = IsConsumerOf l.ring l.consumer

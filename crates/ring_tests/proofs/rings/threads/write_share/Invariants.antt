@@ -1,6 +1,0 @@
-use Rattle.std.proofs.Common.{◌≤◌}
-use Rattle.ring_rings.specs.Seats.{IsProducerOf}
-use Rattle.ring_tests.proofs.rings.threads.write_share.Given as goal
-
-abbrev pub invariant-turns : goal.invariant-turns
-invariant-turns g l = IsProducerOf l.ring l.producer × (l.count ≤ 2500)
