@@ -1,6 +1,6 @@
 -- What broadcast buffers and counters take back, and how a broadcast buffer ends: p is the transmitter before, q after,
 -- c are the counters before, d after, r is a receiver or a reader, and the code is what is returned.
-use Rattle.std.specs.Prelude.{◌≡◌, ◌≢◌, ℕ, ℤ, MatchOption, None}
+use Rattle.std.specs.Prelude.{◌≡◌, ◌≢◌, ℕ, ◌+◌, ℤ, MatchOption, None}
 use Rattle.ring_board.specs.{Closing.close_refusal_of, Runs.AreAllRuns, Views.Sat}
 use Rattle.ring_handles.specs.declared.counters.{CountersSide.CountersSide, ReaderSide.ReaderSide}
 use Rattle.ring_handles.specs.declared.boards.TransmitterSide.{TransmitterSide}
