@@ -1,4 +1,5 @@
 //! Boards as tables and as JSON.
+use crate::compare::same;
 use crate::snapshots::{lapped, shows, words_of};
 use ring_report::{Bodies, Report, View};
 use std::alloc::Global;
@@ -76,14 +77,14 @@ fn shows_tables(rt: HostRuntime) {
     for (what, intent, from, wanted) in TABLES {
         let report = report_of(&rt, rt.alloc(), intent, from);
         let text = report.to_table(rt.alloc()).expect(&rt, "memory");
-        assert_eq!(rt; text.as_str(), wanted, "{what}");
+        same(&rt, (what, text.as_str()), (what, wanted));
     }
 }
 
 #[test]
 fn finds_no_record_within_one(rt: HostRuntime) {
     let report = report_of(&rt, rt.alloc(), 360, Some(96));
-    assert_eq!(rt; (report.rows.len(), report.findings.len()), (0, 1));
+    same(&rt, (report.rows.len(), report.findings.len()), (0, 1));
 }
 
 #[test]

@@ -4,6 +4,8 @@
 #[cfg(test)]
 mod boards;
 #[cfg(test)]
+mod compare;
+#[cfg(test)]
 mod listing;
 #[cfg(test)]
 mod metrics;

@@ -1,4 +1,5 @@
 //! Metrics, and what two looks say of a ring.
+use crate::compare::same;
 use crate::snapshots::{blocked, lapped, reused, shows, words_of};
 use ring_report::{
     Bodies, Labelled, OpenClaim, Origin, Report, Stop, View, note_settled, to_prometheus,
@@ -156,7 +157,7 @@ felter_findings{file=\"m\",address=\"0x200\"} 0
 fn shows_summary(rt: &impl Abort, alloc: Global, report: &Report, wanted: &str) {
     let mut text = String::new(alloc);
     report.push_summary(&mut text).expect(rt, "memory");
-    assert_eq!(rt; text.as_str(), wanted);
+    same(rt, text.as_str(), wanted);
 }
 
 #[test]
@@ -166,7 +167,7 @@ fn one_look_says_where_a_read_stops(rt: HostRuntime) {
         type_id: 5,
         length: 28,
     });
-    assert_eq!(rt; report.stop, Some(Stop { place: 40, claim }));
+    same(&rt, report.stop, Some(Stop { place: 40, claim }));
     assert!(rt; !report.is_blocked());
     shows_summary(
         &rt,
@@ -181,7 +182,7 @@ fn two_looks_say_that_it_is_blocked(rt: HostRuntime) {
     let before = ring_report(&rt, rt.alloc());
     let mut report = ring_report(&rt, rt.alloc());
     assert!(rt; report.sight().is_some());
-    assert_eq!(rt; report.sight(), before.sight());
+    same(&rt, report.sight(), before.sight());
     report.note_blocked(250);
     shows_summary(
         &rt,
@@ -215,18 +216,18 @@ fn another_head_or_claim_is_another_sight(rt: HostRuntime) {
         assert!(rt; other.is_some() && other != sight);
     }
     let committed = report_with(&rt, rt.alloc(), 5, 0x5_0000_001c);
-    assert_eq!(rt; committed.sight(), None);
+    same(&rt, committed.sight(), None);
 }
 
 #[test]
 fn an_unsettled_look_has_no_finding(rt: HostRuntime) {
     // (the tail, word 16 of the trailer, is before the head)
     let wrong = report_with(&rt, rt.alloc(), 32 + 48, 4096);
-    assert_eq!(rt; wrong.findings.len(), 1);
+    same(&rt, wrong.findings.len(), 1);
     let report = note_settled(Ok(wrong), false).expect(&rt, "memory");
-    assert_eq!(rt; report.findings.len(), 0);
+    same(&rt, report.findings.len(), 0);
     let report = note_settled(Ok(ring_report(&rt, rt.alloc())), false).expect(&rt, "memory");
-    assert_eq!(rt; report.sight(), None);
+    same(&rt, report.sight(), None);
     shows_summary(
         &rt,
         rt.alloc(),

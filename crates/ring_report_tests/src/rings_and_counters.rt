@@ -1,4 +1,5 @@
 //! Rings and counters as JSON.
+use crate::compare::same;
 use crate::snapshots::{shows, words_of};
 use ring_counters::CountersManager;
 use ring_report::{Bodies, Report, View};
@@ -101,7 +102,7 @@ ring  capacity 128  head 0  tail 32  head_cache 0  correlation 0  heartbeat 0
 fn two_counters(rt: &impl Abort, alloc: Global) -> CountersManager {
     let (values, mut manager) = CountersManager::new(alloc, 2, 0).expect(rt, "counters");
     let allocated = manager.allocate(&values, 0, 5, b"k", b"errors", 0);
-    assert_eq!(rt; allocated, Ok(0));
+    same(rt, allocated, Ok(0));
     manager.set(&values, 0, -2).expect(rt, "a counter");
     manager
 }
@@ -153,7 +154,7 @@ fn takes_values_as_a_program_keeps_them(rt: HostRuntime) {
         let report = report_of_values(&rt, rt.alloc(), &manager, values);
         let table = report.to_table(rt.alloc()).expect(&rt, "memory");
         let lines = table.as_str().split_once('\n').expect(&rt, "lines");
-        assert_eq!(rt; lines.1, wanted);
+        same(&rt, lines.1, wanted);
     }
 }
 

@@ -2,6 +2,7 @@
 ghost use Rattle.std.specs.Prelude.{◌^◌, ◌≤◌};
 ghost use Rattle.ring_counters.specs.Manager.{IsManagerOf};
 
+use crate::compare::same;
 use ring_board::{Board, ClosedBoard};
 use ring_counters::{AllocateRefused, CounterValues, CountersManager, IdFault};
 use ring_report::words_of_bytes;
@@ -13,7 +14,7 @@ use std::process::Abort;
 /// Tests that a text is the wanted one.
 pub fn shows(rt: &impl Abort, text: Result<String, AllocError>, wanted: &str) {
     let text = text.expect(rt, "memory");
-    assert_eq!(rt; text.as_str(), wanted);
+    same(rt, text.as_str(), wanted);
 }
 
 /// The bytes of a snapshot.
@@ -77,7 +78,7 @@ static READ: [(i32, &str); 3] = [
 /// Reads three messages.
 fn read_three(rt: &impl Abort, ring: &mut SoloRing) {
     let read = ring.read(3, &mut Pass).messages;
-    assert_eq!(rt; read, 3);
+    same(rt, read, 3);
 }
 
 /// Claims twice: the first claim is aborted, the other one stays open with half its message.
@@ -165,7 +166,7 @@ pub fn lapped(rt: &impl Abort, alloc: Global) -> ClosedBoard {
     let (board, mut transmitter) = Board::new(alloc, 256).expect(rt, "a board");
     'sends: for (type_id, text) in SENT {
         let sent = board.transmit(&mut transmitter, type_id, text.as_bytes());
-        assert_eq!(rt; sent, Ok(()));
+        same(rt, sent, Ok(()));
     }
     board.close(transmitter).ok().expect(rt, "a closed board")
 }
@@ -214,7 +215,7 @@ impl Desk {
                 self.free(1000, 1).expect(rt, "a counter");
             }
             let id = self.allocate(now, type_id, texts, registration, owner);
-            assert_eq!(rt; id, Ok(wanted));
+            same(rt, id, Ok(wanted));
         }
     }
 }

@@ -1,4 +1,5 @@
 //! What is listed of boards.
+use crate::compare::same;
 use crate::listing::random::Numbers;
 use crate::listing::words::words_of;
 use ring_board::{Board, ClosedBoard};
@@ -19,13 +20,13 @@ pub fn transmitted(
         let len = (numbers.next() % 33) as usize;
         let body = [type_id.to_le_bytes()[0]; 32];
         let is_sent = board.transmit(&mut transmitter, type_id + 1, &body[..len]);
-        assert_eq!(rt; is_sent, Ok(()));
+        same(rt, is_sent, Ok(()));
     }
     board.close(transmitter).ok().expect(rt, "a closed board")
 }
 
 /// What a listing has come to.
-#[derive(Clone, Copy, Default)]
+#[derive(Clone, Copy)]
 struct Lap {
     place: u64,
     last: i32,
@@ -56,12 +57,15 @@ impl Lap {
 fn listed_of(rt: &impl Abort, alloc: Global, closed: &ClosedBoard, sent: i32) -> u64 {
     let words = words_of(rt, alloc, closed);
     let board = BoardSnapshot::new(words.as_slice()).expect(rt, "a board");
-    let mut lap = Lap::default();
-    lap.place = closed.latest() & !255;
+    let mut lap = Lap {
+        place: closed.latest() & !255,
+        last: 0,
+        listed: 0,
+    };
     for entry in board.records().expect(rt, "records") {
         assert!(rt; lap.goes_on(entry.expect(rt, "a record")), "another record");
     }
-    assert_eq!(rt; (lap.place, lap.last), (closed.tail(), sent));
+    same(rt, (lap.place, lap.last), (closed.tail(), sent));
     lap.listed
 }
 
@@ -116,17 +120,21 @@ static REFUSALS: [(u64, u64, u64, BoardFinding); 2] = [
 #[test]
 fn names_what_is_wrong(rt: HostRuntime) {
     let too_few = BoardFinding::BadSize { words: 47 };
-    assert_eq!(rt; refusal(&[0; 47]), Some(too_few));
+    same(&rt, refusal(&[0; 47]), Some(too_few));
     for (intent, tail, latest, finding) in REFUSALS {
-        assert_eq!(rt; refusal(&words_with(intent, tail, latest)), Some(finding));
+        same(
+            &rt,
+            refusal(&words_with(intent, tail, latest)),
+            Some(finding),
+        );
     }
 }
 
 /// The finding that is all that words list.
 fn only_finding(board: &BoardSnapshot<'_>) -> Option<BoardFinding> {
     let mut records = board.records().ok()?;
-    match (records.next(), records.next()) {
-        (Some(Err(found)), None) => Some(found),
+    match records.next() {
+        Some(Err(found)) if records.next().is_none() => Some(found),
         _ => None,
     }
 }
@@ -139,13 +147,13 @@ fn nothing_comes_behind_a_finding(rt: HostRuntime) {
         index: 0,
         length: 0,
     };
-    assert_eq!(rt; only_finding(&board), Some(finding));
+    same(&rt, only_finding(&board), Some(finding));
     let outside = BoardFinding::OutsideOfRecords { position: 8 };
-    assert_eq!(rt; board.records_from(8).err(), Some(outside));
+    same(&rt, board.records_from(8).err(), Some(outside));
 }
 
 /// What came of words.
-#[derive(Clone, Copy, Default)]
+#[derive(Clone, Copy)]
 struct Sum {
     bytes: u64,
     found: u64,
@@ -172,7 +180,11 @@ impl Sum {
 fn ends_on_any_bytes(rt: HostRuntime) {
     let mut numbers = Numbers(0x9e37_79b9_7f4a_7c15);
     let mut words = [0u64; 48];
-    let mut sum = Sum::default();
+    let mut sum = Sum {
+        bytes: 0,
+        found: 0,
+        refused: 0,
+    };
     for _ in 0..100_000 {
         for word in words.iter_mut().take(32) {
             *word = numbers.next_header();

@@ -2,6 +2,7 @@
 ghost use Rattle.std.specs.Prelude.{◌<◌};
 ghost use Rattle.ring_counters.specs.Manager.{IsManagerOf};
 
+use crate::compare::same;
 use crate::listing::random::Numbers;
 use crate::listing::words::{has_bytes, words_of};
 use ring_counters::{CounterValues, CountersManager, IdFault};
@@ -142,9 +143,10 @@ fn refuses_other_sizes(rt: HostRuntime) {
         metadata: 64,
         values: 48,
     };
-    assert_eq!(rt;
+    same(
+        &rt,
         CountersSnapshot::new(&metadata, &values).err(),
-        Some(finding)
+        Some(finding),
     );
     assert!(rt; CountersSnapshot::new(&metadata[..0], &values[..0]).is_err());
 }
@@ -185,12 +187,12 @@ fn next_type(listed: &mut Counters<'_>) -> Option<(u32, i32)> {
 fn names_what_is_wrong(rt: HostRuntime) {
     let (metadata, values) = (wrong_metadata(), [0u64; 48]);
     let snapshot = CountersSnapshot::new(&metadata, &values).expect(&rt, "counters");
-    assert_eq!(rt; snapshot.count(), 3);
+    same(&rt, snapshot.count(), 3);
     let mut listed = snapshot.counters();
     for finding in FINDINGS {
-        assert_eq!(rt; next_finding(&mut listed), Some(finding));
+        same(&rt, next_finding(&mut listed), Some(finding));
     }
-    assert_eq!(rt; next_type(&mut listed), Some((2, 7)));
+    same(&rt, next_type(&mut listed), Some((2, 7)));
     assert!(rt; listed.next().is_none());
 }
 
@@ -201,12 +203,12 @@ fn lists_from_an_id_on(rt: HostRuntime) {
     let Some(Ok(first)) = snapshot.counters_from(2).next() else {
         panic!(rt; "a counter is missing");
     };
-    assert_eq!(rt; first.id, 2);
+    same(&rt, first.id, 2);
     assert!(rt; snapshot.counters_from(3).next().is_none());
 }
 
 /// What came of words.
-#[derive(Clone, Copy, Default)]
+#[derive(Clone, Copy)]
 struct Sum {
     listed: u64,
     found: u64,
@@ -250,7 +252,11 @@ fn change(metadata: &mut [u64; 128], values: &mut [u64; 32], id: usize, numbers:
 fn ends_on_any_bytes(rt: HostRuntime) {
     let mut numbers = Numbers(0x9e37_79b9_7f4a_7c15);
     let (mut metadata, mut values) = ([0u64; 128], [0u64; 32]);
-    let mut sum = Sum::default();
+    let mut sum = Sum {
+        listed: 0,
+        found: 0,
+        bytes: 0,
+    };
     for _ in 0..100_000 {
         for id in 0..2 {
             change(&mut metadata, &mut values, id, &mut numbers);

@@ -1,4 +1,5 @@
 //! Plain rings, whose words have marks and whose slots have headers and bodies.
+use crate::compare::same;
 use crate::listing::random::Numbers;
 use crate::listing::words::words_of;
 use ring_layout::is_capacity;
@@ -24,6 +25,12 @@ const ABORTED: u64 = 0xffff_ffff_0000_0010;
 
 /// The header of a mark that makes no sense, whose length is 1.
 const BAD: u64 = 1;
+
+/// Tests that words and slots are joined to these words.
+fn joins(rt: &impl Abort, mut words: [u64; 112], slots: [u64; 16], wanted: [u64; 112]) {
+    same(rt, join_bodies(&mut words, &slots), Ok(()));
+    same(rt, words.as_slice(), wanted.as_slice());
+}
 
 #[test]
 fn joins_marks_and_slots(rt: HostRuntime) {
@@ -51,8 +58,7 @@ fn joins_marks_and_slots(rt: HostRuntime) {
     wanted[1] = 0x2222;
     wanted[2] = 0x33;
     wanted[3] = PADDING;
-    assert_eq!(rt; join_bodies(&mut words, &slots), Ok(()));
-    assert_eq!(rt; words.as_slice(), wanted.as_slice());
+    joins(&rt, words, slots, wanted);
 }
 
 #[test]
@@ -67,8 +73,7 @@ fn padding_has_zeros_after_its_header(rt: HostRuntime) {
     wanted[13] = 0xffff_ffff_0000_0018;
     wanted[14] = 0;
     wanted[15] = 0;
-    assert_eq!(rt; join_bodies(&mut words, &slots), Ok(()));
-    assert_eq!(rt; words.as_slice(), wanted.as_slice());
+    joins(&rt, words, slots, wanted);
 }
 
 /// The header at the position 128 of a plain ring, at which the word and the slot are these.
@@ -92,7 +97,7 @@ fn headers_of_marks(rt: HostRuntime) {
         (144 + 3, COMMITTED, ABORTED),
     ];
     for (word, slot, header) in wanted {
-        assert_eq!(rt; header_of(&rt, word, slot), header);
+        same(&rt, header_of(&rt, word, slot), header);
     }
 }
 
@@ -112,7 +117,7 @@ fn marks_that_make_no_sense(rt: HostRuntime) {
         ((1 << 40) + 1, COMMITTED),
     ];
     for (word, slot) in wrong {
-        assert_eq!(rt; header_of(&rt, word, slot), BAD);
+        same(&rt, header_of(&rt, word, slot), BAD);
     }
 }
 
@@ -123,7 +128,7 @@ fn finding_of(rt: &impl Abort, word: u64, slot: u64) -> Option<RingFinding> {
     words[16 + 16] = 192;
     words[0] = word;
     slots[0] = slot;
-    assert_eq!(rt; join_bodies(&mut words, &slots), Ok(()));
+    same(rt, join_bodies(&mut words, &slots), Ok(()));
     let ring = RingSnapshot::new(&words).expect(rt, "a ring");
     let mut records = ring.records().expect(rt, "records");
     records.next()?.err()
@@ -143,9 +148,9 @@ fn a_mark_that_makes_no_sense_is_a_finding(rt: HostRuntime) {
     ];
     for (word, slot, length) in wanted {
         let finding = RingFinding::BadLength { index: 0, length };
-        assert_eq!(rt; finding_of(&rt, word, slot), Some(finding));
+        same(&rt, finding_of(&rt, word, slot), Some(finding));
     }
-    assert_eq!(rt; finding_of(&rt, 144, COMMITTED), None);
+    same(&rt, finding_of(&rt, 144, COMMITTED), None);
 }
 
 /// A plain ring with three records of 16 bytes from 96 on. The mark at 96 ends here, and the other words are no marks.
@@ -177,16 +182,14 @@ fn joined_run(header: u64) -> [u64; 112] {
 
 #[test]
 fn joins_a_run(rt: HostRuntime) {
-    let (mut words, slots) = run_up_to(144);
-    assert_eq!(rt; join_bodies(&mut words, &slots), Ok(()));
-    assert_eq!(rt; words.as_slice(), joined_run(COMMITTED).as_slice());
+    let (words, slots) = run_up_to(144);
+    joins(&rt, words, slots, joined_run(COMMITTED));
     // (a consumer that stopped inside of the run left a mark there, and words of the run are not looked at)
     for inside in [144u64, 128, 120 + 2, u64::MAX] {
         let (mut words, slots) = run_up_to(144);
         words[14] = inside;
         words[13] = inside;
-        assert_eq!(rt; join_bodies(&mut words, &slots), Ok(()));
-        assert_eq!(rt; words.as_slice(), joined_run(COMMITTED).as_slice());
+        joins(&rt, words, slots, joined_run(COMMITTED));
     }
 }
 
@@ -194,21 +197,18 @@ fn joins_a_run(rt: HostRuntime) {
 fn joins_what_comes_after_a_run(rt: HostRuntime) {
     let (mut words, slots) = run_up_to(128);
     words[0] = 144 + 3;
-    assert_eq!(rt; join_bodies(&mut words, &slots), Ok(()));
-    assert_eq!(rt; words.as_slice(), joined_run(ABORTED).as_slice());
-    let (mut words, slots) = run_up_to(128);
-    assert_eq!(rt; join_bodies(&mut words, &slots), Ok(()));
+    joins(&rt, words, slots, joined_run(ABORTED));
+    let (words, slots) = run_up_to(128);
     let mut wanted = joined_run(0);
     wanted[1] = 40;
-    assert_eq!(rt; words.as_slice(), wanted.as_slice());
+    joins(&rt, words, slots, wanted);
     // (a record in the run is longer than the rest of the run, or its slot has no header of a message)
     for (end, slot) in [(136, COMMITTED), (144, ABORTED), (144, 0)] {
         let (mut words, mut slots) = run_up_to(end);
         slots[0] = slot;
         let mut wanted = joined_run(BAD);
         wanted[1] = 40;
-        assert_eq!(rt; join_bodies(&mut words, &slots), Ok(()));
-        assert_eq!(rt; words.as_slice(), wanted.as_slice());
+        joins(&rt, words, slots, wanted);
     }
 }
 
@@ -225,22 +225,25 @@ fn stops_where_no_mark_is(rt: HostRuntime) {
     wanted[1] = COMMITTED;
     wanted[2] = 0;
     wanted[8..16].fill(0);
-    assert_eq!(rt; join_bodies(&mut words, &slots), Ok(()));
-    assert_eq!(rt; words.as_slice(), wanted.as_slice());
+    joins(&rt, words, slots, wanted);
 }
 
 #[test]
 fn refuses_other_numbers_of_words(rt: HostRuntime) {
     let no_ring = RingFinding::BadSize { words: 111 };
-    assert_eq!(rt; join_bodies(&mut [1u64; 111], &[2u64; 16]), Err(no_ring));
+    same(
+        &rt,
+        join_bodies(&mut [1u64; 111], &[2u64; 16]),
+        Err(no_ring),
+    );
     let mut words = [0u64; 112];
     words[16 + 16] = 16;
     words[0] = 16;
     let (many, few) = ([2u64; 17], [2u64; 15]);
     for slots in [many.as_slice(), few.as_slice()] {
         let refused = RingFinding::BadBodies { words: slots.len() };
-        assert_eq!(rt; join_bodies(&mut words, slots), Err(refused));
-        assert_eq!(rt; words[1], 0);
+        same(&rt, join_bodies(&mut words, slots), Err(refused));
+        same(&rt, words[1], 0);
     }
 }
 
@@ -250,9 +253,7 @@ fn keeps_words_whose_positions_make_no_sense(rt: HostRuntime) {
         let mut words = [COMMITTED; 112];
         words[16 + 48] = head;
         words[16 + 16] = tail;
-        let same = words;
-        assert_eq!(rt; join_bodies(&mut words, &[2; 16]), Ok(()));
-        assert_eq!(rt; words.as_slice(), same.as_slice());
+        joins(&rt, words, [2; 16], words);
     }
 }
 
@@ -388,7 +389,7 @@ fn part_and_join(rt: &impl Abort, alloc: Global, ring: &SoloRing, numbers: &mut 
     let mut parts = part(rt, alloc, whole.as_slice(), numbers);
     let joined = join_bodies(parts.words.as_mut_slice(), parts.slots.as_slice());
     assert!(rt; joined.is_ok());
-    assert_eq!(rt; parts.words.as_slice(), whole.as_slice());
+    same(rt, parts.words.as_slice(), whole.as_slice());
 }
 
 #[test]

@@ -1,4 +1,5 @@
 //! What is listed of rings.
+use crate::compare::same;
 use crate::listing::random::Numbers;
 use crate::listing::words::{has_bytes, words_of};
 use ring_snapshot::{RecordState, RingFinding, RingSnapshot};
@@ -9,9 +10,9 @@ use std::process::Abort;
 /// The words of a ring with a committed record, an open one, and one without a message.
 fn claimed_words(rt: &impl Abort, alloc: Global) -> Vec<u64> {
     let mut ring = SoloRing::new(alloc, 128).expect(rt, "a ring");
-    assert_eq!(rt; ring.write(7, b"hello"), Ok(()));
+    same(rt, ring.write(7, b"hello"), Ok(()));
     ring.claim(8, 3).expect(rt, "a claim").leak();
-    assert_eq!(rt; ring.write(9, b""), Ok(()));
+    same(rt, ring.write(9, b""), Ok(()));
     words_of(rt, alloc, &ring)
 }
 
@@ -19,7 +20,11 @@ fn claimed_words(rt: &impl Abort, alloc: Global) -> Vec<u64> {
 fn lists_what_is_claimed(rt: HostRuntime) {
     let words = claimed_words(&rt, rt.alloc());
     let ring = RingSnapshot::new(words.as_slice()).expect(&rt, "a ring");
-    assert_eq!(rt; (ring.capacity(), ring.head(), ring.tail()), (128, 0, 40));
+    same(
+        &rt,
+        (ring.capacity(), ring.head(), ring.tail()),
+        (128, 0, 40),
+    );
     let mut records = ring.records().expect(&rt, "records");
     for (place, index, state, type_id, length, body) in [
         (0, 0, RecordState::Committed, 7, 13, b"hello".as_slice()),
@@ -29,9 +34,9 @@ fn lists_what_is_claimed(rt: HostRuntime) {
         let Some(Ok(record)) = records.next() else {
             panic!(rt; "a record is missing");
         };
-        assert_eq!(rt; (record.place, record.index), (place, index));
-        assert_eq!(rt; record.state, state);
-        assert_eq!(rt; (record.type_id, record.length), (type_id, length));
+        same(&rt, (record.place, record.index), (place, index));
+        same(&rt, record.state, state);
+        same(&rt, (record.type_id, record.length), (type_id, length));
         assert!(rt; has_bytes(record.body, body));
     }
     assert!(rt; records.next().is_none());
@@ -54,20 +59,20 @@ fn refusal(words: &[u64]) -> Option<RingFinding> {
 #[test]
 fn names_what_is_wrong(rt: HostRuntime) {
     let too_few = RingFinding::BadSize { words: 111 };
-    assert_eq!(rt; refusal(&[0; 111]), Some(too_few));
+    same(&rt, refusal(&[0; 111]), Some(too_few));
     for (head, tail, finding) in [
         (8, 0, RingFinding::TailBeforeHead { head: 8, tail: 0 }),
         (8, 144, RingFinding::TailTooFar { head: 8, tail: 144 }),
     ] {
-        assert_eq!(rt; refusal(&words_between(head, tail)), Some(finding));
+        same(&rt, refusal(&words_between(head, tail)), Some(finding));
     }
 }
 
 /// The finding that is all that words list.
 fn only_finding(ring: &RingSnapshot<'_>) -> Option<RingFinding> {
     let mut records = ring.records().ok()?;
-    match (records.next(), records.next()) {
-        (Some(Err(found)), None) => Some(found),
+    match records.next() {
+        Some(Err(found)) if records.next().is_none() => Some(found),
         _ => None,
     }
 }
@@ -81,13 +86,13 @@ fn nothing_comes_behind_a_finding(rt: HostRuntime) {
         index: 8,
         length: 25,
     };
-    assert_eq!(rt; only_finding(&ring), Some(finding));
+    same(&rt, only_finding(&ring), Some(finding));
     let outside = RingFinding::OutsideOfRecords { position: 20 };
-    assert_eq!(rt; ring.records_from(20).err(), Some(outside));
+    same(&rt, ring.records_from(20).err(), Some(outside));
 }
 
 /// What came of words.
-#[derive(Clone, Copy, Default)]
+#[derive(Clone, Copy)]
 struct Sum {
     listed: u64,
     found: u64,
@@ -120,7 +125,12 @@ impl Sum {
 fn ends_on_any_bytes(rt: HostRuntime) {
     let mut numbers = Numbers(0x9e37_79b9_7f4a_7c15);
     let mut words = [0u64; 112];
-    let mut sum = Sum::default();
+    let mut sum = Sum {
+        listed: 0,
+        found: 0,
+        refused: 0,
+        bytes: 0,
+    };
     for _ in 0..100_000 {
         for word in words.iter_mut().take(16) {
             *word = numbers.next_header();
@@ -196,7 +206,7 @@ fn shows_what_a_read_gives_next(rt: HostRuntime) {
         if numbers.next() % 2 == 0 {
             let words = words_of(&rt, rt.alloc(), &ring);
             let next = first_committed(words.as_slice());
-            assert_eq!(rt; next_read(&mut ring), next);
+            same(&rt, next_read(&mut ring), next);
             compared = compared.wrapping_add(1);
         }
     }

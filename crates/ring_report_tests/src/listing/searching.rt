@@ -1,4 +1,5 @@
 //! What is found among words that look random.
+use crate::compare::same;
 use crate::listing::boards::transmitted;
 use crate::listing::random::Numbers;
 use crate::listing::words::words_of;
@@ -30,7 +31,7 @@ fn memory<S: Words>(rt: &impl Abort, alloc: Global, source: &S) -> Vec<u64> {
 #[test]
 fn finds_a_ring(rt: HostRuntime) {
     let mut ring = SoloRing::new(rt.alloc(), 128).expect(&rt, "a ring");
-    assert_eq!(rt; ring.write(7, b"hello"), Ok(()));
+    same(&rt, ring.write(7, b"hello"), Ok(()));
     let memory = memory(&rt, rt.alloc(), &ring);
     let words = memory.as_slice();
     for (from, capacity, wanted) in [
@@ -40,7 +41,7 @@ fn finds_a_ring(rt: HostRuntime) {
         (0, 256, None),
         (0, 100, None),
     ] {
-        assert_eq!(rt; next_ring(words, from, capacity), wanted);
+        same(&rt, next_ring(words, from, capacity), wanted);
     }
 }
 
@@ -51,7 +52,7 @@ fn finds_a_board_that_lapped(rt: HostRuntime) {
     let memory = memory(&rt, rt.alloc(), &closed);
     let words = memory.as_slice();
     for (from, capacity, wanted) in [(0, 256, Some(100)), (101, 256, None), (0, 512, None)] {
-        assert_eq!(rt; next_board(words, from, capacity), wanted);
+        same(&rt, next_board(words, from, capacity), wanted);
     }
 }
 
@@ -60,12 +61,12 @@ fn finds_counters_in_use(rt: HostRuntime) {
     let (values, mut manager) = CountersManager::new(rt.alloc(), 3, 0).expect(&rt, "counters");
     'ids: for id in 0..3u32 {
         let allocated = manager.allocate(&values, 0, 5, b"key", b"errors", 0);
-        assert_eq!(rt; allocated, Ok(id));
+        same(&rt, allocated, Ok(id));
     }
-    assert_eq!(rt; manager.free(0, 0), Ok(()));
+    same(&rt, manager.free(0, 0), Ok(()));
     let memory = memory(&rt, rt.alloc(), &CounterMetadata(&manager));
     let words = memory.as_slice();
     for (from, wanted) in [(0, Some(164)), (165, Some(228)), (229, None)] {
-        assert_eq!(rt; next_counter(words, from), wanted);
+        same(&rt, next_counter(words, from), wanted);
     }
 }

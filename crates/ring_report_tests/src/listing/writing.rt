@@ -1,4 +1,5 @@
 //! What is written of rings and counters.
+use crate::compare::same;
 use ring_counters::CountersManager;
 use ring_snapshot::{CounterMetadata, CounterValueWords, Words, write_words};
 use ring_words::SoloRing;
@@ -61,7 +62,7 @@ fn stand(bytes: &[u8], at: usize, wanted: &[u8]) -> bool {
 /// A ring with one record.
 fn small_ring(rt: &impl Abort, alloc: Global) -> SoloRing {
     let mut ring = SoloRing::new(alloc, 128).expect(rt, "a ring");
-    assert_eq!(rt; ring.write(7, b"hello"), Ok(()));
+    same(rt, ring.write(7, b"hello"), Ok(()));
     ring
 }
 
@@ -69,7 +70,7 @@ fn small_ring(rt: &impl Abort, alloc: Global) -> SoloRing {
 fn writes_words_little_endian(rt: HostRuntime) {
     let ring = small_ring(&rt, rt.alloc());
     let bytes = written(&rt, rt.alloc(), &ring, 3);
-    assert_eq!(rt; bytes.len(), 128 + 768);
+    same(&rt, bytes.len(), 128 + 768);
     let record = [13u8, 0, 0, 0, 7, 0, 0, 0, 104, 101, 108, 108, 111, 0, 0, 0];
     assert!(rt; stand(bytes.as_slice(), 0, &record));
     // The tail, 128 bytes after the buffer.
@@ -86,16 +87,20 @@ fn a_failed_write_is_an_error(rt: HostRuntime) {
         (895, false),
         (896, true),
     ] {
-        assert_eq!(rt; is_written(rt.alloc(), &ring, 1, limit), (is_done, limit));
+        same(
+            &rt,
+            is_written(rt.alloc(), &ring, 1, limit),
+            (is_done, limit),
+        );
     }
 }
 
 /// Counters of which the second has the value -2.
 fn two_counters(rt: &impl Abort, alloc: Global) -> CountersManager {
     let (values, mut manager) = CountersManager::new(alloc, 2, 0).expect(rt, "counters");
-    assert_eq!(rt; manager.allocate(&values, 0, 5, b"", b"one", 0), Ok(0));
-    assert_eq!(rt; manager.allocate(&values, 0, 6, b"k", b"two", 0), Ok(1));
-    assert_eq!(rt; manager.set(&values, 1, -2), Ok(()));
+    same(rt, manager.allocate(&values, 0, 5, b"", b"one", 0), Ok(0));
+    same(rt, manager.allocate(&values, 0, 6, b"k", b"two", 0), Ok(1));
+    same(rt, manager.set(&values, 1, -2), Ok(()));
     manager
 }
 
@@ -103,12 +108,12 @@ fn two_counters(rt: &impl Abort, alloc: Global) -> CountersManager {
 fn writes_the_records_of_counters(rt: HostRuntime) {
     let manager = two_counters(&rt, rt.alloc());
     let metadata = written(&rt, rt.alloc(), &CounterMetadata(&manager), 100);
-    assert_eq!(rt; metadata.len(), 1024);
+    same(&rt, metadata.len(), 1024);
     let label = [3u8, 0, 0, 0, 116, 119, 111];
     assert!(rt; stand(metadata.as_slice(), 512, &[1, 0, 0, 0, 6, 0, 0, 0]));
     assert!(rt; stand(metadata.as_slice(), 512 + 128, &label));
     let values = written(&rt, rt.alloc(), &CounterValueWords(&manager), 100);
-    assert_eq!(rt; values.len(), 256);
+    same(&rt, values.len(), 256);
     let value = [254u8, 255, 255, 255, 255, 255, 255, 255];
     assert!(rt; stand(values.as_slice(), 128, &value));
 }

@@ -1,0 +1,8 @@
+//! Comparisons. They are calls, since the check proves an `assert_eq!` again at each place.
+use std::fmt::Debug;
+use std::process::Abort;
+
+/// Tests that a value is the wanted one.
+pub fn same<T: Copy + PartialEq + Debug>(rt: &impl Abort, found: T, wanted: T) {
+    assert_eq!(rt; found, wanted);
+}
