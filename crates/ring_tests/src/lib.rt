@@ -10,8 +10,6 @@ mod calls;
 #[cfg(test)]
 mod compare;
 #[cfg(test)]
-mod conductor;
-#[cfg(test)]
 mod counters;
 #[cfg(test)]
 mod texts;

@@ -26,7 +26,7 @@ pub fn transmitted(
 }
 
 /// What a listing has come to.
-#[derive(Clone, Copy, Default)]
+#[derive(Clone, Copy)]
 struct Lap {
     place: u64,
     last: i32,
@@ -57,8 +57,11 @@ impl Lap {
 fn listed_of(rt: &impl Abort, alloc: Global, closed: &ClosedBoard, sent: i32) -> u64 {
     let words = words_of(rt, alloc, closed);
     let board = BoardSnapshot::new(words.as_slice()).expect(rt, "a board");
-    let mut lap = Lap::default();
-    lap.place = closed.latest() & !255;
+    let mut lap = Lap {
+        place: closed.latest() & !255,
+        last: 0,
+        listed: 0,
+    };
     for entry in board.records().expect(rt, "records") {
         assert!(rt; lap.goes_on(entry.expect(rt, "a record")), "another record");
     }
@@ -130,8 +133,8 @@ fn names_what_is_wrong(rt: HostRuntime) {
 /// The finding that is all that words list.
 fn only_finding(board: &BoardSnapshot<'_>) -> Option<BoardFinding> {
     let mut records = board.records().ok()?;
-    match (records.next(), records.next()) {
-        (Some(Err(found)), None) => Some(found),
+    match records.next() {
+        Some(Err(found)) if records.next().is_none() => Some(found),
         _ => None,
     }
 }
@@ -150,7 +153,7 @@ fn nothing_comes_behind_a_finding(rt: HostRuntime) {
 }
 
 /// What came of words.
-#[derive(Clone, Copy, Default)]
+#[derive(Clone, Copy)]
 struct Sum {
     bytes: u64,
     found: u64,
@@ -177,7 +180,11 @@ impl Sum {
 fn ends_on_any_bytes(rt: HostRuntime) {
     let mut numbers = Numbers(0x9e37_79b9_7f4a_7c15);
     let mut words = [0u64; 48];
-    let mut sum = Sum::default();
+    let mut sum = Sum {
+        bytes: 0,
+        found: 0,
+        refused: 0,
+    };
     for _ in 0..100_000 {
         for word in words.iter_mut().take(32) {
             *word = numbers.next_header();

@@ -208,7 +208,7 @@ fn lists_from_an_id_on(rt: HostRuntime) {
 }
 
 /// What came of words.
-#[derive(Clone, Copy, Default)]
+#[derive(Clone, Copy)]
 struct Sum {
     listed: u64,
     found: u64,
@@ -252,7 +252,11 @@ fn change(metadata: &mut [u64; 128], values: &mut [u64; 32], id: usize, numbers:
 fn ends_on_any_bytes(rt: HostRuntime) {
     let mut numbers = Numbers(0x9e37_79b9_7f4a_7c15);
     let (mut metadata, mut values) = ([0u64; 128], [0u64; 32]);
-    let mut sum = Sum::default();
+    let mut sum = Sum {
+        listed: 0,
+        found: 0,
+        bytes: 0,
+    };
     for _ in 0..100_000 {
         for id in 0..2 {
             change(&mut metadata, &mut values, id, &mut numbers);

@@ -71,8 +71,8 @@ fn names_what_is_wrong(rt: HostRuntime) {
 /// The finding that is all that words list.
 fn only_finding(ring: &RingSnapshot<'_>) -> Option<RingFinding> {
     let mut records = ring.records().ok()?;
-    match (records.next(), records.next()) {
-        (Some(Err(found)), None) => Some(found),
+    match records.next() {
+        Some(Err(found)) if records.next().is_none() => Some(found),
         _ => None,
     }
 }
@@ -92,7 +92,7 @@ fn nothing_comes_behind_a_finding(rt: HostRuntime) {
 }
 
 /// What came of words.
-#[derive(Clone, Copy, Default)]
+#[derive(Clone, Copy)]
 struct Sum {
     listed: u64,
     found: u64,
@@ -125,7 +125,12 @@ impl Sum {
 fn ends_on_any_bytes(rt: HostRuntime) {
     let mut numbers = Numbers(0x9e37_79b9_7f4a_7c15);
     let mut words = [0u64; 112];
-    let mut sum = Sum::default();
+    let mut sum = Sum {
+        listed: 0,
+        found: 0,
+        refused: 0,
+        bytes: 0,
+    };
     for _ in 0..100_000 {
         for word in words.iter_mut().take(16) {
             *word = numbers.next_header();
