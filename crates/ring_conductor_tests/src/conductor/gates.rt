@@ -1,6 +1,6 @@
 //! When a storm's clients ask their gate, and when they report an answer to it; and threads that do not start.
 use crate::compare::same;
-use crate::conductor::storms::{Form, all_answered, run_in};
+use crate::conductor::storms::{Form, Numbers, all_answered, run_in};
 use ring_storm::{Gate, OpenGate, StormFault, StormPlan};
 use std::sync::atomic::Ordering::SeqCst;
 use std::sync::atomic::{AtomicBool, AtomicU32};
@@ -195,7 +195,12 @@ fn no_answer_is_told_before_the_conductor_works(rt: HostRuntime) {
     };
     let report = run_in(&rt, rt.alloc(), Form::InWords, &plan, &gate);
     let told = (gate.told_before.load(SeqCst), gate.told.load(SeqCst));
-    same(&rt, (report, told), (Ok(all_answered(2, 2)), (0, 2)));
+    // A client that sends one command allocates a counter, and does not set it.
+    let numbers = Numbers {
+        sum: 0,
+        ..all_answered(2, 2)
+    };
+    same(&rt, (report, told), (Ok(numbers), (0, 2)));
 }
 
 /// The turns of each wait of the storms below.

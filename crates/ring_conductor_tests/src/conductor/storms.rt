@@ -83,7 +83,7 @@ fn two_clients(turns: u64) -> StormPlan {
     }
 }
 
-/// The report of a storm in which all of these commands were answered.
+/// The report of a storm in which all of these commands were answered, of which each client sent more than one.
 pub fn all_answered(clients: u32, commands: u32) -> Numbers {
     Numbers {
         received: u64::from(commands),
