@@ -23,10 +23,12 @@ pub(crate) trait Lane {
 }
 
 impl Lane for SoloRing {
+    #[inline(always)]
     fn put(&mut self, body: &[u8]) -> bool {
         self.write(TYPE_ID, body).is_ok()
     }
 
+    #[inline(always)]
     fn take(&mut self, limit: u32, sum: &mut Sum) {
         self.read(limit, sum);
     }
@@ -47,10 +49,12 @@ impl<K: Kind, B: Bodies> Both<K, B> {
 }
 
 impl<K: Kind, B: Bodies> Lane for Both<K, B> {
+    #[inline(always)]
     fn put(&mut self, body: &[u8]) -> bool {
         self.producer.try_write(TYPE_ID, body).is_ok()
     }
 
+    #[inline(always)]
     fn take(&mut self, limit: u32, sum: &mut Sum) {
         self.consumer.read(limit, sum);
     }

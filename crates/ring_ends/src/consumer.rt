@@ -37,6 +37,7 @@ impl<K: Kind, B: Bodies> Model for ConsumerEnd<K, B> {
 
 impl<K: Kind, B: Bodies> ConsumerEnd<K, B> {
     /// Reads at most `limit` messages, and takes every action of the handler as `Continue`.
+    #[inline(always)]
     pub fn read<H: Handler>(&mut self, limit: u32, handler: &mut H) -> ReadEnd
         requires { H.ready handler.old }
         ensures ready { H.ready handler.new }
@@ -48,6 +49,7 @@ impl<K: Kind, B: Bodies> ConsumerEnd<K, B> {
     }
 
     /// Reads as `read` does, and goes on past the end of the buffer, once.
+    #[inline(always)]
     pub fn read_across<H: Handler>(&mut self, limit: u32, handler: &mut H) -> ReadEnd
         requires { H.ready handler.old }
         ensures ready { H.ready handler.new }
@@ -60,6 +62,7 @@ impl<K: Kind, B: Bodies> ConsumerEnd<K, B> {
     }
 
     /// Reads as `read` does, and heeds the handler's actions.
+    #[inline(always)]
     pub fn controlled_read<H: Handler>(&mut self, limit: u32, handler: &mut H) -> ReadEnd
         requires { H.ready handler.old }
         ensures ready { H.ready handler.new }

@@ -20,6 +20,7 @@ pub enum SplitFault {
 
 impl<B: Bodies> ProducerEnd<ManyToOne, B> {
     /// Writes a message, and tries again while another producer is faster. So it may wait.
+    #[inline(always)]
     pub fn write<R: Wait>(&mut self, rt: &R, type_id: i32, body: &[u8]) -> Result<(), ClaimFault>
         ensures sent { Sends type_id body.now self.old result self.new }
         ensures does { Does (WaitsToWrite self.old.capacity type_id body.now) self.old result self.new }

@@ -43,6 +43,7 @@ impl<K: Kind, B: Bodies> ProducerEnd<K, B> {
     ghost use Rattle.ring_ends.specs.End.{IsOfEnd};
 
     /// Writes a message, by one try. It never waits.
+    #[inline(always)]
     pub fn try_write(&mut self, type_id: i32, body: &[u8]) -> Result<(), TryFault>
         ensures sent { Sends type_id body.now self.old result self.new }
         ensures does { Does (TriesWrite self.old.many self.old.capacity type_id body.now) self.old result self.new }
@@ -53,6 +54,7 @@ impl<K: Kind, B: Bodies> ProducerEnd<K, B> {
 
     /// Writes a message of a producer that holds all shares, so that no other producer contends. Never waits. Returns
     /// the errors of `try_write` except `Contended`.
+    #[inline(always)]
     pub fn write_alone(&mut self, type_id: i32, body: &[u8]) -> Result<(), ClaimFault>
         requires { shares self.old ≡ all_shares }
         ensures sent { Sends type_id body.now self.old result self.new }

@@ -109,6 +109,7 @@ impl<K, B: Bodies> Ring<K, B> {
     /// Stops with `Limit` after `limit` messages. Otherwise stops with `Block` at the end of the buffer, or with
     /// `Unpublished` if no settled record was at the head. The read then moves the head past what it passed. If bodies
     /// are in words, it first sets these words to 0.
+    #[inline(always)]
     pub fn read<H: Handler>(&self, consumer: &mut Consumer, limit: u32, handler: &mut H) -> ReadEnd
         requires consumer { IsConsumerOf self.now consumer.old }
         requires ready { H.ready handler.old }
@@ -161,6 +162,7 @@ impl<K, B: Bodies> Ring<K, B> {
     /// - `Continue` goes on.
     ///
     /// If a message is left, the padding and the aborted records before it stay passed.
+    #[inline(always)]
     pub fn controlled_read<H: Handler>(
         &self,
         consumer: &mut Consumer,
