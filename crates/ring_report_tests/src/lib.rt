@@ -2,9 +2,9 @@
 #![tactic(auto)]
 
 #[cfg(test)]
-mod boards;
-#[cfg(test)]
 mod compare;
+#[cfg(test)]
+mod json;
 #[cfg(test)]
 mod listing;
 #[cfg(test)]
@@ -12,8 +12,10 @@ mod metrics;
 #[cfg(test)]
 mod printing;
 #[cfg(test)]
-mod rings_and_counters;
+mod reports;
 #[cfg(test)]
 mod snapshots;
 #[cfg(test)]
 mod stored;
+#[cfg(test)]
+mod words;

@@ -2,9 +2,11 @@
 
 mod boards;
 mod counters;
+mod joined;
 mod plain;
 mod random;
 mod rings;
 mod searching;
-mod words;
 mod writing;
+
+pub use joined::join;

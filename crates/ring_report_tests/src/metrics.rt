@@ -1,40 +1,11 @@
 //! Metrics, and what two looks say of a ring.
 use crate::compare::same;
-use crate::snapshots::{blocked, lapped, reused, shows, words_of};
-use ring_report::{
-    Bodies, Labelled, OpenClaim, Origin, Report, Stop, View, note_settled, to_prometheus,
-};
-use ring_snapshot::{CounterMetadata, CounterValueWords};
+use crate::reports::{board_report, ring_report};
+use crate::snapshots::shows;
+use crate::stored::LAPPED;
+use ring_report::{Labelled, OpenClaim, Origin, Report, Sight, Stop, note_settled, to_prometheus};
 use std::alloc::{AllocError, Global};
 use std::process::Abort;
-
-static VIEW: View = View {
-    from: None,
-    bodies: Bodies::None,
-    limit: None,
-    width: 64,
-};
-
-/// The report of a ring that an open claim blocks at 40.
-fn ring_report(rt: &impl Abort, alloc: Global) -> Report {
-    let words = words_of(rt, alloc, &blocked(rt, alloc));
-    Report::of_ring(alloc, words.as_slice(), VIEW).expect(rt, "memory")
-}
-
-/// The report of a broadcast buffer.
-fn board_report(rt: &impl Abort, alloc: Global) -> Report {
-    let words = words_of(rt, alloc, &lapped(rt, alloc));
-    Report::of_board(alloc, words.as_slice(), VIEW).expect(rt, "memory")
-}
-
-/// The report of counters.
-fn counters_report(rt: &impl Abort, alloc: Global) -> Report {
-    let manager = reused(rt, alloc);
-    let metadata = words_of(rt, alloc, &CounterMetadata(&manager));
-    let values = words_of(rt, alloc, &CounterValueWords(&manager));
-    let report = Report::of_counters(alloc, metadata.as_slice(), Some(values.as_slice()), VIEW);
-    report.expect(rt, "memory")
-}
 
 /// A report with labels.
 fn labelled<'a>(report: &'a Report, file: &'a str, at: u64, name: Option<&'a str>) -> Labelled<'a> {
@@ -63,19 +34,13 @@ fn metrics_of_all<'a>(
     )
 }
 
-/// The metrics of counters in a file.
-fn metrics_of_counters<'a>(
-    alloc: Global,
-    report: &'a Report,
-    file: &'a str,
-) -> Result<String, AllocError> {
-    to_prometheus(alloc, &[labelled(report, file, 512, None)])
-}
-
 #[test]
 fn shows_each_metric_once(rt: HostRuntime) {
-    let (ring, board) = (ring_report(&rt, rt.alloc()), board_report(&rt, rt.alloc()));
-    let mut other = ring_report(&rt, rt.alloc());
+    let (ring, board) = (
+        ring_report(&rt, rt.alloc(), &[]),
+        board_report(&rt, rt.alloc(), LAPPED.words),
+    );
+    let mut other = ring_report(&rt, rt.alloc(), &[]);
     other.note_blocked(1023);
     shows(
         &rt,
@@ -135,26 +100,8 @@ felter_findings{pid=\"17\",address=\"0x2000\"} 0
     );
 }
 
-#[test]
-fn shows_metrics_of_counters(rt: HostRuntime) {
-    let report = counters_report(&rt, rt.alloc());
-    shows(
-        &rt,
-        metrics_of_counters(rt.alloc(), &report, "m"),
-        "\
-# HELP felter_counter The value of a counter in use, by its id, its type id, its label and its owner.
-# TYPE felter_counter gauge
-felter_counter{file=\"m\",address=\"0x200\",id=\"0\",type=\"1\",label=\"messages sent\",owner=\"7\"} 1000000
-felter_counter{file=\"m\",address=\"0x200\",id=\"1\",type=\"3\",label=\"bytes on disk\",owner=\"9\"} 4096
-# HELP felter_findings How many findings the memory has.
-# TYPE felter_findings gauge
-felter_findings{file=\"m\",address=\"0x200\"} 0
-",
-    );
-}
-
-/// The summary of a report with where a read stops.
-fn shows_summary(rt: &impl Abort, alloc: Global, report: &Report, wanted: &str) {
+/// Tests the summary of a report with where a read stops. The report is dropped here, so that its drop is proved once.
+fn shows_summary(rt: &impl Abort, alloc: Global, report: Report, wanted: &str) {
     let mut text = String::new(alloc);
     report.push_summary(&mut text).expect(rt, "memory");
     same(rt, text.as_str(), wanted);
@@ -162,7 +109,7 @@ fn shows_summary(rt: &impl Abort, alloc: Global, report: &Report, wanted: &str) 
 
 #[test]
 fn one_look_says_where_a_read_stops(rt: HostRuntime) {
-    let report = ring_report(&rt, rt.alloc());
+    let report = ring_report(&rt, rt.alloc(), &[]);
     let claim = Some(OpenClaim {
         type_id: 5,
         length: 28,
@@ -172,66 +119,75 @@ fn one_look_says_where_a_read_stops(rt: HostRuntime) {
     shows_summary(
         &rt,
         rt.alloc(),
-        &report,
+        report,
         "4 committed, 1 open, 0 aborted or padding; 144 of 256 bytes free; a read stops at 40 (open, type 5, length 28)",
     );
 }
 
+/// What a look at the ring with these changes sees at the place where a read stops.
+fn sight_of(rt: &impl Abort, alloc: Global, changes: &[(usize, u64)]) -> Option<Sight> {
+    ring_report(rt, alloc, changes).sight()
+}
+
 #[test]
 fn two_looks_say_that_it_is_blocked(rt: HostRuntime) {
-    let before = ring_report(&rt, rt.alloc());
-    let mut report = ring_report(&rt, rt.alloc());
-    assert!(rt; report.sight().is_some());
-    same(&rt, report.sight(), before.sight());
+    let before = sight_of(&rt, rt.alloc(), &[]);
+    assert!(rt; before.is_some());
+    let mut report = ring_report(&rt, rt.alloc(), &[]);
+    same(&rt, report.sight(), before);
     report.note_blocked(250);
     shows_summary(
         &rt,
         rt.alloc(),
-        &report,
+        report,
         "4 committed, 1 open, 0 aborted or padding; 144 of 256 bytes free; \
 blocked for at least 250 ms at 40 (open, type 5, length 28)",
     );
 }
 
-/// The report of the blocked ring with one word changed.
-fn report_with(rt: &impl Abort, alloc: Global, at: usize, word: u64) -> Report {
-    let mut words = words_of(rt, alloc, &blocked(rt, alloc));
-    if let Some(own) = words.as_mut_slice().get_mut(at) {
-        *own = word;
-    }
-    Report::of_ring(alloc, words.as_slice(), VIEW).expect(rt, "memory")
-}
+/// The index of the head, which is word 48 of the trailer.
+const HEAD: usize = 32 + 48;
+
+/// Another head, and other headers of the claim at byte 40.
+static OTHER_SIGHTS: [(usize, u64); 4] = [
+    (HEAD, 16),
+    (5, 0),
+    (5, 0x5_ffff_ffec),
+    (5, 0x6_ffff_ffe4),
+];
 
 #[test]
 fn another_head_or_claim_is_another_sight(rt: HostRuntime) {
-    let sight = ring_report(&rt, rt.alloc()).sight();
-    // (the head is word 48 of the trailer, which begins at word 32; the claim's header is at byte 40)
-    for (at, word) in [
-        (32 + 48, 16),
-        (5, 0),
-        (5, 0x5_ffff_ffec),
-        (5, 0x6_ffff_ffe4),
-    ] {
-        let other = report_with(&rt, rt.alloc(), at, word).sight();
+    let sight = sight_of(&rt, rt.alloc(), &[]);
+    for other in &OTHER_SIGHTS {
+        let other = sight_of(&rt, rt.alloc(), &[*other]);
         assert!(rt; other.is_some() && other != sight);
     }
-    let committed = report_with(&rt, rt.alloc(), 5, 0x5_0000_001c);
-    same(&rt, committed.sight(), None);
+    same(&rt, sight_of(&rt, rt.alloc(), &[(5, 0x5_0000_001c)]), None);
+}
+
+/// The report of an unsettled look.
+fn unsettled(rt: &impl Abort, report: Report) -> Report {
+    note_settled(Ok(report), false).expect(rt, "memory")
+}
+
+/// How many findings a report has.
+fn count_findings(report: Report) -> usize {
+    report.findings.len()
 }
 
 #[test]
 fn an_unsettled_look_has_no_finding(rt: HostRuntime) {
-    // (the tail, word 16 of the trailer, is before the head)
-    let wrong = report_with(&rt, rt.alloc(), 32 + 48, 4096);
+    // (the tail is before the head)
+    let wrong = ring_report(&rt, rt.alloc(), &[(HEAD, 4096)]);
     same(&rt, wrong.findings.len(), 1);
-    let report = note_settled(Ok(wrong), false).expect(&rt, "memory");
-    same(&rt, report.findings.len(), 0);
-    let report = note_settled(Ok(ring_report(&rt, rt.alloc())), false).expect(&rt, "memory");
+    same(&rt, count_findings(unsettled(&rt, wrong)), 0);
+    let report = unsettled(&rt, ring_report(&rt, rt.alloc(), &[]));
     same(&rt, report.sight(), None);
     shows_summary(
         &rt,
         rt.alloc(),
-        &report,
+        report,
         "4 committed, 1 open, 0 aborted or padding; 144 of 256 bytes free; \
 a read stops at 40 (open, type 5, length 28); positions changed during each of 3 reads",
     );

@@ -1,31 +1,19 @@
-//! Colours, widths, metrics, rates and the texts of faults.
-use crate::snapshots::{blocked, lapped, reused, shows, words_of, wrapped};
-use ring_report::{Bodies, Cause, InputFault, Printable, Report, View};
-use ring_snapshot::{CounterMetadata, CounterValueWords};
-use ring_words::SoloRing;
+//! Colours, rates and the texts of faults.
+use crate::compare::same;
+use crate::reports::{VIEW, board_report, counters_report, ring_report};
+use crate::snapshots::shows;
+use crate::stored::{LAPPED, WRAPPED};
+use crate::words::change;
+use ring_report::{Cause, InputFault, Printable, Report};
 use std::alloc::{AllocError, Global};
 use std::io::ErrorKind;
 use std::process::Abort;
 
-/// No messages are shown, and a buffer in at most this many pieces.
-fn view(width: u32) -> View {
-    View {
-        from: None,
-        bodies: Bodies::None,
-        limit: None,
-        width,
-    }
-}
-
-/// The report of a ring.
-fn ring_report(rt: &impl Abort, alloc: Global, ring: &SoloRing, width: u32) -> Report {
-    let words = words_of(rt, alloc, ring);
-    Report::of_ring(alloc, words.as_slice(), view(width)).expect(rt, "memory")
-}
-
 #[test]
 fn colours_states(rt: HostRuntime) {
-    let report = ring_report(&rt, rt.alloc(), &wrapped(&rt, rt.alloc()), 64);
+    let mut words = [0; 112];
+    change(&mut words, WRAPPED.words);
+    let report = Report::of_ring(rt.alloc(), &words, VIEW).expect(&rt, "memory");
     shows(
         &rt,
         report.to_colored_table(rt.alloc()),
@@ -43,31 +31,8 @@ place  index  state               type  length
     );
 }
 
-/// The most pieces, and the picture.
-static WIDTHS: [(u32, &str); 4] = [
-    (0, "[HTO]"),
-    (8, "[H=OOT=....]"),
-    (16, "[H==OOO==T.........]"),
-    (4_000_000_000, "[H=====OOOO=====T..................]"),
-];
-
-#[test]
-fn draws_as_wide_as_asked(rt: HostRuntime) {
-    let ring = blocked(&rt, rt.alloc());
-    for (width, wanted) in WIDTHS {
-        let report = ring_report(&rt, rt.alloc(), &ring, width);
-        shows(&rt, Ok(report.picture), wanted);
-    }
-}
-
-/// The report of a blocked ring whose tail is this. The tail is word 16 of the trailer.
-fn report_with(rt: &impl Abort, alloc: Global, tail: u64) -> Report {
-    let mut words = words_of(rt, alloc, &blocked(rt, alloc));
-    if let Some(word) = words.as_mut_slice().get_mut(32 + 16) {
-        *word = tail;
-    }
-    Report::of_ring(alloc, words.as_slice(), view(64)).expect(rt, "memory")
-}
+/// The index of the tail, which is word 16 of the trailer.
+const TAIL: usize = 32 + 16;
 
 /// The tail before, the tail after some milliseconds, these, and the rates. Five messages have 112 bytes.
 static RATES: [(u64, u64, u64, &str); 3] = [
@@ -91,66 +56,39 @@ static RATES: [(u64, u64, u64, &str); 3] = [
     ),
 ];
 
-/// How fast a blocked ring goes whose tail was one number and is another one some milliseconds later.
-fn rates(
-    rt: &impl Abort,
-    alloc: Global,
-    then: u64,
-    now: u64,
-    millis: u64,
-) -> Result<String, AllocError> {
-    let before = report_with(rt, alloc, then);
-    report_with(rt, alloc, now).rates_since(alloc, &before, millis)
+/// The rates between two reports. They are dropped here, so that their drops are proved once.
+fn rates(alloc: Global, before: Report, after: Report, millis: u64) -> Result<String, AllocError> {
+    after.rates_since(alloc, &before, millis)
 }
 
 #[test]
 fn says_how_fast_a_ring_goes(rt: HostRuntime) {
-    for (then, now, millis, wanted) in RATES {
-        shows(&rt, rates(&rt, rt.alloc(), then, now, millis), wanted);
+    for (then, now, millis, wanted) in &RATES {
+        let before = ring_report(&rt, rt.alloc(), &[(TAIL, *then)]);
+        let after = ring_report(&rt, rt.alloc(), &[(TAIL, *now)]);
+        shows(&rt, rates(rt.alloc(), before, after, *millis), wanted);
     }
-}
-
-/// The report of a board's words.
-fn board_report(rt: &impl Abort, alloc: Global, words: &[u64]) -> Report {
-    Report::of_board(alloc, words, view(64)).expect(rt, "memory")
 }
 
 #[test]
 fn says_how_fast_a_board_goes(rt: HostRuntime) {
-    let words = words_of(&rt, rt.alloc(), &lapped(&rt, rt.alloc()));
-    let after = board_report(&rt, rt.alloc(), words.as_slice());
-    let before = board_report(&rt, rt.alloc(), &[0; 48]);
+    let before = board_report(&rt, rt.alloc(), &[]);
+    let after = board_report(&rt, rt.alloc(), LAPPED.words);
     // (four messages of 104 bytes are listed)
     shows(
         &rt,
-        after.rates_since(rt.alloc(), &before, 10_000),
+        rates(rt.alloc(), before, after, 10_000),
         "per second  bytes transmitted 36  messages about 1\n",
     );
 }
 
-/// The report of counters, of which the second may have another value.
-fn counters_report(rt: &impl Abort, alloc: Global, value: Option<u64>) -> Report {
-    let manager = reused(rt, alloc);
-    let metadata = words_of(rt, alloc, &CounterMetadata(&manager));
-    let mut values = words_of(rt, alloc, &CounterValueWords(&manager));
-    if let (Some(value), Some(word)) = (value, values.as_mut_slice().get_mut(16)) {
-        *word = value;
-    }
-    let report = Report::of_counters(
-        alloc,
-        metadata.as_slice(),
-        Some(values.as_slice()),
-        view(64),
-    );
-    report.expect(rt, "memory")
-}
-
 #[test]
 fn says_how_fast_counters_change(rt: HostRuntime) {
-    let before = counters_report(&rt, rt.alloc(), None);
-    let after = counters_report(&rt, rt.alloc(), Some(1096));
-    let text = after.rates_since(rt.alloc(), &before, 2000);
-    shows(&rt, text, "per second  id 1 -1500\n");
+    let before = counters_report(&rt, rt.alloc(), &[]);
+    // (the value of the second counter)
+    let after = counters_report(&rt, rt.alloc(), &[(16, 1096)]);
+    let rates = rates(rt.alloc(), before, after, 2000);
+    shows(&rt, rates, "per second  id 1 -1500\n");
 }
 
 static FAULTS: [(Cause, &str); 11] = [
@@ -196,8 +134,11 @@ static FAULTS: [(Cause, &str); 11] = [
 
 #[test]
 fn names_the_file_and_the_cause(rt: HostRuntime) {
-    for (cause, wanted) in FAULTS {
-        let fault = InputFault { file: "x", cause };
+    for (cause, wanted) in &FAULTS {
+        let fault = InputFault {
+            file: "x",
+            cause: *cause,
+        };
         shows(&rt, format!(in rt.alloc(); "{fault}"), wanted);
     }
 }
@@ -210,16 +151,25 @@ static TEXTS: [(&str, &str); 4] = [
     ("naïve", "naïve"),
 ];
 
+/// Tests how a text is printed alone, and as the name of a file.
+fn is_printed(rt: &impl Abort, alloc: Global, text: &str, wanted: &str) {
+    let printed = Printable(text);
+    shows(rt, format!(in alloc; "{printed}"), wanted);
+    let fault = InputFault {
+        file: text,
+        cause: Cause::OutOfMemory,
+    };
+    let line = format!(in alloc; "{fault}").expect(rt, "memory");
+    same(
+        rt,
+        line.as_str().strip_suffix(": out of memory"),
+        Some(wanted),
+    );
+}
+
 #[test]
 fn prints_no_control_characters(rt: HostRuntime) {
-    for (text, wanted) in TEXTS {
-        let printed = Printable(text);
-        shows(&rt, format!(in rt.alloc(); "{printed}"), wanted);
-        let fault = InputFault {
-            file: text,
-            cause: Cause::OutOfMemory,
-        };
-        let whole = format!(in rt.alloc(); "{wanted}: out of memory").expect(&rt, "memory");
-        shows(&rt, format!(in rt.alloc(); "{fault}"), whole.as_str());
+    for (text, wanted) in &TEXTS {
+        is_printed(&rt, rt.alloc(), text, wanted);
     }
 }

@@ -5,7 +5,6 @@ ghost use Rattle.ring_counters.specs.Manager.{IsManagerOf};
 use crate::compare::same;
 use ring_board::{Board, ClosedBoard};
 use ring_counters::{AllocateRefused, CounterValues, CountersManager, IdFault};
-use ring_report::words_of_bytes;
 use ring_snapshot::{Words, write_words};
 use ring_words::{Action, Handler, SoloRing};
 use std::alloc::{AllocError, Global};
@@ -22,12 +21,6 @@ pub fn bytes_of<S: Words>(rt: &impl Abort, alloc: Global, source: &S) -> Vec<u8>
     let mut bytes = Vec::new(alloc);
     write_words(source, &mut bytes).expect(rt, "memory");
     bytes
-}
-
-/// The words of a snapshot.
-pub fn words_of<S: Words>(rt: &impl Abort, alloc: Global, source: &S) -> Vec<u64> {
-    let bytes = bytes_of(rt, alloc, source);
-    words_of_bytes(alloc, bytes.as_slice()).expect(rt, "words")
 }
 
 /// An empty ring.
@@ -116,10 +109,10 @@ static MARKED: [(usize, u64, u64); 6] = [
 
 /// The word and the slot at an index of the buffer of `wrapped` as a plain ring. Two slots still have a message that
 /// was read.
-fn parts_at(index: usize, word: u64) -> (u64, u64) {
-    for (marked, mark, header) in MARKED {
-        if marked == index {
-            return (mark, header);
+pub fn parts_at(index: usize, word: u64) -> (u64, u64) {
+    for (marked, mark, header) in &MARKED {
+        if *marked == index {
+            return (*mark, *header);
         }
     }
     match index {
@@ -127,22 +120,6 @@ fn parts_at(index: usize, word: u64) -> (u64, u64) {
         8 => (0, u64::from_le_bytes(*b"ssage\0\0\0")),
         _ => (0, word),
     }
-}
-
-/// The words of `wrapped` as a plain ring, and then its slots.
-pub fn plain(rt: &impl Abort, alloc: Global, wrapped: &[u64]) -> Vec<u64> {
-    let mut words = Vec::from_slice(alloc, wrapped).expect(rt, "memory");
-    for index in 0..16usize {
-        let (mark, slot) = match words.get(index) {
-            Some(word) => parts_at(index, *word),
-            None => (0, 0),
-        };
-        if let Some(word) = words.get_mut(index) {
-            *word = mark;
-        }
-        words.push(slot).expect(rt, "memory");
-    }
-    words
 }
 
 /// The messages that `lapped` transmits.
@@ -164,8 +141,8 @@ static SENT: [(i32, &str); 12] = [
 /// A broadcast buffer of 256 bytes on which twelve messages were transmitted: the last four are in the second lap.
 pub fn lapped(rt: &impl Abort, alloc: Global) -> ClosedBoard {
     let (board, mut transmitter) = Board::new(alloc, 256).expect(rt, "a board");
-    'sends: for (type_id, text) in SENT {
-        let sent = board.transmit(&mut transmitter, type_id, text.as_bytes());
+    'sends: for (type_id, text) in &SENT {
+        let sent = board.transmit(&mut transmitter, *type_id, text.as_bytes());
         same(rt, sent, Ok(()));
     }
     board.close(transmitter).ok().expect(rt, "a closed board")
@@ -210,12 +187,12 @@ impl Desk {
 
     /// Allocates the counters of the snapshot: the second id is given again.
     fn allocate_all(&mut self, rt: &impl Abort) {
-        for (wanted, now, type_id, texts, registration, owner) in COUNTERS {
-            if now == 1300 {
+        for (wanted, now, type_id, texts, registration, owner) in &COUNTERS {
+            if *now == 1300 {
                 self.free(1000, 1).expect(rt, "a counter");
             }
-            let id = self.allocate(now, type_id, texts, registration, owner);
-            same(rt, id, Ok(wanted));
+            let id = self.allocate(*now, *type_id, *texts, *registration, *owner);
+            same(rt, id, Ok(*wanted));
         }
     }
 }

@@ -1,20 +1,15 @@
 //! What is listed of boards.
 use crate::compare::same;
 use crate::listing::random::Numbers;
-use crate::listing::words::words_of;
+use crate::words::copy;
 use ring_board::{Board, ClosedBoard};
-use ring_snapshot::{BoardFinding, BoardRecord, BoardSnapshot};
+use ring_snapshot::{BoardRecord, BoardSnapshot};
 use std::alloc::Global;
 use std::process::Abort;
 
 /// A closed board of 256 bytes, on which this many messages of lengths that look random were transmitted: message k has
 /// the type id k and bytes k - 1 modulo 256.
-pub fn transmitted(
-    rt: &impl Abort,
-    alloc: Global,
-    numbers: &mut Numbers,
-    sent: i32,
-) -> ClosedBoard {
+fn transmitted(rt: &impl Abort, alloc: Global, numbers: &mut Numbers, sent: i32) -> ClosedBoard {
     let (board, mut transmitter) = Board::new(alloc, 256).expect(rt, "a board");
     'sends: for type_id in 0..sent {
         let len = (numbers.next() % 33) as usize;
@@ -54,9 +49,10 @@ impl Lap {
 }
 
 /// How many records are listed, which have to be the last messages.
-fn listed_of(rt: &impl Abort, alloc: Global, closed: &ClosedBoard, sent: i32) -> u64 {
-    let words = words_of(rt, alloc, closed);
-    let board = BoardSnapshot::new(words.as_slice()).expect(rt, "a board");
+fn listed_of(rt: &impl Abort, closed: &ClosedBoard, sent: i32) -> u64 {
+    let mut words = [0; 48];
+    copy(rt, closed, &mut words);
+    let board = BoardSnapshot::new(&words).expect(rt, "a board");
     let mut lap = Lap {
         place: closed.latest() & !255,
         last: 0,
@@ -75,81 +71,9 @@ fn lists_the_running_lap(rt: HostRuntime) {
     let mut listed = 0u64;
     for sent in 0..100 {
         let closed = transmitted(&rt, rt.alloc(), &mut numbers, sent);
-        listed = listed.wrapping_add(listed_of(&rt, rt.alloc(), &closed, sent));
+        listed = listed.wrapping_add(listed_of(&rt, &closed, sent));
     }
     assert!(rt; listed > 200);
-}
-
-/// The words of a board of 256 bytes with these positions: words 0, 1 and 2 of the trailer.
-fn words_with(intent: u64, tail: u64, latest: u64) -> [u64; 48] {
-    let mut words = [0; 48];
-    words[32] = intent;
-    words[33] = tail;
-    words[34] = latest;
-    words
-}
-
-/// Why words list no records.
-fn refusal(words: &[u64]) -> Option<BoardFinding> {
-    let made = BoardSnapshot::new(words);
-    made.and_then(|board| board.records()).err()
-}
-
-/// The positions intent, tail and latest, and why they list no records.
-static REFUSALS: [(u64, u64, u64, BoardFinding); 2] = [
-    (
-        16,
-        24,
-        0,
-        BoardFinding::IntentBeforeTail {
-            intent: 16,
-            tail: 24,
-        },
-    ),
-    (
-        24,
-        24,
-        32,
-        BoardFinding::TailBeforeLatest {
-            tail: 24,
-            latest: 32,
-        },
-    ),
-];
-
-#[test]
-fn names_what_is_wrong(rt: HostRuntime) {
-    let too_few = BoardFinding::BadSize { words: 47 };
-    same(&rt, refusal(&[0; 47]), Some(too_few));
-    for (intent, tail, latest, finding) in REFUSALS {
-        same(
-            &rt,
-            refusal(&words_with(intent, tail, latest)),
-            Some(finding),
-        );
-    }
-}
-
-/// The finding that is all that words list.
-fn only_finding(board: &BoardSnapshot<'_>) -> Option<BoardFinding> {
-    let mut records = board.records().ok()?;
-    match records.next() {
-        Some(Err(found)) if records.next().is_none() => Some(found),
-        _ => None,
-    }
-}
-
-#[test]
-fn nothing_comes_behind_a_finding(rt: HostRuntime) {
-    let words = words_with(24, 24, 0);
-    let board = BoardSnapshot::new(&words).expect(&rt, "a board");
-    let finding = BoardFinding::BadLength {
-        index: 0,
-        length: 0,
-    };
-    same(&rt, only_finding(&board), Some(finding));
-    let outside = BoardFinding::OutsideOfRecords { position: 8 };
-    same(&rt, board.records_from(8).err(), Some(outside));
 }
 
 /// What came of words.

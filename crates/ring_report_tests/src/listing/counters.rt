@@ -2,15 +2,12 @@
 ghost use Rattle.std.specs.Prelude.{◌<◌};
 ghost use Rattle.ring_counters.specs.Manager.{IsManagerOf};
 
-use crate::compare::same;
 use crate::listing::random::Numbers;
-use crate::listing::words::{has_bytes, words_of};
-use ring_counters::{CounterValues, CountersManager, IdFault};
+use crate::words::{copy, has_bytes};
+use ring_counters::{CounterValues, CountersManager};
 use ring_snapshot::{
-    Counter, CounterMetadata, CounterState, CounterValueWords, Counters, CountersFinding,
-    CountersSnapshot,
+    Counter, CounterMetadata, CounterState, CounterValueWords, CountersFinding, CountersSnapshot,
 };
-use std::alloc::Global;
 use std::process::Abort;
 
 /// A manager with its values.
@@ -61,30 +58,16 @@ fn has_numbers(manager: &CountersManager, counter: &Counter<'_>) -> bool {
 }
 
 /// Tests whether label and key of a counter in use are those that the manager says.
-fn has_texts(manager: &CountersManager, counter: Counter<'_>) -> Result<bool, IdFault> {
-    let mut label = [0u8; 380];
-    let len = manager.label_into(counter.id, &mut label)?;
-    let mut key = [0u8; 112];
-    manager.key_into(counter.id, &mut key)?;
+fn has_texts(manager: &CountersManager, counter: Counter<'_>) -> bool {
+    let (mut label, mut key) = ([0u8; 380], [0u8; 112]);
+    let Ok(len) = manager.label_into(counter.id, &mut label) else {
+        return false;
+    };
+    let has_key = manager.key_into(counter.id, &mut key).is_ok();
     let label = label.get(..len).unwrap_or(label.as_slice());
-    Ok(has_bytes(counter.label, label) && has_bytes(counter.key, &key))
-}
-
-/// Tests whether a counter is as the manager says of its id.
-fn is_told(manager: &CountersManager, counter: Counter<'_>) -> Result<bool, IdFault> {
-    if manager.deadline(counter.id)? != counter.deadline {
-        return Ok(false);
-    }
-    match counter.state {
-        CounterState::Allocated => {
-            Ok(
-                manager.state(counter.id)? == 1
-                    && has_numbers(manager, &counter)
-                    && has_texts(manager, counter)?,
-            )
-        }
-        CounterState::Reclaimed => Ok(manager.state(counter.id)? != 1),
-    }
+    let is_label = has_bytes(counter.label, label);
+    let is_key = has_bytes(counter.key, &key);
+    has_key && is_label && is_key
 }
 
 /// Tests whether an entry of a listing is the counter that the manager has at an id.
@@ -93,9 +76,18 @@ fn is_its(
     id: u32,
     entry: Option<Result<Counter<'_>, CountersFinding>>,
 ) -> bool {
-    match entry {
-        Some(Ok(counter)) => counter.id == id && is_told(manager, counter) == Ok(true),
-        _ => false,
+    let Some(Ok(counter)) = entry else {
+        return false;
+    };
+    if counter.id != id || manager.deadline(id) != Ok(counter.deadline) {
+        return false;
+    }
+    let is_in_use = manager.state(id) == Ok(1);
+    match counter.state {
+        CounterState::Allocated => {
+            is_in_use && has_numbers(manager, &counter) && has_texts(manager, counter)
+        }
+        CounterState::Reclaimed => !is_in_use,
     }
 }
 
@@ -114,10 +106,11 @@ fn count_of(rt: &impl Abort, manager: &CountersManager, snapshot: &CountersSnaps
 }
 
 /// How many counters are listed, which have to be those that the manager has.
-fn listed_of(rt: &impl Abort, alloc: Global, manager: &CountersManager) -> u32 {
-    let metadata = words_of(rt, alloc, &CounterMetadata(manager));
-    let values = words_of(rt, alloc, &CounterValueWords(manager));
-    let snapshot = CountersSnapshot::new(metadata.as_slice(), values.as_slice());
+fn listed_of(rt: &impl Abort, manager: &CountersManager) -> u32 {
+    let (mut metadata, mut values) = ([0; 8 * 64], [0; 8 * 16]);
+    copy(rt, &CounterMetadata(manager), &mut metadata);
+    copy(rt, &CounterValueWords(manager), &mut values);
+    let snapshot = CountersSnapshot::new(&metadata, &values);
     count_of(rt, manager, &snapshot.expect(rt, "counters"))
 }
 
@@ -130,81 +123,10 @@ fn lists_what_the_manager_answers(rt: HostRuntime) {
     for now in 0..1000 {
         desk.step(&mut numbers, now);
         if now % 5 == 0 {
-            listed = listed.wrapping_add(listed_of(&rt, rt.alloc(), &desk.counters));
+            listed = listed.wrapping_add(listed_of(&rt, &desk.counters));
         }
     }
     assert!(rt; listed > 500);
-}
-
-#[test]
-fn refuses_other_sizes(rt: HostRuntime) {
-    let (metadata, values) = ([0u64; 64], [0u64; 48]);
-    let finding = CountersFinding::BadSize {
-        metadata: 64,
-        values: 48,
-    };
-    same(
-        &rt,
-        CountersSnapshot::new(&metadata, &values).err(),
-        Some(finding),
-    );
-    assert!(rt; CountersSnapshot::new(&metadata[..0], &values[..0]).is_err());
-}
-
-/// The metadata of three ids: a state that no record has, a label of 381 bytes, and one in use of type 7.
-fn wrong_metadata() -> [u64; 192] {
-    let mut metadata = [0; 192];
-    metadata[0] = 2;
-    metadata[64] = 1;
-    metadata[64 + 16] = 381;
-    metadata[128] = 7 << 32 | 1;
-    metadata
-}
-
-/// What the metadata finds, in order.
-static FINDINGS: [CountersFinding; 2] = [
-    CountersFinding::BadState { id: 0, state: 2 },
-    CountersFinding::BadLabelLength { id: 1, length: 381 },
-];
-
-/// The finding that comes next, if one does.
-fn next_finding(listed: &mut Counters<'_>) -> Option<CountersFinding> {
-    match listed.next() {
-        Some(Err(found)) => Some(found),
-        _ => None,
-    }
-}
-
-/// The id and the type of the counter that comes next, if one does. It has to be without a label.
-fn next_type(listed: &mut Counters<'_>) -> Option<(u32, i32)> {
-    match listed.next() {
-        Some(Ok(counter)) if counter.label.is_empty() => Some((counter.id, counter.type_id)),
-        _ => None,
-    }
-}
-
-#[test]
-fn names_what_is_wrong(rt: HostRuntime) {
-    let (metadata, values) = (wrong_metadata(), [0u64; 48]);
-    let snapshot = CountersSnapshot::new(&metadata, &values).expect(&rt, "counters");
-    same(&rt, snapshot.count(), 3);
-    let mut listed = snapshot.counters();
-    for finding in FINDINGS {
-        same(&rt, next_finding(&mut listed), Some(finding));
-    }
-    same(&rt, next_type(&mut listed), Some((2, 7)));
-    assert!(rt; listed.next().is_none());
-}
-
-#[test]
-fn lists_from_an_id_on(rt: HostRuntime) {
-    let (metadata, values) = (wrong_metadata(), [0u64; 48]);
-    let snapshot = CountersSnapshot::new(&metadata, &values).expect(&rt, "counters");
-    let Some(Ok(first)) = snapshot.counters_from(2).next() else {
-        panic!(rt; "a counter is missing");
-    };
-    same(&rt, first.id, 2);
-    assert!(rt; snapshot.counters_from(3).next().is_none());
 }
 
 /// What came of words.

@@ -1,94 +1,30 @@
 //! What is listed of rings.
 use crate::compare::same;
 use crate::listing::random::Numbers;
-use crate::listing::words::{has_bytes, words_of};
-use ring_snapshot::{RecordState, RingFinding, RingSnapshot};
+use crate::words::{Changes, change, copy};
+use ring_snapshot::{RecordState, RingSnapshot};
 use ring_words::{Action, Handler, SoloRing};
-use std::alloc::Global;
-use std::process::Abort;
 
-/// The words of a ring with a committed record, an open one, and one without a message.
-fn claimed_words(rt: &impl Abort, alloc: Global) -> Vec<u64> {
-    let mut ring = SoloRing::new(alloc, 128).expect(rt, "a ring");
-    same(rt, ring.write(7, b"hello"), Ok(()));
-    ring.claim(8, 3).expect(rt, "a claim").leak();
-    same(rt, ring.write(9, b""), Ok(()));
-    words_of(rt, alloc, &ring)
-}
-
-#[test]
-fn lists_what_is_claimed(rt: HostRuntime) {
-    let words = claimed_words(&rt, rt.alloc());
-    let ring = RingSnapshot::new(words.as_slice()).expect(&rt, "a ring");
-    same(
-        &rt,
-        (ring.capacity(), ring.head(), ring.tail()),
-        (128, 0, 40),
-    );
-    let mut records = ring.records().expect(&rt, "records");
-    for (place, index, state, type_id, length, body) in [
-        (0, 0, RecordState::Committed, 7, 13, b"hello".as_slice()),
-        (16, 16, RecordState::Open, 8, 11, b"\0\0\0".as_slice()),
-        (32, 32, RecordState::Committed, 9, 8, b"".as_slice()),
-    ] {
-        let Some(Ok(record)) = records.next() else {
-            panic!(rt; "a record is missing");
-        };
-        same(&rt, (record.place, record.index), (place, index));
-        same(&rt, record.state, state);
-        same(&rt, (record.type_id, record.length), (type_id, length));
-        assert!(rt; has_bytes(record.body, body));
-    }
-    assert!(rt; records.next().is_none());
-}
-
-/// The words of a ring of 128 bytes with these positions. The tail is word 16 of the trailer, the head word 48.
-fn words_between(head: u64, tail: u64) -> [u64; 112] {
-    let mut words = [0; 112];
-    words[16 + 48] = head;
-    words[16 + 16] = tail;
-    words
-}
-
-/// Why words list no records.
-fn refusal(words: &[u64]) -> Option<RingFinding> {
-    let made = RingSnapshot::new(words);
-    made.and_then(|ring| ring.records()).err()
-}
+/// The words of a ring with a committed record, an open one, and one without a message. What is listed of them is in
+/// `tests/snapshots/rings.txt`.
+static CLAIMED: Changes = &[
+    (0, 0x0000_0007_0000_000d),
+    (1, 0x0000_006f_6c6c_6568),
+    (2, 0x0000_0008_ffff_fff5),
+    (4, 0x0000_0009_0000_0008),
+    (16 + 16, 40),
+];
 
 #[test]
-fn names_what_is_wrong(rt: HostRuntime) {
-    let too_few = RingFinding::BadSize { words: 111 };
-    same(&rt, refusal(&[0; 111]), Some(too_few));
-    for (head, tail, finding) in [
-        (8, 0, RingFinding::TailBeforeHead { head: 8, tail: 0 }),
-        (8, 144, RingFinding::TailTooFar { head: 8, tail: 144 }),
-    ] {
-        same(&rt, refusal(&words_between(head, tail)), Some(finding));
-    }
-}
-
-/// The finding that is all that words list.
-fn only_finding(ring: &RingSnapshot<'_>) -> Option<RingFinding> {
-    let mut records = ring.records().ok()?;
-    match records.next() {
-        Some(Err(found)) if records.next().is_none() => Some(found),
-        _ => None,
-    }
-}
-
-#[test]
-fn nothing_comes_behind_a_finding(rt: HostRuntime) {
-    let mut words = words_between(8, 24);
-    words[1] = 0x0000_0007_0000_0019;
-    let ring = RingSnapshot::new(&words).expect(&rt, "a ring");
-    let finding = RingFinding::BadLength {
-        index: 8,
-        length: 25,
-    };
-    same(&rt, only_finding(&ring), Some(finding));
-    let outside = RingFinding::OutsideOfRecords { position: 20 };
-    same(&rt, ring.records_from(20).err(), Some(outside));
+fn writes_what_is_claimed(rt: HostRuntime) {
+    let mut ring = SoloRing::new(rt.alloc(), 128).expect(&rt, "a ring");
+    same(&rt, ring.write(7, b"hello"), Ok(()));
+    ring.claim(8, 3).expect(&rt, "a claim").leak();
+    same(&rt, ring.write(9, b""), Ok(()));
+    let (mut words, mut wanted) = ([0; 112], [0; 112]);
+    copy(&rt, &ring, &mut words);
+    change(&mut wanted, CLAIMED);
+    same(&rt, words.as_slice(), wanted.as_slice());
 }
 
 /// What came of words.
@@ -204,9 +140,9 @@ fn shows_what_a_read_gives_next(rt: HostRuntime) {
     for type_id in 1..2000 {
         write_or_abort(&mut ring, &mut numbers, type_id);
         if numbers.next() % 2 == 0 {
-            let words = words_of(&rt, rt.alloc(), &ring);
-            let next = first_committed(words.as_slice());
-            same(&rt, next_read(&mut ring), next);
+            let mut words = [0; 112];
+            copy(&rt, &ring, &mut words);
+            same(&rt, next_read(&mut ring), first_committed(&words));
             compared = compared.wrapping_add(1);
         }
     }

@@ -43,20 +43,30 @@ fn is_written<S: Words>(alloc: Global, source: &S, most: usize, limit: usize) ->
     (done, out.bytes.len())
 }
 
-/// What is written, this many bytes at a time.
-fn written<S: Words>(rt: &impl Abort, alloc: Global, source: &S, most: usize) -> Vec<u8> {
+/// Tests whether these bytes are at an index.
+fn stand(bytes: &[u8], at: usize, wanted: &[u8]) -> bool {
+    bytes.get(at..).is_some_and(|rest| rest.starts_with(wanted))
+}
+
+/// Tests how many bytes are written, this many at a time, and some of them, each after its index.
+fn writes<S: Words>(
+    rt: &impl Abort,
+    alloc: Global,
+    source: &S,
+    most: usize,
+    len: usize,
+    parts: &[(usize, &[u8])],
+) {
     let mut out = Slow {
         bytes: Vec::new(alloc),
         most,
         limit: usize::MAX,
     };
     assert!(rt; write_words(source, &mut out).is_ok());
-    out.bytes
-}
-
-/// Tests whether these bytes are at an index.
-fn stand(bytes: &[u8], at: usize, wanted: &[u8]) -> bool {
-    bytes.get(at..).is_some_and(|rest| rest.starts_with(wanted))
+    same(rt, out.bytes.len(), len);
+    for (at, wanted) in parts {
+        assert!(rt; stand(out.bytes.as_slice(), *at, wanted), "at {at}");
+    }
 }
 
 /// A ring with one record.
@@ -66,15 +76,19 @@ fn small_ring(rt: &impl Abort, alloc: Global) -> SoloRing {
     ring
 }
 
+/// A record, and the tail, which is 128 bytes after the buffer.
+static RECORD: [(usize, &[u8]); 2] = [
+    (
+        0,
+        &[13, 0, 0, 0, 7, 0, 0, 0, 104, 101, 108, 108, 111, 0, 0, 0],
+    ),
+    (256, &[16, 0, 0, 0, 0, 0, 0, 0]),
+];
+
 #[test]
 fn writes_words_little_endian(rt: HostRuntime) {
     let ring = small_ring(&rt, rt.alloc());
-    let bytes = written(&rt, rt.alloc(), &ring, 3);
-    same(&rt, bytes.len(), 128 + 768);
-    let record = [13u8, 0, 0, 0, 7, 0, 0, 0, 104, 101, 108, 108, 111, 0, 0, 0];
-    assert!(rt; stand(bytes.as_slice(), 0, &record));
-    // The tail, 128 bytes after the buffer.
-    assert!(rt; stand(bytes.as_slice(), 256, &[16, 0, 0, 0, 0, 0, 0, 0]));
+    writes(&rt, rt.alloc(), &ring, 3, 128 + 768, &RECORD);
 }
 
 #[test]
@@ -104,16 +118,20 @@ fn two_counters(rt: &impl Abort, alloc: Global) -> CountersManager {
     manager
 }
 
+/// The state, the type and the label of the second counter.
+static METADATA: [(usize, &[u8]); 2] = [
+    (512, &[1, 0, 0, 0, 6, 0, 0, 0]),
+    (512 + 128, &[3, 0, 0, 0, 116, 119, 111]),
+];
+
+/// Its value.
+static VALUES: [(usize, &[u8]); 1] = [(128, &[254, 255, 255, 255, 255, 255, 255, 255])];
+
 #[test]
 fn writes_the_records_of_counters(rt: HostRuntime) {
     let manager = two_counters(&rt, rt.alloc());
-    let metadata = written(&rt, rt.alloc(), &CounterMetadata(&manager), 100);
-    same(&rt, metadata.len(), 1024);
-    let label = [3u8, 0, 0, 0, 116, 119, 111];
-    assert!(rt; stand(metadata.as_slice(), 512, &[1, 0, 0, 0, 6, 0, 0, 0]));
-    assert!(rt; stand(metadata.as_slice(), 512 + 128, &label));
-    let values = written(&rt, rt.alloc(), &CounterValueWords(&manager), 100);
-    same(&rt, values.len(), 256);
-    let value = [254u8, 255, 255, 255, 255, 255, 255, 255];
-    assert!(rt; stand(values.as_slice(), 128, &value));
+    let metadata = CounterMetadata(&manager);
+    writes(&rt, rt.alloc(), &metadata, 100, 1024, &METADATA);
+    let values = CounterValueWords(&manager);
+    writes(&rt, rt.alloc(), &values, 100, 256, &VALUES);
 }
