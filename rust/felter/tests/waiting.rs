@@ -111,10 +111,13 @@ fn median_of_wakes(rounds: u64, pause: Duration) -> Duration {
 
 #[test]
 fn a_reader_that_sleeps_is_woken_by_a_write() {
-    // (with pauses of up to a millisecond in place of wakes it is half a millisecond: the best of a few tries, since
-    // other programs may have the processors)
-    let best = (0..10).map(|_| median_of_wakes(21, Duration::from_millis(4))).min().unwrap();
-    assert!(best < Duration::from_micros(250), "{best:?}");
+    // (With pauses of up to a millisecond in place of wakes it is half a millisecond. A thread also wakes late while other
+    // programs have the processors, so there are tries until one is fast.)
+    let slow: Vec<_> = (0..60)
+        .map(|_| median_of_wakes(51, Duration::from_millis(4)))
+        .take_while(|it| *it >= Duration::from_micros(250))
+        .collect();
+    assert!(slow.len() < 60, "{slow:?}");
 }
 
 #[test]
