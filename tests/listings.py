@@ -7,9 +7,9 @@ input, and `{}` is a file with the name `case`. A line that begins with `<` says
 - 0*N is N words of 0;
 - INDEX=WORD is another word at this index of all words before.
 
-Below it, lines indented by four spaces are what the command prints, where `...` stands for any lines, and lines that
-begin with `!` are on standard error. The status is then 1, and otherwise 0. Any other line says what the cases below it
-show, and one that begins with # is a remark.
+Below it, lines indented by four spaces are what the command prints. A line `...` matches any number of lines. Lines that
+begin with `!` are on standard error. If there is such a line, the status is 1, and otherwise 0. Any other line says what
+the cases below it show, and a line that begins with # is a remark.
 """
 import glob
 import os
