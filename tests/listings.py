@@ -7,9 +7,9 @@ input, and `{}` is a file with the name `case`. A line that begins with `<` says
 - 0*N is N words of 0;
 - INDEX=WORD is another word at this index of all words before.
 
-Below it, lines indented by four spaces are what the command prints. A line `...` matches any number of lines. Lines that
-begin with `!` are on standard error. If there is such a line, the status is 1, and otherwise 0. Any other line says what
-the cases below it show, and a line that begins with # is a remark.
+Below it, lines indented by four spaces are what the command prints. A line `...` matches any number of lines. Lines
+that begin with `!` are on standard error. If there is such a line, the status is 1, and otherwise 0. Any other line
+says what the cases below it show, and a line that begins with # is a remark.
 """
 import glob
 import os
@@ -57,7 +57,7 @@ def in_file(path, lines):
             continue
         if shown:
             if not what or not words or image is None:
-                raise ValueError("%s: a case needs a line that says what it shows, a command, and what it reads" % where)
+                raise ValueError(f"{where}: a case needs a line that says what it shows, a command, and what it reads")
             yield Listing("%s: %s" % (where, what), words, image, tuple(shown))
             image, shown = None, []
         where = "%s:%d" % (path, number)
