@@ -83,6 +83,7 @@ impl<K: Kind, B: Bodies> NumberedEnd<K, B> {
     }
 
     /// Writes a message, as `ProducerEnd::try_write` does.
+    #[inline(always)]
     pub fn try_write(&mut self, type_id: i32, body: &[u8]) -> Result<(), TryFault>
         ensures sent { OfEnd (Sends type_id body.now) self.old result self.new }
         ensures does { OfEnd (Does (TriesWrite self.old.end.many self.old.end.capacity type_id body.now))

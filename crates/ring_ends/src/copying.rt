@@ -28,6 +28,7 @@ pub(crate) struct Copying<'a> {
 }
 
 /// Copies bytes to the front of a buffer.
+#[inline(always)]
 fn copy_front(buffer: &mut [u8], bytes: &[u8])
     requires { length bytes.now ≤ length buffer.old }
     ensures { buffer.new ≡ overwritten 0 bytes.now buffer.old }
@@ -64,6 +65,7 @@ impl Handler for Copying<'_> {
 
 impl<K: Kind, B: Bodies> ConsumerEnd<K, B> {
     /// Copies up to one message, as far as the end of the ring's buffer, and returns why it stopped.
+    #[inline(always)]
     fn copy_one(&mut self, copying: &mut Copying<'_>) -> Stop
         requires waits { copying.old.found ≡ Nothing }
         ensures borrow { copying.new.buffer.ghost_name ≡ copying.old.buffer.ghost_name }
@@ -88,6 +90,7 @@ impl<K: Kind, B: Bodies> ConsumerEnd<K, B> {
     }
 
     /// Copies the next message into a buffer. It is taken, or stays in the ring.
+    #[inline(always)]
     fn copy_next(&mut self, takes: bool, buffer: &mut [u8]) -> NextMessage
         ensures does { Does (CopiesNext takes (HadNone 1) buffer.old buffer.new) self.old result self.new }
     {

@@ -9,6 +9,7 @@ use ring_ends::{ClaimRefused, NumberFault, NumberedEnd};
 use ring_rings::{InSlots, Kind};
 
 /// Writes a message, by one try.
+#[inline(always)]
 pub(crate) fn write_in<K: Kind>(end: &mut NumberedEnd<K, InSlots>, type_id: i32, body: &[u8]) -> i32
     ensures kind { end.new.end.many ≡ end.old.end.many }
     ensures sent { SendsOut type_id body.now end.old.end.view end.new.end.view result }

@@ -69,6 +69,7 @@ impl ConsumerSide {
     }
 
     /// Reads the next message into a buffer, and reports its type id and length.
+    #[inline(always)]
     pub fn read(&mut self, type_id: &mut i32, len: &mut usize, buffer: &mut [u8]) -> i32
         ensures received { ReceivesOut (out type_id.new len.new buffer.new) self.old self.new result }
         ensures does { ReadOne (out type_id.old len.old buffer.old) (out type_id.new len.new buffer.new)

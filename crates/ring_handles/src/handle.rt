@@ -84,6 +84,7 @@ impl Handle {
     }
 
     /// Takes the box out, and leaves the handle empty.
+    #[inline(always)]
     pub fn take(&mut self, alloc: Global) -> Option<Box<Held>>
         ensures left { self.new.held ≡ None }
         ensures taken { IfOption result (self.old.held ≡ None) (λ b. self.old.held ≡ Some b.value) }
@@ -92,6 +93,7 @@ impl Handle {
     }
 
     /// Puts a box in. What the handle held is dropped.
+    #[inline(always)]
     pub fn put(&mut self, held: Box<Held>)
         ensures { self.new.held ≡ Some held.value }
     {

@@ -40,6 +40,7 @@ impl ProducerSide {
     }
 
     /// Writes a message, by one try.
+    #[inline(always)]
     pub fn write(&mut self, type_id: i32, body: &[u8]) -> i32
         ensures sent { SendsOut type_id body.now self.old.view self.new.view result }
         ensures does { Wrote type_id body.now self.old self.new result }

@@ -2,8 +2,7 @@
 use Rattle.std.specs.Prelude.{◌≢◌, ℕ, List, [], ◌∷◌, All, Option, Some, None}
 use Rattle.ring_words.specs.Open.{ClaimAt}
 use Rattle.ring_table.specs.declared.view.View.{View}
-use Rattle.ring_rings.specs.declared.{ring.Ring.Ring, bodies.Bodies.Ghosts, ring.Producer.Producer}
-use Rattle.ring_rings.specs.Seats.{capacity_of, view_of, IsOpenAt}
+use Rattle.ring_rings.specs.Seats.{IsOpenAt}
 
 -- the contents of these slots, of which some are empty
 abbrev pub in_slots : {A : Type 0} → List (Option A) → List A
@@ -20,6 +19,3 @@ AreApart (t ∷ ts) = All (λ u. t.place ≢ u.place) ts × AreApart ts
 pub record AreOpenAt (C : ℕ) (v : View) (claims : List ClaimAt) : Type 0 where
   pub each : All (IsOpenAt C v) claims
   pub apart : AreApart claims
-
-abbrev pub AreOpen : {K B : Type 0} {G : Ghosts B} → Ring K B G → Producer → List ClaimAt → Type 0
-AreOpen ring p claims = AreOpenAt (capacity_of ring) (view_of p) claims

@@ -125,9 +125,6 @@ KeepsOthers ring place old new = KeepsAllBut (capacity_of ring) place (view_of o
 abbrev pub LiesApartAt : ℕ → View → ClaimAt → Type 0
 LiesApartAt C v new = (t : ClaimAt) → IsOpenAt C v t → t.place ≢ new.place
 
-abbrev pub LiesApart : {K B : Type 0} {G : Ghosts B} → Ring K B G → Producer → ClaimAt → Type 0
-LiesApart ring p new = LiesApartAt (capacity_of ring) (view_of p) new
-
 -- a claim that was opened is at another place than the claims that were open before
 pub record OpensAt (C : ℕ) (v w : View) (t : ClaimAt) : Type 0 where
   pub is_open : IsOpenAt C w t
