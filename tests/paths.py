@@ -1,5 +1,5 @@
-"""What tests/documents asks of the files and functions in docs/ARCHITECTURE.md: those of the paths of data, and how many
-they are, and those that keep each rule."""
+"""What tests/documents asks of the files and functions in docs/ARCHITECTURE.md: those of the paths of data, with how
+many there are, and those that keep each rule."""
 import os
 import re
 
