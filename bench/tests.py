@@ -309,6 +309,14 @@ class Figures(unittest.TestCase):
         self.assertEqual(page.between("a\n\nc\n", "p", "older", []), "a\n\nc\n")
         self.assertEqual(page.between(text, "p", "older", None), text)
 
+    def test_readme_says_how_older_rings_were_called(self):
+        runs, are_older = results.load(), sections.are_older
+        self.addCleanup(setattr, sections, "are_older", are_older)
+        for is_older in (False, True):
+            sections.are_older = lambda _runs, is_older=is_older: is_older
+            head = next(sections.readme(runs)).split(" | ")[0]
+            self.assertEqual("called below the [ends]" in head, is_older)
+
     def test_sets_with_the_calls_of_c_replace_those_kept_apart(self):
         self.assertEqual(page.replaced(self.runs()), [])
         self.assertEqual(page.replaced(self.runs(**{"felter-o2o": [5.0, 5.0]})), ["felter"])
