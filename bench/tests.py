@@ -8,7 +8,8 @@
 - fewer than three sets, a set that was not gated and a set that ran slower are no figures
 - a row that one set lacks is no figure
 - sets of short rounds are figures, and the page says that the rounds were short
-- sets with the calls of felter.h replace those that were kept apart, and sets with batches replace the older tables
+- sets with the calls of felter.h or with other queues replace those that were kept apart, and sets with batches replace
+  the older tables
 """
 import contextlib
 import io
@@ -320,6 +321,12 @@ class Figures(unittest.TestCase):
     def test_sets_with_the_calls_of_c_replace_those_kept_apart(self):
         self.assertEqual(page.replaced(self.runs()), [])
         self.assertEqual(page.replaced(self.runs(**{"felter-o2o": [5.0, 5.0]})), ["felter"])
+
+    def test_sets_with_other_queues_replace_those_kept_apart(self):
+        for rows, replaced in (({}, []), ({"boost-spsc": [5.0, 5.0]}, ["queues"])):
+            runs = self.runs(**rows)
+            runs["queues"] = results.Run(runs["sets"].about, [])
+            self.assertEqual(page.replaced(runs), replaced)
 
     def test_rings_in_java_are_compared_with_agrona_in_java(self):
         self.assertIsNone(sections.from_java(self.runs()))
