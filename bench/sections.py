@@ -255,7 +255,7 @@ def readme(runs):
             keys = [(workload, queue, size, threads, metric) for queue in queues.get(name, ())]
             cells.append(times(of_queue(runs, twin, *keys)))
         lines.append(cells)
-    head = "the plain rings are earlier ones" if are_older(runs) else ""
+    head = "the plain rings are earlier ones, called below the [ends](docs/USING.md)" if are_older(runs) else ""
     yield from table([head, "ours, ns", "ours", *(title for _, title in README_QUEUES)], lines)
 
 

@@ -8,7 +8,8 @@
 - fewer than three sets, a set that was not gated and a set that ran slower are no figures
 - a row that one set lacks is no figure
 - sets of short rounds are figures, and the page says that the rounds were short
-- sets with the calls of felter.h replace those that were kept apart, and sets with batches replace the older tables
+- sets with the calls of felter.h or with other queues replace those that were kept apart, and sets with batches replace
+  the older tables
 """
 import contextlib
 import io
@@ -309,9 +310,23 @@ class Figures(unittest.TestCase):
         self.assertEqual(page.between("a\n\nc\n", "p", "older", []), "a\n\nc\n")
         self.assertEqual(page.between(text, "p", "older", None), text)
 
+    def test_readme_says_how_older_rings_were_called(self):
+        runs, are_older = results.load(), sections.are_older
+        self.addCleanup(setattr, sections, "are_older", are_older)
+        for is_older in (False, True):
+            sections.are_older = lambda _runs, is_older=is_older: is_older
+            head = next(sections.readme(runs)).split(" | ")[0]
+            self.assertEqual("called below the [ends]" in head, is_older)
+
     def test_sets_with_the_calls_of_c_replace_those_kept_apart(self):
         self.assertEqual(page.replaced(self.runs()), [])
         self.assertEqual(page.replaced(self.runs(**{"felter-o2o": [5.0, 5.0]})), ["felter"])
+
+    def test_sets_with_other_queues_replace_those_kept_apart(self):
+        for rows, replaced in (({}, []), ({"boost-spsc": [5.0, 5.0]}, ["queues"])):
+            runs = self.runs(**rows)
+            runs["queues"] = results.Run(runs["sets"].about, [])
+            self.assertEqual(page.replaced(runs), replaced)
 
     def test_rings_in_java_are_compared_with_agrona_in_java(self):
         self.assertIsNone(sections.from_java(self.runs()))

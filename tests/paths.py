@@ -1,4 +1,5 @@
-"""What tests/documents asks of the paths of data in docs/ARCHITECTURE.md: files, functions, and how many they are."""
+"""What tests/documents asks of the files and functions in docs/ARCHITECTURE.md: those of the paths of data, with how
+many there are, and those that keep each rule."""
 import os
 import re
 
@@ -6,6 +7,8 @@ import prose
 
 PAGE = "docs/ARCHITECTURE.md"
 HEADING = "\n## Paths of data\n"
+RULES = "\n## What keeps each rule\n"
+COUNTS = ("no", "one", "two", "three", "four", "five", "six", "seven", "eight", "nine", "ten")
 ITEM = r"- (.+?) \((\d+) files, depth (\d+)\): (.+)"
 QUOTED = r"(\*\*)?`([^`]+)`"
 
@@ -53,11 +56,27 @@ def check(report):
     parts = [" ".join(part.split()) for part in re.split(r"\n\n|\n(?=- )", section)]
     paths = [re.fullmatch(ITEM, part) for part in parts if part.startswith("- ")]
     report.need(PAGE, paths and all(paths), "no path of data, or one that is not written as the others")
+    said = "For each of %s operations" % COUNTS[len(paths)]
+    report.need(PAGE, said in parts[0], "there are %d paths, and the page does not say: %s" % (len(paths), said))
     for path in filter(None, paths):
         check_path(report, path[1], int(path[2]), int(path[3]), listed(path[4]))
     for part in parts:
         if not part.startswith("- "):
             check_functions(report, PAGE, listed(part))
+    check_keepers(report)
+
+
+def check_keepers(report):
+    """The third column of each table of rules: its files are there, and have the names that follow them."""
+    for section in prose.read(PAGE).split(RULES)[1].split("\n### ")[1:]:
+        crates = re.findall(r"`(\w+)`", section.split("\n")[0])
+        for row in re.findall(r"(?m)^\| (?!Rule)(.+) \|$", section):
+            for file, names in listed(row.split(" | ")[2]):
+                texts = [text for text in map(source, [*(crate + "/src/" + file for crate in crates), file]) if text]
+                report.need(PAGE, texts, "nothing is at `%s`" % file)
+                for name, _bold in names:
+                    there = any(re.search(r"\b%s\b" % name.split("::")[-1], text) for text in texts)
+                    report.need(PAGE, there, "`%s` does not have `%s`" % (file, name))
 
 
 def check_path(report, name, count, depth, files):
