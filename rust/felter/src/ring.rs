@@ -180,13 +180,11 @@ impl Producer {
     /// Joins another producer of the same ring to this one. This producer gets the shares and the kept claims of the
     /// other one.
     ///
-    /// Errors: [`Error::OtherRing`], [`Error::OutOfMemory`], and [`Error::WrongHandle`] if the ring is one-to-one.
-    /// After an error both producers are as they were.
+    /// Errors, in this order: [`Error::WrongHandle`] if one of the two rings is one-to-one, [`Error::OtherRing`], and
+    /// [`Error::OutOfMemory`]. After an error both producers are as they were.
     pub fn join(&mut self, mut other: Producer) -> Result<(), Refused<Producer>> {
-        let joined = self.ring.must_be(other.ring).and_then(|()| {
-            // SAFETY: both handles are of one ring, as their numbers show.
-            done(unsafe { raw::felter_join(self.handle.raw(), other.handle.raw()) })
-        });
+        // SAFETY: both handles are ours. No two rings have the same number, so the library refuses handles of two rings.
+        let joined = done(unsafe { raw::felter_join(self.handle.raw(), other.handle.raw()) });
         joined.map_err(|reason| Refused { reason, back: other })
     }
 
