@@ -70,6 +70,7 @@ mod records;
 mod recovering;
 mod request;
 mod ring;
+mod room;
 mod standing;
 mod taking;
 mod wait;

@@ -4,6 +4,8 @@ use crate::error::Error;
 use crate::message::Message;
 use crate::ring::Consumer;
 use crate::wait::WaitError;
+use std::iter::FusedIterator;
+use std::mem;
 
 /// A message that owns its bytes.
 #[derive(Clone, Debug, PartialEq, Eq)]
@@ -62,9 +64,9 @@ impl Receiver {
     /// # Ok::<(), felter::Error>(())
     /// ```
     pub fn receive_owned(&mut self) -> Result<Option<OwnedMessage>, Error> {
-        let mut room = std::mem::take(&mut self.room);
-        room.resize(self.longest(), 0);
-        let found = self.receive(&mut room).map(|it| it.map(OwnedMessage::from));
+        let mut room = mem::take(&mut self.room);
+        room.0.resize(self.longest(), 0);
+        let found = self.receive(&mut room.0).map(|it| it.map(OwnedMessage::from));
         self.room = room;
         found
     }
@@ -105,6 +107,7 @@ impl Receiver {
 
 /// An iterator over the messages that are there for a receiver. See [`Receiver::try_iter`].
 #[derive(Debug)]
+#[must_use = "an iterator reads nothing until it is used"]
 pub struct ReceiverTryIter<'a> {
     receiver: &'a mut Receiver,
 }
@@ -119,6 +122,7 @@ impl Iterator for ReceiverTryIter<'_> {
 
 /// An iterator that waits for the messages of a receiver. See [`Receiver::iter`].
 #[derive(Debug)]
+#[must_use = "an iterator reads nothing until it is used"]
 pub struct ReceiverIter<'a> {
     receiver: &'a mut Receiver,
 }
@@ -135,6 +139,8 @@ impl Iterator for ReceiverIter<'_> {
         }
     }
 }
+
+impl FusedIterator for ReceiverIter<'_> {}
 
 impl<'a> IntoIterator for &'a mut Receiver {
     type Item = Result<OwnedMessage, Error>;

@@ -1,11 +1,11 @@
 //! Rings, which are many-to-one or one-to-one.
-use crate::batches::Room;
 use crate::claims::Claim;
 use crate::ends::{Bed, End};
 use crate::error::{Error, Refused};
 use crate::handle::{done, Handle, Number, Sizes};
 use crate::message::{message_of, Batch, Message};
 use crate::raw::{self, Raw};
+use crate::room::Room;
 use std::io::IoSlice;
 
 /// Makes a ring for any number of producers, and returns its first producer and its consumer. A ring has 65,536 shares,

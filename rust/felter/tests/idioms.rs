@@ -141,3 +141,31 @@ fn a_counter_is_freed_by_the_name_of_each_language() {
     conductor.work(0, 9).unwrap();
     assert_eq!(conductor.state(0), Ok(-1));
 }
+
+#[test]
+fn what_is_printed_of_handles_has_no_bytes_of_messages() {
+    let (_producer, mut consumer) = one_to_one(1 << 24).unwrap();
+    let mut transmitter = Transmitter::new(1 << 24).unwrap();
+    let mut receiver = transmitter.subscribe().unwrap();
+    transmitter.transmit(1, b"secret").unwrap();
+    receiver.receive_owned().unwrap();
+    let printed = [
+        format!("{receiver:?}"),
+        format!("{:?}", receiver.try_iter()),
+        format!("{:?}", consumer.try_iter()),
+        format!("{:?}", consumer.iter()),
+        format!("{:?}", consumer.into_iter()),
+    ];
+    // (the buffers have 2 MiB)
+    assert!(printed.iter().all(|it| it.len() < 1000), "{:?}", printed.map(|it| it.len()));
+}
+
+#[test]
+fn a_long_batch_leaves_no_long_buffer() {
+    let (mut producer, _consumer) = one_to_one(1 << 24).unwrap();
+    let body = vec![7; 1 << 20];
+    assert_eq!(producer.write_batch([(1, &body[..]); 3]), Ok(3));
+    assert!(format!("{producer:?}").contains("Room(0)"));
+    assert_eq!(producer.write_batch([(1, &body[..100])]), Ok(1));
+    assert!(!format!("{producer:?}").contains("Room(0)"));
+}
