@@ -39,7 +39,7 @@ fn candidates(here: &Path) -> Vec<PathBuf> {
     folders
 }
 
-/// Returns what is missing if the archive cannot be linked, and otherwise tells cargo to link it.
+/// Lets cargo link the archive. If this is impossible, returns what is missing.
 fn link() -> Result<(), String> {
     let target = ["CARGO_CFG_TARGET_ARCH", "CARGO_CFG_TARGET_OS"].map(|it| env::var(it).unwrap_or_default());
     if target != ["x86_64", "linux"] {
@@ -54,7 +54,7 @@ fn link() -> Result<(), String> {
             looked.join(", ")
         ));
     };
-    // (if cargo were told of a file that is not there, it would compile the crate each time)
+    // (if a file is not there, cargo compiles the crate each time, so this names only the archive that was found)
     println!("cargo:rerun-if-changed={}", folder.join(ARCHIVE).display());
     println!("cargo:rustc-link-search=native={}", folder.display());
     println!("cargo:rustc-link-lib=static=felter");

@@ -1,4 +1,4 @@
-//! What build.rs tells cargo, and how it fails.
+//! What build.rs says to cargo, and how it fails.
 #![forbid(unsafe_code)]
 
 use std::path::{Path, PathBuf};
@@ -54,8 +54,8 @@ impl Drop for Scratch {
 struct Built(Output);
 
 impl Built {
-    /// Returns the values that it tells cargo by this name.
-    fn told(&self, name: &str) -> Vec<String> {
+    /// Returns the values that it sets for cargo by this name.
+    fn set(&self, name: &str) -> Vec<String> {
         let said = String::from_utf8_lossy(&self.0.stdout);
         let values = said.lines().filter_map(|line| line.strip_prefix("cargo:")?.strip_prefix(name)?.strip_prefix('='));
         values.map(str::to_string).collect()
@@ -73,20 +73,20 @@ fn cargo_watches_the_archive_that_is_linked_and_no_file_that_is_missing() {
     let scratch = Scratch::new("watched");
     let built = scratch.build(&[]);
     let folder = scratch.at("rust/felter/../../c/out");
-    assert_eq!(built.told("rustc-link-search"), [format!("native={folder}")]);
-    assert_eq!(built.told("rustc-link-lib"), ["static=felter"]);
+    assert_eq!(built.set("rustc-link-search"), [format!("native={folder}")]);
+    assert_eq!(built.set("rustc-link-lib"), ["static=felter"]);
     // (cargo compiles the crate each time if a file that it watches is not there)
-    assert_eq!(built.told("rerun-if-changed"), [format!("{folder}/libfelter.a")]);
-    assert!(built.0.status.success() && !built.told("rerun-if-env-changed").contains(&"PWD".to_string()));
+    assert_eq!(built.set("rerun-if-changed"), [format!("{folder}/libfelter.a")]);
+    assert!(built.0.status.success() && !built.set("rerun-if-env-changed").contains(&"PWD".to_string()));
 }
 
 #[test]
 fn a_relative_folder_begins_where_cargo_was_started() {
     let scratch = Scratch::new("relative");
     let built = scratch.build(&[("FELTER_DIR", "c/out"), ("PWD", &scratch.at(""))]);
-    assert_eq!(built.told("rustc-link-search"), [format!("native={}", scratch.at("c/out"))]);
+    assert_eq!(built.set("rustc-link-search"), [format!("native={}", scratch.at("c/out"))]);
     // (the same name is another folder if cargo is started elsewhere)
-    assert!(built.told("rerun-if-env-changed").contains(&"PWD".to_string()));
+    assert!(built.set("rerun-if-env-changed").contains(&"PWD".to_string()));
     let failed = scratch.build(&[("FELTER_DIR", "c/out"), ("PWD", &scratch.at("empty"))]).failed();
     let looked = scratch.at("empty/c/out");
     let advice = "run c/build, or let FELTER_DIR name the folder that it filled";
@@ -99,8 +99,8 @@ fn a_missing_archive_is_an_error_except_for_the_documentation() {
     let missing = ("FELTER_DIR", &scratch.at("empty")[..]);
     assert!(scratch.build(&[missing]).failed().starts_with("felter: there is no libfelter.a in "));
     let built = scratch.build(&[missing, ("DOCS_RS", "1")]);
-    assert!(built.0.status.success() && built.told("warning")[0].starts_with("felter: there is no libfelter.a in "));
-    assert!(built.told("rustc-link-lib").is_empty());
+    assert!(built.0.status.success() && built.set("warning")[0].starts_with("felter: there is no libfelter.a in "));
+    assert!(built.set("rustc-link-lib").is_empty());
 }
 
 #[test]

@@ -56,7 +56,7 @@ fn a_signal_does_not_end_a_wait() {
             });
             let waits = said.recv().unwrap();
             let rung = woken(waiter, || {
-                // SAFETY: the thread still waits, since nobody has rung the doorbell.
+                // SAFETY: the thread still waits, since no thread has rung the doorbell.
                 assert_eq!(unsafe { pthread_kill(waits, SIGUSR1) }, 0);
                 while SIGNALS.load(SeqCst) == before {
                     thread::yield_now();
