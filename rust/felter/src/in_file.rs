@@ -6,7 +6,7 @@ use crate::handle::done;
 use crate::raw;
 use crate::ring::{made_by, Consumer, Producer};
 use std::ffi::c_void;
-use std::fs::{self, OpenOptions};
+use std::fs::{self, File, OpenOptions};
 use std::os::fd::AsRawFd;
 use std::path::Path;
 use std::{fmt, io, mem, ptr};
@@ -60,6 +60,22 @@ extern "C" {
 const PROT_READ: i32 = 1;
 const PROT_WRITE: i32 = 2;
 const MAP_SHARED: i32 = 1;
+const EINTR: i32 = 4;
+
+/// Makes a file this long, with all its blocks. So if the disk is full, this is an error, and no store to the memory of
+/// the file is a fault later.
+fn reserve(file: &File, length: usize) -> io::Result<()> {
+    let size = i64::try_from(length).map_err(io::Error::other)?;
+    loop {
+        // SAFETY: the file is open.
+        match unsafe { posix_fallocate(file.as_raw_fd(), 0, size) } {
+            0 => return Ok(()),
+            // (a signal came: again)
+            EINTR => {}
+            why => return Err(io::Error::from_raw_os_error(why)),
+        }
+    }
+}
 
 /// A new file that is mapped. If it is dropped, the file is unmapped and removed.
 struct Mapped<'a> {
@@ -72,13 +88,7 @@ impl Mapped<'_> {
     fn create(path: &Path, length: usize) -> io::Result<Mapped<'_>> {
         let file = OpenOptions::new().read(true).write(true).create_new(true).open(path)?;
         let mut mapped = Mapped { memory: ptr::null_mut(), length, path };
-        let size = i64::try_from(length).map_err(io::Error::other)?;
-        // (if the disk is full, this is an error, and no store to the memory is a fault later)
-        // SAFETY: the file is open.
-        match unsafe { posix_fallocate(file.as_raw_fd(), 0, size) } {
-            0 => {}
-            why => return Err(io::Error::from_raw_os_error(why)),
-        }
+        reserve(&file, length)?;
         let (protection, any) = (PROT_READ | PROT_WRITE, ptr::null_mut());
         // SAFETY: the file is open, and has this length.
         let at = unsafe { mmap(any, length, protection, MAP_SHARED, file.as_raw_fd(), 0) };
