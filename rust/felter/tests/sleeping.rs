@@ -33,26 +33,28 @@ fn a_reader_that_sleeps_is_woken_by_a_write() {
 }
 
 #[test]
-fn a_reader_that_sleeps_is_woken_by_each_end_of_a_claim() {
-    if !can_watch("a_reader_that_sleeps_is_woken_by_each_end_of_a_claim") {
+fn a_reader_that_sleeps_is_woken_by_each_end_of_a_kept_claim() {
+    if !can_watch("a_reader_that_sleeps_is_woken_by_each_end_of_a_kept_claim") {
         return;
     }
-    for settle in 0..3 {
-        let (mut producer, mut consumer) = felter::many_to_one(256).unwrap();
-        let mut room = [0; 32];
+    for (commits, type_id) in [(true, 1), (false, 2)] {
+        let (mut producer, consumer) = felter::many_to_one(256).unwrap();
+        let kept = producer.claim(1, 4).unwrap().keep();
+        producer.write(2, b"next").unwrap();
         thread::scope(|scope| {
-            let kept = producer.claim(1, 4).unwrap().keep();
-            producer.write(2, b"next").unwrap();
-            let (reader, _) = asleep(scope, move || consumer.recv(&mut room, deadline()).map(|it| it.type_id));
-            let found = woken(reader, || match settle {
-                0 => kept.commit(&mut producer).unwrap(),
-                1 => kept.abort(&mut producer).unwrap(),
-                // (a producer that is dropped aborts the claim)
-                _ => drop((kept, producer)),
-            });
-            assert_eq!(found, Ok(if settle == 0 { 1 } else { 2 }));
+            let (reader, _) = asleep(scope, receives(consumer));
+            let settle = || if commits { kept.commit(&mut producer) } else { kept.abort(&mut producer) };
+            assert_eq!(woken(reader, || settle().unwrap()).0, Ok(type_id));
         });
     }
+    let (mut producer, consumer) = felter::many_to_one(256).unwrap();
+    let (_kept, mut other) = (producer.claim(1, 4).unwrap().keep(), producer.split().unwrap());
+    other.write(2, b"next").unwrap();
+    thread::scope(|scope| {
+        let (reader, _) = asleep(scope, receives(consumer));
+        // (a producer that is dropped aborts the claim)
+        assert_eq!(woken(reader, || drop(producer)).0, Ok(2));
+    });
 }
 
 /// Returns a call that waits for a message, and returns its type id with the consumer.
