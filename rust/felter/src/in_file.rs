@@ -141,8 +141,12 @@ pub fn ring_memory(capacity: u32) -> Result<usize, Error> {
 }
 
 /// Makes a new file, and a many-to-one ring in it. Positions begin at 0. The words and the bodies of the ring are in
-/// the file, so the messages survive the death of the process. Another process can map the file and look at it, but
-/// must not write to it. The file is unmapped after the last handle of the ring was dropped. The file itself stays.
+/// the file, so the messages survive the death of the process. The file is unmapped after the last handle of the ring
+/// was dropped. The file itself stays.
+///
+/// Another process can map the file and look at it. But as long as a handle of the ring exists, only the calls of its
+/// handles may write to the file, and no process may make the file shorter. This also holds for other code of this
+/// process. Otherwise a call can end the process, or access other memory of the process.
 ///
 /// Errors: [`InFileError::Refused`] with the errors of [`many_to_one`](crate::many_to_one), and [`InFileError::File`],
 /// for example if the file exists. After an error there is no new file.
