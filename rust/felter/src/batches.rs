@@ -31,12 +31,12 @@ impl Room {
 }
 
 impl Producer {
-    /// Writes a batch of messages in their order, and returns how many messages it has. The call takes all messages from
-    /// the iterator first, and then passes them to the library by one call. Messages that are next to one another in the
-    /// ring are published by one store, so the consumer sees all of them at once.
+    /// Writes a batch of messages in their order, and returns how many messages it has. The call takes all messages
+    /// from the iterator first, and then passes them to the library by one call. Messages that are next to one another
+    /// in the ring are published by one store, so the consumer sees all of them at once.
     ///
-    /// Errors: those of [`write`](Producer::write), together with the number of messages that were written before. After
-    /// [`Error::BadType`] and [`Error::TooLong`] no message was written. A batch that takes 4 GiB is refused as
+    /// Errors: those of [`write`](Producer::write), together with the number of messages that were written before.
+    /// After [`Error::BadType`] and [`Error::TooLong`] no message was written. A batch that takes 4 GiB is refused as
     /// [`Error::PutRange`].
     ///
     /// [`Error::BadType`]: crate::Error::BadType

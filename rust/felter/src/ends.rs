@@ -23,8 +23,8 @@ struct Counts {
 }
 
 impl Counts {
-    /// Returns the tasks that wait. While the lock is held, no code of a caller may run, since that code could make a call
-    /// that needs the lock.
+    /// Returns the tasks that wait. While the lock is held, no code of a caller may run, since that code could make a
+    /// call that needs the lock.
     fn bed(&self) -> MutexGuard<'_, Vec<Task>> {
         self.bed.lock().unwrap_or_else(PoisonError::into_inner)
     }

@@ -183,7 +183,8 @@ impl Producer {
     /// Errors, in this order: [`Error::WrongHandle`] if one of the two rings is one-to-one, [`Error::OtherRing`], and
     /// [`Error::OutOfMemory`]. After an error both producers are as they were.
     pub fn join(&mut self, mut other: Producer) -> Result<(), Refused<Producer>> {
-        // SAFETY: both handles are ours. No two rings have the same number, so the library refuses handles of two rings.
+        // SAFETY: both handles are ours. No two rings have the same number, so the library refuses handles of two
+        // rings.
         let joined = done(unsafe { raw::felter_join(self.handle.raw(), other.handle.raw()) });
         joined.map_err(|reason| Refused { reason, back: other })
     }

@@ -5,8 +5,8 @@ use std::path::{Path, PathBuf};
 use std::process::{self, Command, Output};
 use std::{env, fs};
 
-/// A folder with build.rs as a program, with the folder of a crate, and with an archive in `c/out`. It is removed at the
-/// end.
+/// A folder with build.rs as a program, with the folder of a crate, and with an archive in `c/out`. It is removed at
+/// the end.
 struct Scratch(PathBuf);
 
 impl Scratch {
