@@ -36,7 +36,8 @@
 //! });
 //! ```
 //!
-//! The proved library has rules for its callers. This crate keeps these rules, so its users need no `unsafe`:
+//! The proved library has rules for its callers. This crate keeps these rules, so its users need `unsafe` only to make
+//! a structure in a file or in memory of their own:
 //!
 //! - A call of the library takes its handles by `&mut` or by value. So one call at a time uses a handle, and the two
 //!   handles of one call are different. (`sizes` and `is_abandoned` take `&self`, and do not call the library.)
@@ -46,14 +47,8 @@
 //!   call returns [`Error::OtherRing`]. This crate gives each of these structures a number, from one count. The library
 //!   compares the numbers.
 //!
-//! Users must keep these rules:
-//!
-//! - No call may come from a signal handler or a forked child.
-//! - The processor must have x86-64-v2.
-//! - As long as a structure in a file has a handle, nothing but the calls of its handles may write to the file, or make
-//!   the file shorter. This rule is for all processes, and also for other code of this process.
-//!
-//! This crate and its declarations of the library are tested and not proved.
+//! Users must keep two rules. No call may come from a signal handler or a forked child. The processor must have
+//! x86-64-v2. This crate and its declarations of the library are tested and not proved.
 
 mod adder;
 mod batches;

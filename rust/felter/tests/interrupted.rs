@@ -24,7 +24,8 @@ pub extern "C" fn posix_fallocate(file: i32, _offset: i64, length: i64) -> i32 {
 #[test]
 fn a_file_is_made_after_interruptions() {
     let path = env::temp_dir().join(format!("felter-{}-interrupted", process::id()));
-    let made = felter::many_to_one_in_file(&path, 1024);
+    // SAFETY: nothing else writes to the file.
+    let made = unsafe { felter::many_to_one_in_file(&path, 1024) };
     let length = fs::metadata(&path).map(|it| it.len());
     let _ = fs::remove_file(&path);
     let (mut producer, mut consumer) = made.expect("a signal is no error");
