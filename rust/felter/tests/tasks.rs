@@ -34,8 +34,10 @@ fn block_on<F: Future>(task: F) -> F::Output {
 
 #[test]
 fn tasks_are_woken_by_each_message_and_by_the_end() {
-    let (mut producer, mut consumer) = felter::many_to_one(256).unwrap();
+    let (mut producer, consumer) = felter::many_to_one(256).unwrap();
     thread::scope(|scope| {
+        // (after a failure the consumer is dropped, which ends the other thread)
+        let mut consumer = consumer;
         scope.spawn(move || {
             for i in 0..2000u32 {
                 if i % 100 == 0 {

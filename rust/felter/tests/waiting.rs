@@ -11,9 +11,11 @@ fn within(millis: u64) -> Option<Instant> {
 
 #[test]
 fn two_threads_wait_for_each_other() {
-    let (mut producer, mut consumer) = felter::many_to_one(128).unwrap();
+    let (mut producer, consumer) = felter::many_to_one(128).unwrap();
     let mut other = producer.split().unwrap();
     thread::scope(|scope| {
+        // (after a failure the consumer is dropped, which ends the other threads)
+        let mut consumer = consumer;
         scope.spawn(move || (0..500u32).for_each(|i| producer.send(1, &i.to_ne_bytes(), None).unwrap()));
         scope.spawn(move || (0..500u32).for_each(|i| other.send(2, &i.to_ne_bytes(), None).unwrap()));
         let (mut room, mut next) = ([0; 16], [0u32; 2]);
