@@ -90,7 +90,7 @@ pub use in_file::{
     many_to_one_in_file, many_to_one_in_memory, one_to_one_in_file, one_to_one_in_memory, ring_memory, InFileError,
 };
 pub use message::{Batch, Message};
-pub use owned::{OwnedMessage, ReceiverIter, ReceiverTryIter};
+pub use owned::{OwnedMessage, ReceiverIntoIter, ReceiverIter, ReceiverTryIter};
 pub use recovering::{recover, NotRecovered, Recovered};
 pub use request::{Command, RequestError};
 pub use ring::{many_to_one, many_to_one_at, one_to_one, one_to_one_at, Consumer, Positions, Producer};

@@ -89,7 +89,8 @@ impl Receiver {
 
     /// Returns an iterator that waits for each message as [`recv_owned`](Receiver::recv_owned) does. If the receiver
     /// was lapped, the item is an error, and the iterator goes on afterwards. The iterator ends if the transmitter is
-    /// gone and all messages were received. `for message in &mut receiver` does the same.
+    /// gone and all messages were received. `for message in &mut receiver` does the same, and `for message in receiver`
+    /// drops the receiver at the end.
     ///
     /// ```
     /// let mut transmitter = felter::Transmitter::new(4096)?;
@@ -127,11 +128,18 @@ pub struct ReceiverIter<'a> {
     receiver: &'a mut Receiver,
 }
 
-impl Iterator for ReceiverIter<'_> {
-    type Item = Result<OwnedMessage, Error>;
+/// An iterator that owns its receiver, and waits for messages as [`ReceiverIter`] does. `for message in receiver` makes
+/// one.
+#[derive(Debug)]
+#[must_use = "an iterator reads nothing until it is used"]
+pub struct ReceiverIntoIter {
+    receiver: Receiver,
+}
 
-    fn next(&mut self) -> Option<Result<OwnedMessage, Error>> {
-        match self.receiver.recv_owned(None) {
+impl Receiver {
+    /// Returns the next item of an iterator that waits.
+    fn next_item(&mut self) -> Option<Result<OwnedMessage, Error>> {
+        match self.recv_owned(None) {
             Ok(message) => Some(Ok(message)),
             Err(WaitError::Refused(error)) => Some(Err(error)),
             // (there is no deadline)
@@ -139,6 +147,24 @@ impl Iterator for ReceiverIter<'_> {
         }
     }
 }
+
+impl Iterator for ReceiverIter<'_> {
+    type Item = Result<OwnedMessage, Error>;
+
+    fn next(&mut self) -> Option<Result<OwnedMessage, Error>> {
+        self.receiver.next_item()
+    }
+}
+
+impl Iterator for ReceiverIntoIter {
+    type Item = Result<OwnedMessage, Error>;
+
+    fn next(&mut self) -> Option<Result<OwnedMessage, Error>> {
+        self.receiver.next_item()
+    }
+}
+
+impl FusedIterator for ReceiverIntoIter {}
 
 impl FusedIterator for ReceiverIter<'_> {}
 
@@ -148,5 +174,14 @@ impl<'a> IntoIterator for &'a mut Receiver {
 
     fn into_iter(self) -> ReceiverIter<'a> {
         self.iter()
+    }
+}
+
+impl IntoIterator for Receiver {
+    type Item = Result<OwnedMessage, Error>;
+    type IntoIter = ReceiverIntoIter;
+
+    fn into_iter(self) -> ReceiverIntoIter {
+        ReceiverIntoIter { receiver: self }
     }
 }

@@ -72,6 +72,27 @@ fn receivers_own_their_buffers_and_go_on_after_a_lap() {
 }
 
 #[test]
+fn a_receiver_is_given_to_a_loop() {
+    fn fuses(_: &impl FusedIterator) {}
+    let mut transmitter = Transmitter::new(4096).unwrap();
+    let (receiver, mut other) = (transmitter.subscribe().unwrap(), transmitter.subscribe().unwrap());
+    fuses(&other.iter());
+    let listener = thread::spawn(move || {
+        let mut types = Vec::new();
+        for message in receiver {
+            types.push(message?.type_id);
+        }
+        Ok::<_, Error>(types)
+    });
+    (1..=9).try_for_each(|type_id| transmitter.transmit(type_id, b"body")).unwrap();
+    drop(transmitter);
+    assert_eq!(listener.join().unwrap(), Ok((1..=9).collect()));
+    let mut rest = other.into_iter();
+    fuses(&rest);
+    assert_eq!((rest.by_ref().count(), rest.next()), (9, None));
+}
+
+#[test]
 fn messages_are_written_from_several_slices() {
     let (mut producer, mut consumer) = one_to_one(128).unwrap();
     let parts = [IoSlice::new(b"one "), IoSlice::new(b""), IoSlice::new(b"message")];
