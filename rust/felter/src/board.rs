@@ -5,6 +5,7 @@ use crate::error::{Error, Refused};
 use crate::handle::{done, Handle, Number, Sizes};
 use crate::message::{message_of, Message};
 use crate::raw::{self, Raw};
+use crate::room::Room;
 
 /// Transmits messages on a board. A transmitter never waits. A receiver that is too slow is overtaken, and learns this
 /// from [`Error::Lapped`].
@@ -204,14 +205,14 @@ pub struct Receiver {
     pub(crate) end: End,
     sizes: Sizes,
     /// The buffer of `receive_owned`, which is empty until then.
-    pub(crate) room: Vec<u8>,
+    pub(crate) room: Room,
 }
 
 impl Receiver {
     /// Returns a receiver of a board or a conductor, from its handle.
     pub(crate) fn of(mut handle: Handle, board: Number, end: End) -> Result<Receiver, Error> {
         let sizes = handle.sizes()?;
-        Ok(Receiver { handle, board, end, sizes, room: Vec::new() })
+        Ok(Receiver { handle, board, end, sizes, room: Room::default() })
     }
 
     /// Returns the capacity of the board, and the length of its longest message.

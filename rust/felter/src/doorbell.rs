@@ -2,7 +2,7 @@
 use std::fs::File;
 use std::io::{self, ErrorKind, Read, Write};
 use std::os::fd::{AsFd, AsRawFd, BorrowedFd, FromRawFd, RawFd};
-use std::time::Duration;
+use std::time::{Duration, Instant};
 
 /// An eventfd of Linux. The descriptor becomes readable when the doorbell is rung, and stays readable until the
 /// doorbell is cleared.
@@ -78,8 +78,22 @@ impl Doorbell {
     }
 
     /// Waits until the doorbell is rung, or until the timeout. Returns whether the doorbell was rung. Without a timeout
-    /// the call waits for ever.
+    /// the call waits for ever. A signal does not end the wait.
     pub fn wait(&self, timeout: Option<Duration>) -> io::Result<bool> {
+        // (a timeout that is too long for a deadline is longer than any wait)
+        let deadline = timeout.and_then(|it| Instant::now().checked_add(it));
+        loop {
+            let left = deadline.map(|it| it.saturating_duration_since(Instant::now()));
+            match self.wait_once(left) {
+                Ok(false) if left != Some(Duration::ZERO) => {}
+                Err(error) if error.kind() == ErrorKind::Interrupted => {}
+                other => return other,
+            }
+        }
+    }
+
+    /// Waits as `wait` does, but for less time if a signal comes, or if the timeout is longer than poll can wait.
+    fn wait_once(&self, timeout: Option<Duration>) -> io::Result<bool> {
         let millis = timeout.map_or(-1, |it| it.as_nanos().div_ceil(1_000_000).min(i32::MAX as u128) as i32);
         let mut it = PollFd { fd: self.file.as_raw_fd(), events: POLLIN, revents: 0 };
         // SAFETY: the call gets one element that is ours.

@@ -6,7 +6,7 @@ use crate::handle::done;
 use crate::raw;
 use crate::ring::{made_by, Consumer, Producer};
 use std::ffi::c_void;
-use std::fs::{self, OpenOptions};
+use std::fs::{self, File, OpenOptions};
 use std::os::fd::AsRawFd;
 use std::path::Path;
 use std::{fmt, io, mem, ptr};
@@ -60,6 +60,22 @@ extern "C" {
 const PROT_READ: i32 = 1;
 const PROT_WRITE: i32 = 2;
 const MAP_SHARED: i32 = 1;
+const EINTR: i32 = 4;
+
+/// Makes a file this long, with all its blocks. So if the disk is full, this is an error, and no store to the memory of
+/// the file is a fault later.
+fn reserve(file: &File, length: usize) -> io::Result<()> {
+    let size = i64::try_from(length).map_err(io::Error::other)?;
+    loop {
+        // SAFETY: the file is open.
+        match unsafe { posix_fallocate(file.as_raw_fd(), 0, size) } {
+            0 => return Ok(()),
+            // (a signal came: again)
+            EINTR => {}
+            why => return Err(io::Error::from_raw_os_error(why)),
+        }
+    }
+}
 
 /// A new file that is mapped. If it is dropped, the file is unmapped and removed.
 struct Mapped<'a> {
@@ -72,13 +88,7 @@ impl Mapped<'_> {
     fn create(path: &Path, length: usize) -> io::Result<Mapped<'_>> {
         let file = OpenOptions::new().read(true).write(true).create_new(true).open(path)?;
         let mut mapped = Mapped { memory: ptr::null_mut(), length, path };
-        let size = i64::try_from(length).map_err(io::Error::other)?;
-        // (if the disk is full, this is an error, and no store to the memory is a fault later)
-        // SAFETY: the file is open.
-        match unsafe { posix_fallocate(file.as_raw_fd(), 0, size) } {
-            0 => {}
-            why => return Err(io::Error::from_raw_os_error(why)),
-        }
+        reserve(&file, length)?;
         let (protection, any) = (PROT_READ | PROT_WRITE, ptr::null_mut());
         // SAFETY: the file is open, and has this length.
         let at = unsafe { mmap(any, length, protection, MAP_SHARED, file.as_raw_fd(), 0) };
@@ -131,31 +141,50 @@ pub fn ring_memory(capacity: u32) -> Result<usize, Error> {
 }
 
 /// Makes a new file, and a many-to-one ring in it. Positions begin at 0. The words and the bodies of the ring are in
-/// the file, so the messages survive the death of the process. Another process can map the file and look at it, but
-/// must not write to it. The file is unmapped after the last handle of the ring was dropped. The file itself stays.
+/// the file, so the messages survive the death of the process. The file is unmapped after the last handle of the ring
+/// was dropped. The file itself stays.
+///
+/// Another process can map the file and look at it.
 ///
 /// Errors: [`InFileError::Refused`] with the errors of [`many_to_one`](crate::many_to_one), and [`InFileError::File`],
 /// for example if the file exists. After an error there is no new file.
 ///
+/// # Safety
+///
+/// As long as a handle of the ring exists, only the calls of its handles write to the file, and no process makes the
+/// file shorter. Otherwise a call can access other memory of the process. Other code of this process must keep this
+/// rule too.
+///
 /// ```
 /// let path = std::env::temp_dir().join(format!("felter-{}", std::process::id()));
-/// let (mut producer, mut consumer) = felter::many_to_one_in_file(&path, 1024)?;
+/// // SAFETY: no other code knows of the file.
+/// let (mut producer, mut consumer) = unsafe { felter::many_to_one_in_file(&path, 1024)? };
 /// producer.write(7, b"hello")?;
 /// assert_eq!(&std::fs::read(&path)?[..8], b"FELTERIM");
 /// assert_eq!(consumer.read_owned()?.map(|message| message.body), Some(b"hello".to_vec()));
 /// std::fs::remove_file(&path)?;
 /// # Ok::<(), Box<dyn std::error::Error>>(())
 /// ```
-pub fn many_to_one_in_file(path: impl AsRef<Path>, capacity: u32) -> Result<(Producer, Consumer), InFileError> {
+///
+/// The compiler cannot know who writes to a file, so the call is unsafe. This does not compile:
+///
+/// ```compile_fail,E0133
+/// let ring = felter::many_to_one_in_file("ring", 1024);
+/// ```
+pub unsafe fn many_to_one_in_file(path: impl AsRef<Path>, capacity: u32) -> Result<(Producer, Consumer), InFileError> {
     let length = ring_memory(capacity)?;
-    // SAFETY: the memory is a new file that only this process has, and the library unmaps it.
+    // SAFETY: the memory is a new file, which the library unmaps. The caller says that nothing else writes to it.
     in_file(path.as_ref(), length, |at, length| unsafe { many_to_one_in_memory(at, length, capacity) })
 }
 
 /// Makes a one-to-one ring in a new file, as [`many_to_one_in_file`] makes a many-to-one ring.
-pub fn one_to_one_in_file(path: impl AsRef<Path>, capacity: u32) -> Result<(Producer, Consumer), InFileError> {
+///
+/// # Safety
+///
+/// The same as for [`many_to_one_in_file`].
+pub unsafe fn one_to_one_in_file(path: impl AsRef<Path>, capacity: u32) -> Result<(Producer, Consumer), InFileError> {
     let length = ring_memory(capacity)?;
-    // SAFETY: the memory is a new file that only this process has, and the library unmaps it.
+    // SAFETY: the memory is a new file, which the library unmaps. The caller says that nothing else writes to it.
     in_file(path.as_ref(), length, |at, length| unsafe { one_to_one_in_memory(at, length, capacity) })
 }
 
@@ -205,9 +234,13 @@ impl Transmitter {
     }
 
     /// Makes a new file, and a board in it, as [`many_to_one_in_file`] does for a ring.
-    pub fn in_file(path: impl AsRef<Path>, capacity: u32) -> Result<Transmitter, InFileError> {
+    ///
+    /// # Safety
+    ///
+    /// The same as for [`many_to_one_in_file`].
+    pub unsafe fn in_file(path: impl AsRef<Path>, capacity: u32) -> Result<Transmitter, InFileError> {
         let length = Transmitter::memory(capacity)?;
-        // SAFETY: the memory is a new file that only this process has, and the library unmaps it.
+        // SAFETY: the memory is a new file, which the library unmaps. The caller says that nothing else writes to it.
         in_file(path.as_ref(), length, |at, length| unsafe { Transmitter::in_memory(at, length, capacity) })
     }
 
@@ -235,18 +268,23 @@ impl Counters {
     /// Makes a new file, and counters in it, as [`many_to_one_in_file`] does for a ring. The value records and the
     /// metadata are in the file.
     ///
+    /// # Safety
+    ///
+    /// The same as for [`many_to_one_in_file`].
+    ///
     /// ```
     /// let path = std::env::temp_dir().join(format!("felter-counters-{}", std::process::id()));
-    /// let mut counters = felter::Counters::in_file(&path, 8, 0)?;
+    /// // SAFETY: no other code knows of the file.
+    /// let mut counters = unsafe { felter::Counters::in_file(&path, 8, 0)? };
     /// let id = counters.allocate(0, 1, b"", b"requests", 0)?;
     /// counters.add(id, 3)?;
     /// assert_eq!(std::fs::read(&path)?[128], 3);
     /// std::fs::remove_file(&path)?;
     /// # Ok::<(), Box<dyn std::error::Error>>(())
     /// ```
-    pub fn in_file(path: impl AsRef<Path>, count: u32, reuse_ms: u32) -> Result<Counters, InFileError> {
+    pub unsafe fn in_file(path: impl AsRef<Path>, count: u32, reuse_ms: u32) -> Result<Counters, InFileError> {
         let length = Counters::memory(count)?;
-        // SAFETY: the memory is a new file that only this process has, and the library unmaps it.
+        // SAFETY: the memory is a new file, which the library unmaps. The caller says that nothing else writes to it.
         in_file(path.as_ref(), length, |at, length| unsafe { Counters::in_memory(at, length, count, reuse_ms) })
     }
 

@@ -26,8 +26,8 @@
 //! Capacities, lengths and positions are in bytes. Moments are in milliseconds of a clock that the caller chooses.
 //!
 //! Each handle owns its endpoint together with its ring, board, counters or conductor. So handles have no lifetime
-//! parameter, and can be dropped in any order. A handle may go to another thread. Each call takes its handle by `&mut`,
-//! so only one thread at a time uses a handle:
+//! parameter, and can be dropped in any order. A handle may go to another thread. Each call of the library takes its
+//! handle by `&mut`, so only one thread at a time uses a handle:
 //!
 //! ```compile_fail,E0596
 //! let (producer, _consumer) = felter::many_to_one(128).expect("a power of two");
@@ -36,15 +36,16 @@
 //! });
 //! ```
 //!
-//! The proved library has rules for its callers. This crate keeps these rules, so its users need no `unsafe`:
+//! The proved library has rules for its callers. This crate keeps these rules, so its users need `unsafe` only to make
+//! a structure in a file or in memory of their own:
 //!
-//! - A call takes its handles by `&mut`. So one call at a time uses a handle, and the two handles of one call are
-//!   different.
+//! - A call of the library takes its handles by `&mut` or by value. So one call at a time uses a handle, and the two
+//!   handles of one call are different. (`sizes` and `is_abandoned` take `&self`, and do not call the library.)
 //! - Handles cannot be copied.
 //! - Buffers are slices.
 //! - If two handles of a call belong to different rings, boards, conductors, sets of counters or shared counters, the
-//!   call returns [`Error::OtherRing`]. This crate gives each of these structures a number, from one count. Both the
-//!   crate and the library compare the numbers.
+//!   call returns [`Error::OtherRing`]. This crate gives each of these structures a number, from one count. The library
+//!   compares the numbers.
 //!
 //! Users must keep two rules. No call may come from a signal handler or a forked child. The processor must have
 //! x86-64-v2. This crate and its declarations of the library are tested and not proved.
@@ -70,6 +71,7 @@ mod records;
 mod recovering;
 mod request;
 mod ring;
+mod room;
 mod standing;
 mod taking;
 mod wait;
@@ -88,7 +90,7 @@ pub use in_file::{
     many_to_one_in_file, many_to_one_in_memory, one_to_one_in_file, one_to_one_in_memory, ring_memory, InFileError,
 };
 pub use message::{Batch, Message};
-pub use owned::{OwnedMessage, ReceiverIter, ReceiverTryIter};
+pub use owned::{OwnedMessage, ReceiverIntoIter, ReceiverIter, ReceiverTryIter};
 pub use recovering::{recover, NotRecovered, Recovered};
 pub use request::{Command, RequestError};
 pub use ring::{many_to_one, many_to_one_at, one_to_one, one_to_one_at, Consumer, Positions, Producer};

@@ -4,6 +4,8 @@ use crate::error::Error;
 use crate::message::Message;
 use crate::ring::Consumer;
 use crate::wait::WaitError;
+use std::iter::FusedIterator;
+use std::mem;
 
 /// A message that owns its bytes.
 #[derive(Clone, Debug, PartialEq, Eq)]
@@ -62,9 +64,9 @@ impl Receiver {
     /// # Ok::<(), felter::Error>(())
     /// ```
     pub fn receive_owned(&mut self) -> Result<Option<OwnedMessage>, Error> {
-        let mut room = std::mem::take(&mut self.room);
-        room.resize(self.longest(), 0);
-        let found = self.receive(&mut room).map(|it| it.map(OwnedMessage::from));
+        let mut room = mem::take(&mut self.room);
+        room.0.resize(self.longest(), 0);
+        let found = self.receive(&mut room.0).map(|it| it.map(OwnedMessage::from));
         self.room = room;
         found
     }
@@ -87,7 +89,8 @@ impl Receiver {
 
     /// Returns an iterator that waits for each message as [`recv_owned`](Receiver::recv_owned) does. If the receiver
     /// was lapped, the item is an error, and the iterator goes on afterwards. The iterator ends if the transmitter is
-    /// gone and all messages were received. `for message in &mut receiver` does the same.
+    /// gone and all messages were received. `for message in &mut receiver` does the same, and `for message in receiver`
+    /// drops the receiver at the end.
     ///
     /// ```
     /// let mut transmitter = felter::Transmitter::new(4096)?;
@@ -105,6 +108,7 @@ impl Receiver {
 
 /// An iterator over the messages that are there for a receiver. See [`Receiver::try_iter`].
 #[derive(Debug)]
+#[must_use = "an iterator reads nothing until it is used"]
 pub struct ReceiverTryIter<'a> {
     receiver: &'a mut Receiver,
 }
@@ -119,15 +123,23 @@ impl Iterator for ReceiverTryIter<'_> {
 
 /// An iterator that waits for the messages of a receiver. See [`Receiver::iter`].
 #[derive(Debug)]
+#[must_use = "an iterator reads nothing until it is used"]
 pub struct ReceiverIter<'a> {
     receiver: &'a mut Receiver,
 }
 
-impl Iterator for ReceiverIter<'_> {
-    type Item = Result<OwnedMessage, Error>;
+/// An iterator that owns its receiver, and waits for messages as [`ReceiverIter`] does. `for message in receiver` makes
+/// one.
+#[derive(Debug)]
+#[must_use = "an iterator reads nothing until it is used"]
+pub struct ReceiverIntoIter {
+    receiver: Receiver,
+}
 
-    fn next(&mut self) -> Option<Result<OwnedMessage, Error>> {
-        match self.receiver.recv_owned(None) {
+impl Receiver {
+    /// Returns the next item of an iterator that waits.
+    fn next_item(&mut self) -> Option<Result<OwnedMessage, Error>> {
+        match self.recv_owned(None) {
             Ok(message) => Some(Ok(message)),
             Err(WaitError::Refused(error)) => Some(Err(error)),
             // (there is no deadline)
@@ -136,11 +148,40 @@ impl Iterator for ReceiverIter<'_> {
     }
 }
 
+impl Iterator for ReceiverIter<'_> {
+    type Item = Result<OwnedMessage, Error>;
+
+    fn next(&mut self) -> Option<Result<OwnedMessage, Error>> {
+        self.receiver.next_item()
+    }
+}
+
+impl Iterator for ReceiverIntoIter {
+    type Item = Result<OwnedMessage, Error>;
+
+    fn next(&mut self) -> Option<Result<OwnedMessage, Error>> {
+        self.receiver.next_item()
+    }
+}
+
+impl FusedIterator for ReceiverIntoIter {}
+
+impl FusedIterator for ReceiverIter<'_> {}
+
 impl<'a> IntoIterator for &'a mut Receiver {
     type Item = Result<OwnedMessage, Error>;
     type IntoIter = ReceiverIter<'a>;
 
     fn into_iter(self) -> ReceiverIter<'a> {
         self.iter()
+    }
+}
+
+impl IntoIterator for Receiver {
+    type Item = Result<OwnedMessage, Error>;
+    type IntoIter = ReceiverIntoIter;
+
+    fn into_iter(self) -> ReceiverIntoIter {
+        ReceiverIntoIter { receiver: self }
     }
 }

@@ -83,13 +83,15 @@ fn recover_aligned(image: &[u8]) -> Result<Recovered, NotRecovered> {
 ///
 /// ```
 /// let path = std::env::temp_dir().join(format!("felter-recovered-{}", std::process::id()));
-/// let (mut producer, consumer) = felter::many_to_one_in_file(&path, 1024)?;
+/// // SAFETY: no other code knows of the file.
+/// let (mut producer, consumer) = unsafe { felter::many_to_one_in_file(&path, 1024)? };
 /// producer.write(7, b"left")?;
 /// drop((producer, consumer)); // or the process dies
 /// let recovered = felter::recover(&std::fs::read(&path)?)?;
 /// std::fs::remove_file(&path)?;
 /// assert_eq!((recovered.messages.len(), recovered.open_claims), (1, 0));
-/// let (mut producer, mut consumer) = felter::many_to_one_in_file(&path, 1024)?;
+/// // SAFETY: as before.
+/// let (mut producer, mut consumer) = unsafe { felter::many_to_one_in_file(&path, 1024)? };
 /// producer.write_batch(recovered.messages.iter().map(|it| (it.type_id, &it.body[..])))?;
 /// assert_eq!(consumer.read_owned()?.map(|it| it.body), Some(b"left".to_vec()));
 /// std::fs::remove_file(&path)?;

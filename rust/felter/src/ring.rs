@@ -1,11 +1,11 @@
 //! Rings, which are many-to-one or one-to-one.
-use crate::batches::Room;
 use crate::claims::Claim;
 use crate::ends::{Bed, End};
 use crate::error::{Error, Refused};
 use crate::handle::{done, Handle, Number, Sizes};
 use crate::message::{message_of, Batch, Message};
 use crate::raw::{self, Raw};
+use crate::room::Room;
 use std::io::IoSlice;
 
 /// Makes a ring for any number of producers, and returns its first producer and its consumer. A ring has 65,536 shares,
@@ -180,13 +180,12 @@ impl Producer {
     /// Joins another producer of the same ring to this one. This producer gets the shares and the kept claims of the
     /// other one.
     ///
-    /// Errors: [`Error::OtherRing`], [`Error::OutOfMemory`], and [`Error::WrongHandle`] if the ring is one-to-one.
-    /// After an error both producers are as they were.
+    /// Errors, in this order: [`Error::WrongHandle`] if one of the two rings is one-to-one, [`Error::OtherRing`], and
+    /// [`Error::OutOfMemory`]. After an error both producers are as they were.
     pub fn join(&mut self, mut other: Producer) -> Result<(), Refused<Producer>> {
-        let joined = self.ring.must_be(other.ring).and_then(|()| {
-            // SAFETY: both handles are of one ring, as their numbers show.
-            done(unsafe { raw::felter_join(self.handle.raw(), other.handle.raw()) })
-        });
+        // SAFETY: both handles are ours. No two rings have the same number, so the library refuses handles of two
+        // rings.
+        let joined = done(unsafe { raw::felter_join(self.handle.raw(), other.handle.raw()) });
         joined.map_err(|reason| Refused { reason, back: other })
     }
 

@@ -1,29 +1,33 @@
 //! Consumers as iterators.
 use crate::owned::OwnedMessage;
 use crate::ring::Consumer;
+use crate::room::Room;
 use std::iter::FusedIterator;
 
 /// An iterator over the messages that are in the ring. The iterator removes each message from the ring. See
 /// [`Consumer::try_iter`].
 #[derive(Debug)]
+#[must_use = "an iterator reads nothing until it is used"]
 pub struct TryIter<'a> {
     consumer: &'a mut Consumer,
-    room: Vec<u8>,
+    room: Room,
 }
 
 /// An iterator that waits for messages until every producer is gone. See [`Consumer::iter`].
 #[derive(Debug)]
+#[must_use = "an iterator reads nothing until it is used"]
 pub struct Iter<'a> {
     consumer: &'a mut Consumer,
-    room: Vec<u8>,
+    room: Room,
 }
 
 /// An iterator that owns its consumer, and waits for messages until every producer is gone. `for message in consumer`
 /// makes one.
 #[derive(Debug)]
+#[must_use = "an iterator reads nothing until it is used"]
 pub struct IntoIter {
     consumer: Consumer,
-    room: Vec<u8>,
+    room: Room,
 }
 
 impl Consumer {
@@ -60,8 +64,8 @@ impl Consumer {
     }
 
     /// Returns a buffer for the longest message, so that no read is refused.
-    fn longest(&self) -> Vec<u8> {
-        vec![0; self.sizes().map_or(0, |it| it.max_message as usize)]
+    fn longest(&self) -> Room {
+        Room(vec![0; self.sizes().map_or(0, |it| it.max_message as usize)])
     }
 }
 
@@ -69,7 +73,7 @@ impl Iterator for TryIter<'_> {
     type Item = OwnedMessage;
 
     fn next(&mut self) -> Option<OwnedMessage> {
-        self.consumer.read(&mut self.room).ok()?.map(OwnedMessage::from)
+        self.consumer.read(&mut self.room.0).ok()?.map(OwnedMessage::from)
     }
 }
 
@@ -77,7 +81,7 @@ impl Iterator for Iter<'_> {
     type Item = OwnedMessage;
 
     fn next(&mut self) -> Option<OwnedMessage> {
-        self.consumer.recv(&mut self.room, None).ok().map(OwnedMessage::from)
+        self.consumer.recv(&mut self.room.0, None).ok().map(OwnedMessage::from)
     }
 }
 
@@ -87,7 +91,7 @@ impl Iterator for IntoIter {
     type Item = OwnedMessage;
 
     fn next(&mut self) -> Option<OwnedMessage> {
-        self.consumer.recv(&mut self.room, None).ok().map(OwnedMessage::from)
+        self.consumer.recv(&mut self.room.0, None).ok().map(OwnedMessage::from)
     }
 }
 

@@ -1,6 +1,6 @@
 //! Calls that wait. These calls are not proved. The proved calls never wait.
 use crate::board::Receiver;
-use crate::ends::Bed;
+use crate::ends::{Bed, Wait};
 use crate::error::Error;
 use crate::message::Message;
 use crate::owned::OwnedMessage;
@@ -276,9 +276,14 @@ fn tried<T>(found: Result<Option<T>, Error>, is_last: bool) -> Option<Result<T, 
 
 /// Calls `look` each time that the task is polled, until `look` returns a result.
 async fn until_woken<T>(bed: &Bed, mut look: impl FnMut() -> Option<Result<T, WaitError>>) -> Result<T, WaitError> {
-    future::poll_fn(|task| match look().or_else(|| bed.note(task.waker(), &mut look)) {
-        Some(found) => Poll::Ready(found),
-        None => Poll::Pending,
+    let mut wait = Wait::at(bed);
+    future::poll_fn(|task| {
+        // (a message that is written between the two calls of `look` wakes the task, or the second call finds it)
+        let found = look().or_else(|| {
+            wait.note(task.waker());
+            look()
+        });
+        found.map_or(Poll::Pending, Poll::Ready)
     })
     .await
 }

@@ -29,6 +29,9 @@ fn all_cross_threads() {
     crosses::<felter::Counters>();
     crosses::<felter::Reader>();
     crosses::<Refused<felter::Adder>>();
+    crosses::<Refused<felter::RawReceiver>>();
+    crosses::<(felter::Claim, felter::IntoIter, felter::Iter, felter::ReceiverIter)>();
+    crosses::<(felter::Doorbell, felter::InFileError, felter::NotRecovered)>();
 }
 
 #[test]

@@ -72,6 +72,27 @@ fn receivers_own_their_buffers_and_go_on_after_a_lap() {
 }
 
 #[test]
+fn a_receiver_is_given_to_a_loop() {
+    fn fuses(_: &impl FusedIterator) {}
+    let mut transmitter = Transmitter::new(4096).unwrap();
+    let (receiver, mut other) = (transmitter.subscribe().unwrap(), transmitter.subscribe().unwrap());
+    fuses(&other.iter());
+    let listener = thread::spawn(move || {
+        let mut types = Vec::new();
+        for message in receiver {
+            types.push(message?.type_id);
+        }
+        Ok::<_, Error>(types)
+    });
+    (1..=9).try_for_each(|type_id| transmitter.transmit(type_id, b"body")).unwrap();
+    drop(transmitter);
+    assert_eq!(listener.join().unwrap(), Ok((1..=9).collect()));
+    let mut rest = other.into_iter();
+    fuses(&rest);
+    assert_eq!((rest.by_ref().count(), rest.next()), (9, None));
+}
+
+#[test]
 fn messages_are_written_from_several_slices() {
     let (mut producer, mut consumer) = one_to_one(128).unwrap();
     let parts = [IoSlice::new(b"one "), IoSlice::new(b""), IoSlice::new(b"message")];
@@ -140,4 +161,32 @@ fn a_counter_is_freed_by_the_name_of_each_language() {
     client.release(0).unwrap();
     conductor.work(0, 9).unwrap();
     assert_eq!(conductor.state(0), Ok(-1));
+}
+
+#[test]
+fn what_is_printed_of_handles_has_no_bytes_of_messages() {
+    let (_producer, mut consumer) = one_to_one(1 << 24).unwrap();
+    let mut transmitter = Transmitter::new(1 << 24).unwrap();
+    let mut receiver = transmitter.subscribe().unwrap();
+    transmitter.transmit(1, b"secret").unwrap();
+    receiver.receive_owned().unwrap();
+    let printed = [
+        format!("{receiver:?}"),
+        format!("{:?}", receiver.try_iter()),
+        format!("{:?}", consumer.try_iter()),
+        format!("{:?}", consumer.iter()),
+        format!("{:?}", consumer.into_iter()),
+    ];
+    // (the buffers have 2 MiB)
+    assert!(printed.iter().all(|it| it.len() < 1000), "{:?}", printed.map(|it| it.len()));
+}
+
+#[test]
+fn a_long_batch_leaves_no_long_buffer() {
+    let (mut producer, _consumer) = one_to_one(1 << 24).unwrap();
+    let body = vec![7; 1 << 20];
+    assert_eq!(producer.write_batch([(1, &body[..]); 3]), Ok(3));
+    assert!(format!("{producer:?}").contains("Room(0)"));
+    assert_eq!(producer.write_batch([(1, &body[..100])]), Ok(1));
+    assert!(!format!("{producer:?}").contains("Room(0)"));
 }

@@ -36,7 +36,8 @@ impl Drop for Scratch {
 fn a_ring_lies_in_its_file() {
     let scratch = Scratch::new("ring");
     let path = scratch.path();
-    let (mut producer, mut consumer) = felter::many_to_one_in_file(path, 1024).expect("there is no such file");
+    // SAFETY: nothing else writes to the file.
+    let (mut producer, mut consumer) = unsafe { felter::many_to_one_in_file(path, 1024) }.expect("a new file");
     let mut other = producer.split().expect("it has shares");
     thread::spawn(move || other.write(7, b"hello")).join().expect("no panic").expect("there is room");
     let claim = producer.claim(9, 4).expect("there is room").keep();
@@ -62,7 +63,9 @@ fn a_ring_lies_in_its_file() {
 #[test]
 fn a_ring_that_ends_leaves_its_file() {
     let scratch = Scratch::new("closed");
-    let (mut producer, mut consumer) = felter::one_to_one_in_file(scratch.path(), 512).expect("there is no such file");
+    // SAFETY: nothing else writes to the file.
+    let ring = unsafe { felter::one_to_one_in_file(scratch.path(), 512) };
+    let (mut producer, mut consumer) = ring.expect("there is no such file");
     producer.write(3, b"read").expect("there is room");
     producer.write(4, b"left").expect("there is room");
     consumer.close(producer).expect("it was the last one");
@@ -77,7 +80,8 @@ fn a_ring_that_ends_leaves_its_file() {
 #[test]
 fn boards_and_counters_lie_in_their_files() {
     let scratch = Scratch::new("board");
-    let mut transmitter = Transmitter::in_file(scratch.path(), 256).expect("there is no such file");
+    // SAFETY: nothing else writes to the file.
+    let mut transmitter = unsafe { Transmitter::in_file(scratch.path(), 256) }.expect("there is no such file");
     let mut receiver = transmitter.subscribe().expect("it has shares");
     transmitter.transmit(5, b"to all").expect("it fits");
     assert_eq!((scratch.word(16), scratch.word(128)), (3, 5 << 32 | 14));
@@ -87,7 +91,8 @@ fn boards_and_counters_lie_in_their_files() {
     drop(receiver);
     assert!(!scratch.is_mapped());
     let scratch = Scratch::new("counters");
-    let mut counters = Counters::in_file(scratch.path(), 8, 0).expect("there is no such file");
+    // SAFETY: nothing else writes to the file.
+    let mut counters = unsafe { Counters::in_file(scratch.path(), 8, 0) }.expect("there is no such file");
     let mut reader = counters.reader().expect("it has shares");
     let id = counters.allocate(0, 3, b"key", b"label", 77).expect("one is free");
     counters.set(id, 1234).expect("it is in use");
@@ -103,7 +108,8 @@ fn boards_and_counters_lie_in_their_files() {
 fn a_file_that_is_there_stays() {
     let scratch = Scratch::new("there");
     fs::write(scratch.path(), b"mine").expect("a new file");
-    match felter::many_to_one_in_file(scratch.path(), 1024) {
+    // SAFETY: no structure is made.
+    match unsafe { felter::many_to_one_in_file(scratch.path(), 1024) } {
         Err(InFileError::File(reason)) => assert_eq!(reason.kind(), io::ErrorKind::AlreadyExists),
         other => panic!("{other:?}"),
     }
@@ -113,15 +119,19 @@ fn a_file_that_is_there_stays() {
 #[test]
 fn nothing_is_made_for_a_bad_size() {
     let scratch = Scratch::new("bad");
-    let refused = [
-        felter::many_to_one_in_file(scratch.path(), 100).map(|_| ()),
-        felter::one_to_one_in_file(scratch.path(), 1 << 25).map(|_| ()),
-        Transmitter::in_file(scratch.path(), 128).map(|_| ()),
-    ];
+    // SAFETY: no structure is made.
+    let refused = unsafe {
+        [
+            felter::many_to_one_in_file(scratch.path(), 100).map(|_| ()),
+            felter::one_to_one_in_file(scratch.path(), 1 << 25).map(|_| ()),
+            Transmitter::in_file(scratch.path(), 128).map(|_| ()),
+        ]
+    };
     for it in refused {
         assert!(matches!(it, Err(InFileError::Refused(Error::BadCapacity))), "{it:?}");
     }
-    let refused = Counters::in_file(scratch.path(), 0, 0).map(|_| ()).expect_err("no counters");
+    // SAFETY: no structure is made.
+    let refused = unsafe { Counters::in_file(scratch.path(), 0, 0) }.map(|_| ()).expect_err("no counters");
     assert!(matches!(refused, InFileError::Refused(Error::BadCount)));
     assert_eq!(std::error::Error::source(&refused).map(ToString::to_string), Some(Error::BadCount.to_string()));
     assert!(!scratch.path().exists());

@@ -21,7 +21,7 @@ fn each_command_gets_its_reply() {
                 conductor.work(0, 100).unwrap();
             }
         });
-        let mut asked = |command: Command| client.request(&command, within(20_000));
+        let mut asked = |command: Command| client.request(&command, within(60_000));
         let allocate = Command::AllocateOwned { type_id: 1, owner: 9, key: b"", label: b"owned" };
         let replies = [
             asked(allocate),
@@ -79,16 +79,28 @@ fn flooded(conductor: &mut Conductor, other: &mut Client) {
     }
 }
 
-#[test]
-fn a_lapped_client_learns_that_its_command_was_taken() {
+/// Lets a lapped client make a request, gives it a time to look for its reply, and then works until the request ends.
+/// Returns how many commands were sent in that time, and the result of the request.
+fn requested_after_lap(millis: u64) -> (u64, Result<Reply, RequestError>) {
     let mut conductor = Conductor::new(4096, 256, 4, 0).unwrap();
     let (mut client, mut other) = (conductor.client().unwrap(), conductor.client().unwrap());
     flooded(&mut conductor, &mut other);
-    // It was lapped. It looks for its reply a few times, and then asks by another command.
-    let waiting = thread::spawn(move || client.request(&SET, within(20_000)));
-    thread::sleep(Duration::from_millis(1000));
-    assert_eq!(conductor.work(0, 99).unwrap().messages, 2);
-    assert!(matches!(waiting.join().unwrap(), Err(RequestError::Taken { .. })));
+    let waiting = thread::spawn(move || client.request(&SET, within(120_000)));
+    thread::sleep(Duration::from_millis(millis));
+    let sent = conductor.work(0, 99).unwrap().messages;
+    while !waiting.is_finished() {
+        conductor.work(0, 99).unwrap();
+        thread::yield_now();
+    }
+    (sent, waiting.join().unwrap())
+}
+
+#[test]
+fn a_lapped_client_learns_that_its_command_was_taken() {
+    // It was lapped. It looks for its reply a few times, and then asks by another command. On a busy machine this takes
+    // longer, so each try leaves it twice as much time as the last one.
+    let (sent, result) = (0..10).map(|it| requested_after_lap(100 << it)).find(|it| it.0 == 2).expect("two commands");
+    assert!(matches!(result, Err(RequestError::Taken { .. })), "{sent} commands, {result:?}");
 }
 
 #[test]
@@ -98,13 +110,13 @@ fn a_lapped_client_that_gets_no_reply_says_so() {
     flooded(&mut conductor, &mut other);
     assert!(matches!(client.request(&SET, within(50)), Err(RequestError::Unknown { .. })));
     // The next request begins after the lap, and gets its reply.
-    let working = thread::spawn(move || {
-        let end = Instant::now() + Duration::from_millis(500);
-        while Instant::now() < end {
-            conductor.work(0, 99).unwrap();
-        }
+    let waiting = thread::spawn(move || {
+        let asked = Command::Allocate { type_id: 1, key: b"", label: b"" };
+        client.request(&asked, within(60_000))
     });
-    let asked = Command::Allocate { type_id: 1, key: b"", label: b"" };
-    assert_eq!(client.request(&asked, within(20_000)), Ok(Reply::Allocated { id: 0 }));
-    working.join().unwrap();
+    while !waiting.is_finished() {
+        conductor.work(0, 99).unwrap();
+        thread::yield_now();
+    }
+    assert_eq!(waiting.join().unwrap(), Ok(Reply::Allocated { id: 0 }));
 }

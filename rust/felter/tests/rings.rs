@@ -147,6 +147,40 @@ fn handles_of_two_rings_of_one_capacity_are_refused_and_come_back() {
 }
 
 #[test]
+fn a_producer_of_a_one_to_one_ring_is_not_joined() {
+    let (mut many, _of_many) = many_to_one(128).unwrap();
+    let (mut one, _of_one) = one_to_one(128).unwrap();
+    let (other, _of_other) = one_to_one(128).unwrap();
+    // (the kind of the rings is tested first, as in C)
+    let refused = one.join(other).unwrap_err();
+    assert_eq!(refused.reason, Error::WrongHandle);
+    let refused = many.join(refused.back).unwrap_err();
+    assert_eq!(refused.reason, Error::WrongHandle);
+    let refused = one.join(many).unwrap_err();
+    assert_eq!((refused.reason, refused.back.is_abandoned()), (Error::WrongHandle, false));
+}
+
+#[test]
+fn messages_and_buffers_may_be_empty() {
+    let (mut producer, mut consumer) = many_to_one(128).unwrap();
+    producer.write(1, b"").unwrap();
+    producer.claim(2, 0).unwrap().commit();
+    assert_eq!(producer.write_batch([(3, &b""[..])]), Ok(1));
+    assert_eq!(consumer.peek(&mut []), Ok(Some(Message { type_id: 1, body: b"" })));
+    assert_eq!(consumer.controlled_read(1, &mut [], |_| felter::Action::Commit), Ok(1));
+    assert_eq!(consumer.read(&mut []), Ok(Some(Message { type_id: 2, body: b"" })));
+    assert_eq!(consumer.read_batch(9, &mut []).unwrap_err(), Error::ShortBuffer { wanted: 0 });
+    assert_eq!(consumer.recv(&mut [], None), Ok(Message { type_id: 3, body: b"" }));
+    assert_eq!((consumer.read(&mut []), consumer.read_batch(9, &mut []).unwrap().len()), (Ok(None), 0));
+    let mut claim = producer.claim(4, 3).unwrap();
+    claim.put(3, b"").unwrap();
+    assert_eq!((claim.put(4, b""), claim.put(usize::MAX, b"x")), (Err(Error::PutRange), Err(Error::PutRange)));
+    claim.commit();
+    assert_eq!(consumer.read(&mut []), Err(Error::ShortBuffer { wanted: 3 }));
+    assert_eq!(consumer.read(&mut [0; 3]), Ok(Some(Message { type_id: 4, body: &[0; 3] })));
+}
+
+#[test]
 fn batches_have_all_messages_in_order() {
     let (mut producer, mut consumer) = one_to_one(4096).unwrap();
     let mut room = [0; 700];
