@@ -16,6 +16,7 @@ use ring_words::ClaimFault;
 ///
 /// Returns `Contended` if one of the two heads is beyond the tail of this claim, since another producer has then moved
 /// the tail. Returns `InsufficientCapacity` if there is no room after the head.
+#[inline(always)]
 pub(crate) fn find_room<M: Mode>(
     words: &SharedRing<M>,
     seat: &mut RingSeat,
