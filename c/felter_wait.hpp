@@ -104,7 +104,8 @@ inline result<message> receive_asleep(receiver &from, sleepers &in, buffer into,
     return detail::until_woken(from, in.raw(), timeout, [&] { return from.receive(into); });
 }
 
-// The outcome of a request, and what is known of its command.
+// The outcome of a request, and what is known of its command. A request does not notice that the conductor is gone. So
+// pass a timeout, and test client::is_abandoned if no reply came.
 struct requested {
     felter::code why;
     felter_answer answer;
