@@ -202,11 +202,13 @@ enum felter_outcome {
     FELTER_OUTCOME_UNKNOWN = 4   /* no reply came in time, and the reply may be lost: FELTER_LAPPED */
 };
 
+/* The kind and the number are written only if the outcome is FELTER_OUTCOME_REPLIED, and the id only if the command was
+ * sent. */
 typedef struct felter_answer {
     int32_t outcome; /* enum felter_outcome */
     int32_t kind;    /* the kind of the reply: enum felter_reply */
     int64_t number;  /* the number of the reply */
-    uint64_t id;     /* the correlation id of the command, if it was sent */
+    uint64_t id;     /* the correlation id of the command */
 } felter_answer;
 
 /* An id that no counter has. */
@@ -222,14 +224,19 @@ FELTER_GUARD int32_t felter_await(felter_client *client, int32_t sent, felter_pa
     uint64_t lapped = 0, after = 0;
     unsigned others = 0, waits = 0;
     int is_lapped = 0, has_after = 0;
+    int32_t kind = 0;
+    int64_t number = 0;
     answer->outcome = FELTER_OUTCOME_NOT_SENT;
     if (sent != FELTER_OK) return sent;
     for (;;) {
-        int32_t code = felter_poll(client, has_after ? after : answer->id, &answer->kind, &answer->number, &lapped);
+        int32_t code = felter_poll(client, has_after ? after : answer->id, &kind, &number, &lapped);
         answer->outcome = is_lapped ? FELTER_OUTCOME_UNKNOWN : FELTER_OUTCOME_PENDING;
         if (code == FELTER_OK) {
             answer->outcome = has_after ? FELTER_OUTCOME_TAKEN : FELTER_OUTCOME_REPLIED;
-            return has_after ? FELTER_LAPPED : FELTER_OK;
+            if (has_after) return FELTER_LAPPED;
+            answer->kind = kind;
+            answer->number = number;
+            return FELTER_OK;
         }
         if (code == FELTER_LAPPED) {
             is_lapped = 1;

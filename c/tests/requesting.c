@@ -85,7 +85,7 @@ static void work_at_pause(int pause) {
 
 /* Makes a request of a client that the conductor has overtaken, and compares its code and its outcome. */
 static void expect_request(int works_at, int laps_at, int64_t timeout, int32_t wanted, int32_t outcome) {
-    felter_answer answer;
+    felter_answer answer = {77, 77, 77, 77};
     EXPECT(FELTER_OK, felter_conductor_new(4096, 256, 4, 0, &lapping.conductor));
     EXPECT(FELTER_OK, felter_conductor_client(&lapping.conductor, &lapping.client));
     EXPECT(FELTER_OK, felter_conductor_client(&lapping.conductor, &lapping.other));
@@ -95,8 +95,10 @@ static void expect_request(int works_at, int laps_at, int64_t timeout, int32_t w
     paused = 0;
     at_pause = work_at_pause;
     int32_t code = felter_request_set(&lapping.client, 0, 5, timeout, &answer);
-    CHECK(code == wanted && answer.outcome == outcome);
+    CHECK(code == wanted && answer.outcome == outcome && answer.id == 40);
+    /* (the reply to another command is no answer) */
     if (code == FELTER_OK) CHECK(answer.kind == FELTER_REPLY_REFUSED && answer.number == FELTER_NOT_ALLOCATED);
+    else CHECK(answer.kind == 77 && answer.number == 77);
     if (timeout < 0) {
         /* The next request gets its own reply. */
         lapping.works_at = paused + 1;
