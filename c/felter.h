@@ -754,9 +754,10 @@ static inline int32_t felter_board_new_in(void *memory, size_t length, uint32_t 
 static inline int32_t felter_counters_new_in(void *memory, size_t length, uint32_t count, uint32_t reuse_ms,
                                              felter_counters *counters);
 
-/* Lets the library unmap memory that the caller has mapped, since the library knows when the last handle was freed. The
- * library then calls munmap(memory, length). A structure must be at the beginning of the memory. Codes:
- * FELTER_BAD_MEMORY if no structure uses the memory there, or the length is 0. */
+/* Lets the library unmap memory that the caller has mapped, since the library knows when the last handle that uses the
+ * memory was freed. The library then calls munmap(memory, length). Readers of counters do not use the memory. A
+ * structure must be at the beginning of the memory. Codes: FELTER_BAD_MEMORY if no structure uses the memory there, if
+ * the memory does not begin at a multiple of the page size, or if it has fewer bytes than the structure needs. */
 int32_t felter_unmap_at_end(void *memory, size_t length);
 
 /* Recovers the messages of a ring in memory of the caller after its process died, and lays them into a buffer as

@@ -39,19 +39,24 @@ struct positions {
 
 class producer;
 
-// Room for one message. The destructor aborts the claim unless it was committed. The producer must live longer than the
-// claim, and must not be moved while the claim exists.
+// Room for one message. The destructor aborts the claim unless it was committed, and so does an assignment of another
+// claim. The producer must live longer than the claim, and must not be moved while the claim exists. If the producer is
+// joined to another one, the claim belongs to the other producer. Then settle it by felter_commit or felter_abort, with
+// the other producer and number(), since this object can no longer settle it.
 class claim {
 public:
     claim(claim &&from) noexcept : raw_(std::exchange(from.raw_, nullptr)), number_(from.number_) {}
     claim &operator=(claim &&from) noexcept {
-        std::swap(raw_, from.raw_);
-        std::swap(number_, from.number_);
+        if (this != &from) {
+            abort_if_open();
+            raw_ = std::exchange(from.raw_, nullptr);
+            number_ = from.number_;
+        }
         return *this;
     }
-    ~claim() {
-        if (raw_ && felter_abort(raw_, number_)) return;
-    }
+    ~claim() { abort_if_open(); }
+    // Returns the number of the claim, which is its position in the ring.
+    std::uint64_t number() const noexcept { return number_; }
     code put(std::size_t offset, bytes from) {
         return raw_ ? felter_put(raw_, number_, offset, from.data(), from.size()) : FELTER_NO_CLAIM;
     }
@@ -61,6 +66,9 @@ public:
 private:
     friend class producer;
     claim(felter_producer *raw, std::uint64_t number) noexcept : raw_(raw), number_(number) {}
+    void abort_if_open() noexcept {
+        if (raw_ && felter_abort(raw_, number_)) return;
+    }
     felter_producer *raw_;
     std::uint64_t number_;
 };

@@ -4,6 +4,7 @@
 #ifndef FELTER_CHECKED_H
 #define FELTER_CHECKED_H
 
+#include <sched.h>
 #include <stdio.h>
 #include <stdlib.h>
 
@@ -39,7 +40,7 @@ static inline void felter_wrong(const char *call, const char *why) {
 }
 
 static inline void felter_lock(void) {
-    while (__atomic_test_and_set(&felter_check_lock, __ATOMIC_ACQUIRE)) continue;
+    while (__atomic_test_and_set(&felter_check_lock, __ATOMIC_ACQUIRE)) sched_yield();
 }
 
 static inline void felter_unlock(void) {

@@ -18,6 +18,7 @@
 #include <stdlib.h>
 #include <string.h>
 #include <sys/mman.h>
+#include <unistd.h>
 
 #undef felter_ring_memory
 #undef felter_board_memory
@@ -38,6 +39,7 @@
 /* The memory of one structure. */
 struct region {
     unsigned char *memory;
+    size_t needed;     /* how many bytes the structure needs */
     int blocks;        /* how many of its blocks are not freed yet */
     size_t to_unmap;   /* how many bytes are unmapped after the last block was freed, or 0 */
 };
@@ -314,6 +316,7 @@ static int32_t make_in(const struct wanted *it, void *memory, size_t length) {
     if (region && before) {
         word *at = memory;
         region->memory = memory;
+        region->needed = needed;
         memcpy(before, memory, needed);
         /* The memory is no image as long as it has no magic. */
         __atomic_store_n(&at[MAGIC], 0, __ATOMIC_SEQ_CST);
@@ -387,10 +390,13 @@ int32_t felter_counters_new_in_numbered(uint64_t number, void *memory, size_t le
 int32_t felter_unmap_at_end(void *memory, size_t length) {
     int32_t code = FELTER_BAD_MEMORY;
     if (!memory) return FELTER_NULL_POINTER;
+    /* (munmap would refuse other memory when the last handle is freed, and nothing could report that) */
+    if ((uintptr_t)memory % (uintptr_t)sysconf(_SC_PAGESIZE)) return FELTER_BAD_MEMORY;
     pthread_mutex_lock(&lock);
     struct place **link = find((unsigned char *)memory + HEADER_LENGTH);
-    if (link && (*link)->region->memory == memory && length) {
-        (*link)->region->to_unmap = length;
+    struct region *region = link ? (*link)->region : NULL;
+    if (region && region->memory == memory && length >= region->needed) {
+        region->to_unmap = length;
         code = FELTER_OK;
     }
     pthread_mutex_unlock(&lock);

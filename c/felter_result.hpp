@@ -72,9 +72,14 @@ public:
     T &operator*() & noexcept { return *value_; }
     const T &operator*() const & noexcept { return *value_; }
     T *operator->() noexcept { return &*value_; }
+    const T *operator->() const noexcept { return &*value_; }
     // Returns the value, or throws felter::error if there is none.
     T &value() & { return why_.value(), *value_; }
-    T &&value() && { return why_.value(), std::move(*value_); }
+    const T &value() const & { return why_.value(), *value_; }
+    // A temporary result gives its value away, and returns no reference to it. So a `for` can iterate over the batch of
+    // a temporary result: for (auto message : consumer.read_batch(9, room).value()).
+    T value() && { return why_.value(), std::move(*value_); }
+    T operator*() && noexcept { return std::move(*value_); }
 
 private:
     std::optional<T> value_;
@@ -134,6 +139,7 @@ public:
         using difference_type = std::ptrdiff_t;
         using pointer = void;
         using reference = message;
+        iterator() noexcept = default;
         iterator(const char *at, std::uint32_t left) noexcept : at_(at), left_(left) {}
         message operator*() const noexcept {
             const felter_record record = head();
@@ -158,8 +164,8 @@ public:
             __builtin_memcpy(&record, at_, sizeof record);
             return record;
         }
-        const char *at_;
-        std::uint32_t left_;
+        const char *at_ = nullptr;
+        std::uint32_t left_ = 0;
     };
 
     batch() noexcept = default;

@@ -167,10 +167,12 @@ public:
     result<std::uint64_t> close_owner(std::uint64_t of) {
         return detail::out<std::uint64_t>([&](std::uint64_t *it) { return felter_send_close_owner(raw(), of, it); });
     }
-    result<reply> poll(std::uint64_t correlation) {
-        std::uint64_t lapped = 0;
-        return detail::out<reply>(
-            [&](reply *it) { return felter_poll(raw(), correlation, &it->kind, &it->number, &lapped); });
+    // After FELTER_LAPPED, `*lapped` is how often the client was lapped, unless `lapped` is nullptr.
+    result<reply> poll(std::uint64_t correlation, std::uint64_t *lapped = nullptr) {
+        std::uint64_t count = 0;
+        return detail::out<reply>([&](reply *it) {
+            return felter_poll(raw(), correlation, &it->kind, &it->number, lapped ? lapped : &count);
+        });
     }
     result<std::uint64_t> heartbeat() {
         return detail::out<std::uint64_t>([&](std::uint64_t *it) { return felter_client_heartbeat(raw(), it); });

@@ -107,8 +107,10 @@ FELTER_GUARD int32_t felter_receive_wait(felter_receiver *receiver, int32_t *typ
  * A reader sleeps until a writer wakes it. The reader wakes some tens of microseconds later. The writers and the reader
  * share a felter_sleepers. Initialise this object with FELTER_NO_SLEEPERS. It must live as long as a thread uses it.
  *
- * Each writer calls felter_wake after each write, commit, abort or transmission. The call costs one load if no reader
- * sleeps. Only felter_wake and the timeout wake a reader, so call felter_wake also when the last writer ends.
+ * Each writer calls felter_wake after each write, commit, abort or transmission, and after felter_free of a producer,
+ * since felter_free aborts the open claims of the producer. The call costs one load if no reader sleeps. Only
+ * felter_wake and the timeout wake a reader. A reader that is woken and finds no message sleeps again. A reader in C
+ * does not learn that no writer is left, so the last writer should write a message that means the end.
  */
 typedef struct felter_sleepers {
     uint32_t count; /* how many readers sleep, or are about to sleep */
@@ -119,9 +121,9 @@ typedef struct felter_sleepers {
 
 /* Wakes all readers that sleep. Any thread may call this. A reader that is woken finds the messages that were written
  * before this call. The reason is that a write ends with an exchange, and an x86-64 processor never does the load of
- * this function before that exchange. */
+ * this function before that exchange. If `it` is NULL, the call does nothing. */
 static inline void felter_wake(felter_sleepers *it) {
-    if (__atomic_load_n(&it->count, __ATOMIC_SEQ_CST) == 0) return;
+    if (!it || __atomic_load_n(&it->count, __ATOMIC_SEQ_CST) == 0) return;
     __atomic_add_fetch(&it->turn, 1, __ATOMIC_SEQ_CST);
     syscall(SYS_futex, &it->turn, FUTEX_WAKE_PRIVATE, INT_MAX, NULL, NULL, 0);
 }
@@ -139,8 +141,7 @@ static inline int64_t felter_time_left(felter_pause *it) {
 }
 
 /* Sleeps, unless readers were woken after `turn` was loaded. Returns 1 after the sleep. Returns 0 without a sleep if
- * the timeout has passed.
- * */
+ * the timeout has passed. */
 static inline int felter_sleeps(felter_sleepers *it, uint32_t turn, felter_pause *pause) {
     const int64_t left = felter_time_left(pause);
     struct timespec most;
@@ -170,12 +171,14 @@ static inline int felter_sleeps(felter_sleepers *it, uint32_t turn, felter_pause
 /* Calls felter_read, and sleeps until there is a message. After the timeout the call returns FELTER_NO_MESSAGE. */
 FELTER_GUARD int32_t felter_read_asleep(felter_consumer *consumer, felter_sleepers *sleepers, int32_t *type_id,
                                         size_t *len, void *buffer, size_t room, int64_t timeout) {
+    if (consumer && !sleepers) return felter_refuse("felter_read_asleep", FELTER_NULL_POINTER);
     FELTER_UNTIL_WOKEN(sleepers, timeout, felter_read(consumer, type_id, len, buffer, room));
 }
 
 /* Calls felter_receive, and sleeps until there is a message. After the timeout the call returns FELTER_NO_MESSAGE. */
 FELTER_GUARD int32_t felter_receive_asleep(felter_receiver *receiver, felter_sleepers *sleepers, int32_t *type_id,
                                            size_t *len, uint64_t *lapped, void *buffer, size_t room, int64_t timeout) {
+    if (receiver && !sleepers) return felter_refuse("felter_receive_asleep", FELTER_NULL_POINTER);
     FELTER_UNTIL_WOKEN(sleepers, timeout, felter_receive(receiver, type_id, len, lapped, buffer, room));
 }
 
@@ -199,11 +202,13 @@ enum felter_outcome {
     FELTER_OUTCOME_UNKNOWN = 4   /* no reply came in time, and the reply may be lost: FELTER_LAPPED */
 };
 
+/* The kind and the number are written only if the outcome is FELTER_OUTCOME_REPLIED, and the id only if the command was
+ * sent. */
 typedef struct felter_answer {
     int32_t outcome; /* enum felter_outcome */
     int32_t kind;    /* the kind of the reply: enum felter_reply */
     int64_t number;  /* the number of the reply */
-    uint64_t id;     /* the correlation id of the command, if it was sent */
+    uint64_t id;     /* the correlation id of the command */
 } felter_answer;
 
 /* An id that no counter has. */
@@ -219,14 +224,19 @@ FELTER_GUARD int32_t felter_await(felter_client *client, int32_t sent, felter_pa
     uint64_t lapped = 0, after = 0;
     unsigned others = 0, waits = 0;
     int is_lapped = 0, has_after = 0;
+    int32_t kind = 0;
+    int64_t number = 0;
     answer->outcome = FELTER_OUTCOME_NOT_SENT;
     if (sent != FELTER_OK) return sent;
     for (;;) {
-        int32_t code = felter_poll(client, has_after ? after : answer->id, &answer->kind, &answer->number, &lapped);
+        int32_t code = felter_poll(client, has_after ? after : answer->id, &kind, &number, &lapped);
         answer->outcome = is_lapped ? FELTER_OUTCOME_UNKNOWN : FELTER_OUTCOME_PENDING;
         if (code == FELTER_OK) {
             answer->outcome = has_after ? FELTER_OUTCOME_TAKEN : FELTER_OUTCOME_REPLIED;
-            return has_after ? FELTER_LAPPED : FELTER_OK;
+            if (has_after) return FELTER_LAPPED;
+            answer->kind = kind;
+            answer->number = number;
+            return FELTER_OK;
         }
         if (code == FELTER_LAPPED) {
             is_lapped = 1;
@@ -319,7 +329,7 @@ static inline int felter_clear_doorbell(int bell) {
 }
 
 /* Waits until a doorbell is rung, for at most `timeout` milliseconds. If `timeout` is negative, waits for ever. Returns
- * the result of poll. */
+ * the result of poll. If a signal interrupts the wait, this is -1, and errno is EINTR. */
 static inline int felter_wait_doorbell(int bell, int timeout) {
     struct pollfd it;
     it.fd = bell;

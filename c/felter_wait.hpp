@@ -3,7 +3,10 @@
 //
 // To wait for a message, use read_asleep or receive_asleep, and call sleepers::wake after each write. read_wait and
 // receive_wait are for writers that do not call wake. These two calls pause between tries, so they find a message up to
-// about a millisecond late. They also return FELTER_NO_MESSAGE if the other side is gone and no message is left.
+// about a millisecond late.
+//
+// Each of these calls also returns FELTER_NO_MESSAGE if the other side is gone and no message is left. A reader that
+// sleeps does not learn this until it is woken, so call sleepers::wake after the last writer was freed or closed.
 #ifndef FELTER_WAIT_HPP
 #define FELTER_WAIT_HPP
 
@@ -11,6 +14,7 @@
 
 #include "felter_wait.h"
 
+#include <algorithm>
 #include <chrono>
 
 namespace felter {
@@ -36,6 +40,8 @@ result<message> until_found(End &end, std::chrono::milliseconds timeout, Look lo
 }
 } // namespace detail
 
+// Writes again and again while the ring is full or another producer is faster. After the timeout, or if the consumer is
+// gone, the call returns the code of the last try.
 inline code write_wait(producer &to, std::int32_t type_id, bytes body, std::chrono::milliseconds timeout) {
     felter_pause pause = {0, 0, detail::as_timeout(timeout)};
     for (;;) {
@@ -59,8 +65,8 @@ public:
     sleepers() noexcept = default;
     sleepers(const sleepers &) = delete;
     sleepers &operator=(const sleepers &) = delete;
-    // Wakes all readers that sleep. Call this after each write, commit, abort or transmission, and when the last writer
-    // ends. The call costs one load if no reader sleeps.
+    // Wakes all readers that sleep. Call this after each write, commit, abort or transmission, and after a producer or
+    // a transmitter was freed or closed. The call costs one load if no reader sleeps.
     void wake() noexcept { felter_wake(&raw_); }
     felter_sleepers *raw() noexcept { return &raw_; }
 
@@ -68,26 +74,38 @@ private:
     felter_sleepers raw_ = FELTER_NO_SLEEPERS;
 };
 
+namespace detail {
+// Calls `look`, and sleeps in between, until there is a message, the timeout has passed, or the other side is gone and
+// left no message.
+template <class End, class Look>
+result<message> until_woken(End &end, felter_sleepers *in, std::chrono::milliseconds timeout, Look look) {
+    felter_pause pause = {0, 0, as_timeout(timeout)};
+    bool is_last = pause.timeout == 0;
+    auto found = look();
+    while (found.code() == FELTER_NO_MESSAGE && !is_last) {
+        __atomic_add_fetch(&in->count, 1, __ATOMIC_SEQ_CST);
+        const std::uint32_t turn = __atomic_load_n(&in->turn, __ATOMIC_SEQ_CST);
+        // The call of is_abandoned comes before look, so the last look finds what was written before the other side was
+        // gone. If the other side goes after that, the wake that follows ends the sleep.
+        is_last = end.is_abandoned();
+        found = look();
+        if (found.code() == FELTER_NO_MESSAGE && !is_last) is_last = !felter_sleeps(in, turn, &pause);
+        __atomic_sub_fetch(&in->count, 1, __ATOMIC_SEQ_CST);
+    }
+    return found;
+}
+} // namespace detail
+
 inline result<message> read_asleep(consumer &from, sleepers &in, buffer into, std::chrono::milliseconds timeout) {
-    message found{};
-    std::size_t len = 0;
-    const std::int32_t why = felter_read_asleep(from.raw(), in.raw(), &found.type_id, &len, into.data(), into.size(),
-                                                detail::as_timeout(timeout));
-    found.body = {into.data(), why == FELTER_OK ? len : 0};
-    return detail::answer(why, found);
+    return detail::until_woken(from, in.raw(), timeout, [&] { return from.read(into); });
 }
 
 inline result<message> receive_asleep(receiver &from, sleepers &in, buffer into, std::chrono::milliseconds timeout) {
-    message found{};
-    std::size_t len = 0;
-    std::uint64_t lapped = 0;
-    const std::int32_t why = felter_receive_asleep(from.raw(), in.raw(), &found.type_id, &len, &lapped, into.data(),
-                                                   into.size(), detail::as_timeout(timeout));
-    found.body = {into.data(), why == FELTER_OK ? len : 0};
-    return detail::answer(why, found);
+    return detail::until_woken(from, in.raw(), timeout, [&] { return from.receive(into); });
 }
 
-// The outcome of a request, and what is known of its command.
+// The outcome of a request, and what is known of its command. A request does not notice that the conductor is gone. So
+// pass a timeout, and test client::is_abandoned if no reply came.
 struct requested {
     felter::code why;
     felter_answer answer;
@@ -140,9 +158,21 @@ public:
     bool ring() noexcept { return felter_ring_doorbell(descriptor_) == 0; }
     // Clears the doorbell, and returns whether it was rung.
     bool clear() noexcept { return felter_clear_doorbell(descriptor_) == 1; }
-    // Waits until the doorbell is rung, and returns whether it was rung.
+    // Waits until the doorbell is rung, and returns whether it was rung. A signal does not end the wait.
     bool wait(std::chrono::milliseconds timeout) noexcept {
-        return felter_wait_doorbell(descriptor_, static_cast<int>(timeout.count())) == 1;
+        using std::chrono::milliseconds;
+        const auto began = std::chrono::steady_clock::now();
+        for (auto left = timeout; descriptor_ >= 0;) {
+            // (one call of poll waits for at most 2^31 - 1 milliseconds, or for ever if the number is negative)
+            const auto most = std::clamp(left, milliseconds(-1), milliseconds(INT_MAX));
+            const int found = felter_wait_doorbell(descriptor_, static_cast<int>(most.count()));
+            if (found == 1) return true;
+            if (found < 0 && errno != EINTR) return false;
+            if (timeout.count() < 0) continue;
+            left = timeout - std::chrono::duration_cast<milliseconds>(std::chrono::steady_clock::now() - began);
+            if (left.count() <= 0) return false;
+        }
+        return false;
     }
 
 private:

@@ -174,7 +174,7 @@ static int ask_conductor(void) {
     stop = 1;
     pthread_join(serving, NULL);
     if (code != FELTER_OK || felter_conductor_join(&conductor, &client) != FELTER_OK) return 0;
-    printf("%s %" PRId64 "\n", kind == 103 ? "refused" : "reply", number);
+    printf("%s %" PRId64 "\n", kind == FELTER_REPLY_REFUSED ? "refused" : "reply", number);
     if (felter_conductor_finish(&conductor, &received, &left) != FELTER_OK) return 0;
     printf("received %" PRIu64 " left %" PRIu64 "\n", received, left);
     return 1;

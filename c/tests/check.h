@@ -1,13 +1,16 @@
-/* Macros that the tests in C share. A test ends with status 1 at the first check that fails, and prints the place of that check. */
+/* What the tests in C share. A test ends with status 1 at the first check that fails, and prints the place of that
+ * check. */
 #ifndef CHECK_H
 #define CHECK_H
 
 #include "felter.h"
 
 #include <inttypes.h>
+#include <sched.h>
 #include <stdio.h>
 #include <stdlib.h>
 #include <string.h>
+#include <time.h>
 
 /* Ends the test if the condition is false. */
 #define CHECK(that)                                                     \
@@ -27,6 +30,14 @@
             exit(1);                                                                                          \
         }                                                                                                     \
     } while (0)
+
+/* Lets other threads run. A thread that waits for long sleeps between its tries, so that it takes little processor time,
+ * however busy the machine is. `tries` is 0 before the first one. */
+static inline void rest(int *tries) {
+    const struct timespec pause = {0, 100000};
+    if (++*tries < 100) sched_yield();
+    else nanosleep(&pause, NULL);
+}
 
 #define LAST_POSITION ((uint64_t)1 << 62)
 

@@ -1,20 +1,12 @@
-/* Many claims that are open at the same time: each is put and settled in about the time of one. Time is compared with
- * time, that of all at once with that of a tenth ten times, so that no machine is too slow for it. It is processor time,
- * so that none is too busy. */
-#include "check.h"
+/* Many claims that are open at the same time: a call puts or settles one of them by about as many instructions as if
+ * few were open. Instructions are counted, and not time, so it does not matter how fast or how busy the machine is. */
+#define _GNU_SOURCE 1
+#include "stepping.h"
 
-#include <time.h>
-
-enum { FEW = 10000, MANY = 100000 };
+enum { FEW = 1000, MANY = 100000, SAMPLES = 250 };
 
 static uint64_t numbers[MANY];
 static uint32_t order[MANY];
-
-static double seconds(void) {
-    struct timespec now;
-    CHECK(clock_gettime(CLOCK_PROCESS_CPUTIME_ID, &now) == 0);
-    return (double)now.tv_sec + (double)now.tv_nsec / 1e9;
-}
 
 static uint64_t next_random(void) {
     static uint64_t state = 88172645463325252u;
@@ -49,28 +41,43 @@ static void open_claims(felter_producer *producer, uint32_t producers, uint32_t 
     for (i = 1; i < producers; i++) EXPECT(FELTER_OK, felter_join(producer, &others[i]));
 }
 
-/* The seconds in which these claims are put and settled in an order. Every seventh is aborted; the consumer gets the
- * others, whole and in the order of the claims. */
-static double settles(enum kind kind, uint32_t producers, uint32_t count) {
+/* Puts and settles the claim of an index. Every seventh is aborted. */
+static void settle(felter_producer *producer, uint32_t index) {
+    uint64_t number = numbers[index], body = index;
+    EXPECT(FELTER_OK, felter_put(producer, number, 0, &body, sizeof body));
+    if (index % 7 == 3) EXPECT(FELTER_OK, felter_abort(producer, number));
+    else EXPECT(FELTER_OK, felter_commit(producer, number));
+}
+
+/* Does the same, and returns the number of instructions. */
+static uint64_t settle_by_steps(felter_producer *producer, uint32_t index) {
+    uint64_t number = numbers[index], body = index, steps;
+    int32_t code;
+    STEP(code, felter_put(producer, number, 0, &body, sizeof body), 0);
+    steps = steps_made;
+    EXPECT(FELTER_OK, code);
+    if (index % 7 == 3) STEP(code, felter_abort(producer, number), 0);
+    else STEP(code, felter_commit(producer, number), 0);
+    EXPECT(FELTER_OK, code);
+    return steps + steps_made;
+}
+
+/* Puts and settles this many claims in an order, and returns the mean number of instructions for one of them. The
+ * consumer gets those that were not aborted, whole and in the order of the claims. */
+static uint64_t settles(enum kind kind, uint32_t producers, uint32_t count) {
     felter_producer producer = FELTER_EMPTY;
     felter_consumer consumer = FELTER_EMPTY;
-    uint64_t body = 0;
+    uint64_t body = 0, steps = 0;
     int32_t type_id = 0;
     size_t len = 0;
     uint32_t i;
-    double began, took;
     EXPECT(FELTER_OK, felter_many_to_one_new(4194304, &producer, &consumer));
     open_claims(&producer, producers, count);
     put_in_order(kind, count);
-    began = seconds();
     for (i = 0; i < count; i++) {
-        uint64_t number = numbers[order[i]];
-        body = order[i];
-        EXPECT(FELTER_OK, felter_put(&producer, number, 0, &body, sizeof body));
-        if (order[i] % 7 == 3) EXPECT(FELTER_OK, felter_abort(&producer, number));
-        else EXPECT(FELTER_OK, felter_commit(&producer, number));
+        if (i % (count / SAMPLES)) settle(&producer, order[i]);
+        else steps += settle_by_steps(&producer, order[i]);
     }
-    took = seconds() - began;
     EXPECT(FELTER_NO_CLAIM, felter_commit(&producer, numbers[count / 2]));
     EXPECT(FELTER_NO_CLAIM, felter_put(&producer, numbers[0], 0, &body, sizeof body));
     for (i = 0; i < count; i++) {
@@ -81,23 +88,15 @@ static double settles(enum kind kind, uint32_t producers, uint32_t count) {
     EXPECT(FELTER_NO_MESSAGE, felter_read(&consumer, &type_id, &len, &body, sizeof body));
     felter_free(&producer.handle);
     felter_free(&consumer.handle);
-    return took;
+    return steps / SAMPLES;
 }
 
-/* All at once take less than five times as long as a tenth of them ten times. Were each as long as all open ones, it
- * would be ten times. (The clock may tick in hundredths of a second.) Other programs can use the caches meanwhile, so one
- * of five attempts has to be so. */
+/* With a hundred times as many open claims, one of them takes less than twice as many instructions. */
 static void takes_its_share(const char *name, enum kind kind, uint32_t producers) {
-    int attempt, is_share = 0;
-    for (attempt = 0; attempt < 5 && !is_share; attempt++) {
-        double few = 0, many = settles(kind, producers, MANY);
-        int i;
-        for (i = 0; i < MANY / FEW; i++) few += settles(kind, producers, FEW);
-        printf("%s, %d producers: %d claims in %.2f ms, at once in %.2f ms\n", name, (int)producers, MANY, few * 1e3,
-               many * 1e3);
-        is_share = many < few * 5 + 0.05;
-    }
-    CHECK(is_share);
+    uint64_t few = settles(kind, producers, FEW), many = settles(kind, producers, MANY);
+    printf("claims: %s, %d producers: %" PRIu64 " instructions for one of %d, and %" PRIu64 " for one of %d\n", name,
+           (int)producers, few, FEW, many, MANY);
+    CHECK(few > 0 && many < 2 * few);
 }
 
 /* One claim is always open, and each is opened before the one before it is settled. */
@@ -123,6 +122,7 @@ static void overlap(void) {
 }
 
 int main(void) {
+    prepare_steps();
     takes_its_share("oldest first", OLDEST_FIRST, 1);
     takes_its_share("youngest first", YOUNGEST_FIRST, 1);
     takes_its_share("in random order", RANDOM, 1);

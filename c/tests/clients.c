@@ -6,7 +6,6 @@
 #include "check.h"
 
 #include <pthread.h>
-#include <sched.h>
 
 #define MOST 8
 #define BATCH 8
@@ -17,6 +16,7 @@ struct caller {
     uint64_t owner, sent, heard, laps, beat;
     int64_t last;
     uint32_t counter;
+    int tries;
 };
 
 struct house {
@@ -37,16 +37,16 @@ static int is_over(struct house *house) {
 
 /* Whether a command has to be sent again. */
 static int again(struct caller *it, int32_t code) {
+    CHECK(code == FELTER_OK || code == FELTER_CONTENDED || code == FELTER_INSUFFICIENT_CAPACITY);
     it->sent += code == FELTER_OK;
-    if (code == FELTER_OK) return 0;
-    CHECK(code == FELTER_CONTENDED || code == FELTER_INSUFFICIENT_CAPACITY);
-    if (code != FELTER_CONTENDED) sched_yield();
-    return 1;
+    if (code == FELTER_OK) it->tries = 0;
+    if (code == FELTER_INSUFFICIENT_CAPACITY) rest(&it->tries);
+    return code != FELTER_OK;
 }
 
 /* Waits for the reply to a command. Answers its kind, or 0 where the client was lapped. */
 static int32_t hear(struct caller *it, uint64_t id, int64_t *number) {
-    for (;;) {
+    for (int tries = 0;;) {
         int32_t kind = 0;
         uint64_t lapped = 0;
         int32_t code = felter_poll(&it->client, id, &kind, number, &lapped);
@@ -59,7 +59,8 @@ static int32_t hear(struct caller *it, uint64_t id, int64_t *number) {
             return 0;
         }
         CHECK(code == FELTER_NO_MESSAGE || code == FELTER_OTHER_REPLY);
-        if (code == FELTER_NO_MESSAGE) sched_yield();
+        if (code == FELTER_NO_MESSAGE) rest(&tries);
+        else tries = 0;
     }
 }
 
@@ -141,7 +142,7 @@ static void *run_client(void *its) {
 /* Works until the clients are done and no command is left. */
 static void *conduct(void *its) {
     struct house *house = its;
-    for (;;) {
+    for (int tries = 0;;) {
         int is_last = is_over(house);
         uint64_t took = 0;
         int32_t why = 77;
@@ -150,9 +151,10 @@ static void *conduct(void *its) {
         house->received += took;
         CHECK(why == FELTER_STOP_LIMIT || why == FELTER_STOP_BLOCK || why == FELTER_STOP_UNPUBLISHED);
         CHECK(why == FELTER_STOP_LIMIT ? took == 64 : took < 64);
+        if (took > 0) tries = 0;
         if (why != FELTER_STOP_UNPUBLISHED) continue;
         if (is_last) return NULL;
-        sched_yield();
+        rest(&tries);
     }
 }
 
@@ -160,8 +162,10 @@ static void *conduct(void *its) {
 static void *watch(void *its) {
     struct house *house = its;
     int64_t latest[2 * MOST] = {0};
-    for (int is_last = 0; !is_last; sched_yield()) {
+    int tries = 0;
+    for (int is_last = 0; !is_last; rest(&tries)) {
         is_last = is_over(house);
+        tries %= 100;
         for (uint32_t id = 0; id < 2 * MOST; id++) {
             int64_t value = -1;
             EXPECT(FELTER_OK, felter_reader_value(&house->reader, id, &value));

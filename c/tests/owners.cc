@@ -1,25 +1,17 @@
 // What felter.hpp adds: handles that move and free themselves, claims that abort, views, results, and errors.
 #include "felter.hpp"
 
-#include "felter_wait.hpp"
+#include "check.hpp"
 
 #include <array>
-#include <chrono>
-#include <cstdio>
 #include <string>
 #include <thread>
 #include <vector>
+#if __cplusplus >= 202002L
+#include <ranges>
+#endif
 
 namespace {
-
-int failed = 0;
-
-void check(bool is_so, int line, const char *what) {
-    if (is_so) return;
-    std::fprintf(stderr, "owners.cc:%d: not so: %s\n", line, what);
-    failed++;
-}
-#define CHECK(that) check((that), __LINE__, #that)
 
 static_assert(!std::is_copy_constructible_v<felter::producer>);
 static_assert(std::is_nothrow_move_constructible_v<felter::producer>);
@@ -29,6 +21,12 @@ static_assert(sizeof(felter::adder) == sizeof(felter_adder));
 // An array that can be written is no text in quotes: its last byte may be one of the body.
 static_assert(std::is_convertible_v<const char (&)[4], felter::bytes>);
 static_assert(!std::is_convertible_v<char (&)[4], felter::bytes>);
+// A temporary result gives no reference to its value.
+static_assert(!std::is_reference_v<decltype(std::declval<felter::result<felter::batch>>().value())>);
+static_assert(!std::is_reference_v<decltype(*std::declval<felter::result<felter::batch>>())>);
+#if __cplusplus >= 202002L
+static_assert(std::ranges::input_range<const felter::batch>);
+#endif
 
 void rings() {
     auto ring = felter::many_to_one(512).value();
@@ -97,6 +95,25 @@ void batches() {
     CHECK(written.count == 0 && written.why == FELTER_BAD_TYPE);
     CHECK(ring.consumer.read(room).code() == FELTER_NO_MESSAGE);
     CHECK(felter::producer().write_batch({}).why == FELTER_NO_HANDLE);
+}
+
+// A `for` goes through the batch of a result that is a temporary, and of one that is constant.
+void batches_of_temporaries() {
+    auto ring = felter::one_to_one(1024).value();
+    std::array<std::uint8_t, 512> room{};
+    std::string seen;
+    for (const char *it : {"one ", "two ", "three ", "four ", "five "}) ring.producer.write(1, std::string(it)).value();
+    for (auto it : ring.consumer.read_batch(2, room).value()) seen += it.body.text();
+    for (auto it : *ring.consumer.read_batch(1, room)) seen += it.body.text();
+    const auto rest = ring.consumer.read_batch(9, room);
+    for (auto it : rest.value()) seen += it.body.text();
+    CHECK(seen == "one two three four five " && rest->size() == 2);
+    const auto none = ring.consumer.read_batch(9, room);
+    try {
+        CHECK(none.value().size() == 0 && false);
+    } catch (const felter::error &caught) {
+        CHECK(caught.why() == FELTER_NO_MESSAGE);
+    }
 }
 
 void standing() {
@@ -199,6 +216,27 @@ void claims() {
     CHECK(message && message->type_id == 2 && message->body.text() == std::string_view("\0ab\0", 4));
 }
 
+// An assignment aborts the claim that was there. A claim of a producer that was joined is settled by its number.
+void claims_that_move() {
+    auto ring = felter::many_to_one(512).value();
+    std::array<std::uint8_t, 64> room{};
+    auto claim = ring.producer.claim(1, 0).value(), next = ring.producer.claim(2, 0).value();
+    claim = std::move(next);
+    CHECK(ring.consumer.read(room).code() == FELTER_NO_MESSAGE);
+    claim.commit().value();
+    CHECK(ring.consumer.read(room).value().type_id == 2 && next.commit() == FELTER_NO_CLAIM);
+    auto &same = claim = ring.producer.claim(3, 0).value();
+    claim = std::move(same);
+    CHECK(claim.commit() && ring.consumer.read(room).value().type_id == 3);
+    auto other = ring.producer.split().value();
+    auto left = other.claim(4, 0).value();
+    CHECK(left.number() == ring.producer.positions().value().head);
+    ring.producer.join(other).value();
+    CHECK(left.commit() == FELTER_NO_HANDLE && ring.consumer.read(room).code() == FELTER_NO_MESSAGE);
+    CHECK(felter_commit(ring.producer.raw(), left.number()) == FELTER_OK);
+    CHECK(ring.consumer.read(room).value().type_id == 4);
+}
+
 void threads_and_ends() {
     auto ring = felter::many_to_one(4096).value();
     auto other = ring.producer.split().value();
@@ -215,52 +253,6 @@ void threads_and_ends() {
     whole.consumer.close(whole.producer).value();
     CHECK(whole.consumer.finish().value() == 0);
     CHECK(whole.consumer.finish().code() == FELTER_NO_HANDLE);
-}
-
-void waits() {
-    using std::chrono::milliseconds;
-    auto ring = felter::one_to_one(128).value();
-    std::array<std::uint8_t, 64> room{};
-    CHECK(felter::read_wait(ring.consumer, room, milliseconds(5)).code() == FELTER_NO_MESSAGE);
-    while (ring.producer.write(1, "sixteen bytes...")) continue;
-    CHECK(felter::write_wait(ring.producer, 1, "sixteen bytes...", milliseconds(5)) == FELTER_INSUFFICIENT_CAPACITY);
-    CHECK(felter::read_wait(ring.consumer, room, felter::for_ever).value().body.text() == "sixteen bytes...");
-    felter::write_wait(ring.producer, 2, "more", milliseconds(0)).value();
-    // A wait ends at once if the other side is gone.
-    while (ring.consumer.read(room)) continue;
-    { auto gone = std::move(ring.producer); }
-    CHECK(felter::read_wait(ring.consumer, room, felter::for_ever).code() == FELTER_NO_MESSAGE);
-    CHECK(ring.consumer.is_abandoned());
-    auto transmitter = felter::transmitter::make(256).value();
-    auto receiver = transmitter.subscribe().value();
-    felter::sleepers sleepers;
-    std::thread thread([&] {
-        std::this_thread::sleep_for(milliseconds(10));
-        transmitter.transmit(4, "woken").value();
-        sleepers.wake();
-    });
-    CHECK(felter::receive_asleep(receiver, sleepers, room, felter::for_ever).value().body.text() == "woken");
-    thread.join();
-    CHECK(felter::receive_wait(receiver, room, milliseconds(5)).code() == FELTER_NO_MESSAGE);
-    auto more = felter::many_to_one(128).value();
-    CHECK(felter::read_asleep(more.consumer, sleepers, room, milliseconds(5)).code() == FELTER_NO_MESSAGE);
-    auto bell = felter::doorbell::make();
-    CHECK(bell && !bell->clear() && !bell->wait(milliseconds(1)));
-    CHECK(bell->ring() && bell->wait(felter::for_ever) && bell->clear() && !bell->clear());
-    auto conductor = felter::conductor::make(1024, 4096, 8).value();
-    auto client = conductor.client().value();
-    auto pending = felter::request_set(client, 0, 1, milliseconds(5));
-    CHECK(pending.why == FELTER_NO_MESSAGE && pending.answer.outcome == FELTER_OUTCOME_PENDING);
-    std::thread working([&] {
-        std::uint64_t taken = 0;
-        while (taken < 5) taken += conductor.work(0).value().messages;
-    });
-    auto made = felter::request_allocate(client, 1, "", "label", felter::for_ever, 7);
-    CHECK(made.why && made.answer.kind == FELTER_REPLY_ALLOCATED && made.answer.number == 0);
-    CHECK(felter::request_set(client, 0, 9, felter::for_ever).answer.kind == FELTER_REPLY_DONE);
-    CHECK(felter::request_close_owner(client, 7, felter::for_ever).answer.number == 1);
-    CHECK(felter::request_free(client, 0, felter::for_ever).answer.number == FELTER_NOT_ALLOCATED);
-    working.join();
 }
 
 // Threads add to a shared counter, and the total is exact.
@@ -311,6 +303,24 @@ void boards_and_conductors() {
     CHECK(conductor.finish().value().received == 1);
 }
 
+// A client learns how often it was lapped.
+void laps() {
+    auto conductor = felter::conductor::make(4096, 256, 2).value();
+    auto late = conductor.client().value(), client = conductor.client().value();
+    const auto overtake = [&] {
+        for (int i = 0; i < 20; i++) client.set(0, i).value();
+        CHECK(conductor.work(0).value().messages == 20);
+    };
+    std::uint64_t lapped = 77;
+    CHECK(late.poll(0, &lapped).code() == FELTER_NO_MESSAGE && lapped == 77);
+    for (std::uint64_t count = 1; count < 3; count++) {
+        overtake();
+        CHECK(late.poll(0, &lapped).code() == FELTER_LAPPED && lapped == count);
+    }
+    overtake();
+    CHECK(late.poll(0).code() == FELTER_LAPPED && lapped == 2);
+}
+
 void memory_of_the_caller() {
     alignas(64) static std::array<std::uint8_t, 8192> memory{};
     std::array<std::uint8_t, 64> room{};
@@ -357,8 +367,10 @@ void recovering() {
     CHECK(ring.consumer.read(room).value().body.text() == "hello");
     CHECK(felter::recover(memory, {room.data(), 39}).code() == FELTER_SHORT_BUFFER);
     CHECK(felter::recover({memory.data(), memory.size() - 1}, room).code() == FELTER_NO_IMAGE);
+#ifndef FELTER_CHECKED
     CHECK(felter::recover({nullptr, 1}, room).code() == FELTER_NULL_POINTER);
     CHECK(felter::finding({nullptr, 1}) == "a pointer is NULL");
+#endif
     memory[128 + 16] = 32 + 4; // (no mark has the kind 4)
     CHECK(felter::recover(memory, room).code() == FELTER_BAD_HEADER_LENGTH);
     CHECK(felter::finding(memory) ==
@@ -370,15 +382,17 @@ void recovering() {
 int main() {
     rings();
     batches();
+    batches_of_temporaries();
     standing();
     ends_that_go();
     records();
-    waits();
     peeks();
     claims();
+    claims_that_move();
     threads_and_ends();
     adders();
     boards_and_conductors();
+    laps();
     memory_of_the_caller();
     recovering();
     return failed != 0;

@@ -1,14 +1,10 @@
 /* Structures in memory of the caller: where their words and bodies lie, for each capacity; codes in their order; memory
- * that stays as it was after a refusal, also if any one request for memory is refused; memory that is unmapped at the
- * end; threads that make structures in both kinds of memory at the same time.
+ * that stays as it was after a refusal, also if any one request for memory is refused; threads that make structures in
+ * both kinds of memory at the same time.
  * Link with -Wl,--wrap=malloc,--wrap=calloc,--wrap=realloc,--wrap=aligned_alloc,--wrap=posix_memalign,--wrap=free. */
-#define _DEFAULT_SOURCE 1
 #include "check.h"
 
 #include <pthread.h>
-#include <sched.h>
-#include <sys/mman.h>
-#include <unistd.h>
 
 void *__real_malloc(size_t size);
 void *__real_calloc(size_t count, size_t size);
@@ -290,57 +286,6 @@ static void refused_memory(void) {
     end();
 }
 
-static int is_mapped(void *at) {
-    unsigned char resident;
-    return mincore(at, (size_t)sysconf(_SC_PAGESIZE), &resident) == 0;
-}
-
-static void *mapped(size_t length) {
-    void *at = mmap(NULL, length, PROT_READ | PROT_WRITE, MAP_SHARED | MAP_ANONYMOUS, -1, 0);
-    CHECK(at != MAP_FAILED && is_mapped(at));
-    return at;
-}
-
-/* Memory is unmapped with the last handle. */
-static void unmapping(void) {
-    felter_producer producer = FELTER_EMPTY, other = FELTER_EMPTY;
-    felter_consumer consumer = FELTER_EMPTY;
-    felter_counters all = FELTER_EMPTY;
-    felter_reader reader = FELTER_EMPTY;
-    uint64_t unread = 0, claim;
-    uint8_t buffer[16];
-    int32_t type_id;
-    size_t len, length = 1 << 16;
-    void *at = mapped(length);
-    EXPECT(FELTER_OK, felter_many_to_one_new_in(at, length, 1024, &producer, &consumer));
-    EXPECT(FELTER_OK, felter_unmap_at_end(at, length));
-    EXPECT(FELTER_OK, felter_split(&producer, &other));
-    EXPECT(FELTER_OK, felter_claim(&other, 3, 3, &claim));
-    felter_free(&consumer.handle);
-    felter_free(&producer.handle);
-    CHECK(is_mapped(at));
-    felter_free(&other.handle);
-    CHECK(!is_mapped(at));
-    at = mapped(length);
-    EXPECT(FELTER_OK, felter_one_to_one_new_in(at, length, 1024, &producer, &consumer));
-    EXPECT(FELTER_OK, felter_unmap_at_end(at, length));
-    EXPECT(FELTER_OK, felter_write(&producer, 7, "stays", 5));
-    EXPECT(FELTER_OK, felter_write(&producer, 8, "unread", 6));
-    EXPECT(FELTER_OK, felter_close(&consumer, &producer));
-    EXPECT(FELTER_OK, felter_read(&consumer, &type_id, &len, buffer, sizeof buffer));
-    CHECK(type_id == 7 && memcmp(buffer, "stays", 5) == 0);
-    CHECK(is_mapped(at));
-    EXPECT(FELTER_OK, felter_finish(&consumer, &unread));
-    CHECK(unread == 1 && !is_mapped(at));
-    at = mapped(length);
-    EXPECT(FELTER_OK, felter_counters_new_in(at, length, 8, 0, &all));
-    EXPECT(FELTER_OK, felter_unmap_at_end(at, length));
-    EXPECT(FELTER_OK, felter_counters_reader(&all, &reader));
-    felter_free(&all.handle);
-    felter_free(&reader.handle);
-    CHECK(!is_mapped(at));
-}
-
 /* Two threads make structures in memory of the caller, and two make them in memory from malloc. */
 #define ROUNDS 300
 
@@ -394,7 +339,6 @@ int main(int argc, char **words) {
     refusals();
     CHECK(live == before);
     refused_memory();
-    unmapping();
     CHECK(live == before);
     threads();
     printf("%d structures of different sizes in memory of the caller\n", made + 1);

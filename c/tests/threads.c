@@ -6,7 +6,6 @@
 #include "check.h"
 
 #include <pthread.h>
-#include <sched.h>
 
 #define MOST 8
 
@@ -16,6 +15,7 @@ struct job {
     uint32_t count;
     size_t most;
     uint64_t contended;
+    int tries;
 };
 
 /* The n-th message of a producer: its id and number, and then bytes that follow from both. */
@@ -29,11 +29,11 @@ static size_t message_of(uint32_t id, uint32_t n, size_t most, uint8_t *body) {
 
 /* Whether to try again. */
 static int again(struct job *job, int32_t code) {
-    if (code == FELTER_OK) return 0;
-    CHECK(code == FELTER_CONTENDED || code == FELTER_INSUFFICIENT_CAPACITY);
+    CHECK(code == FELTER_OK || code == FELTER_CONTENDED || code == FELTER_INSUFFICIENT_CAPACITY);
+    if (code == FELTER_OK) job->tries = 0;
     if (code == FELTER_CONTENDED) job->contended++;
-    else sched_yield();
-    return 1;
+    if (code == FELTER_INSUFFICIENT_CAPACITY) rest(&job->tries);
+    return code != FELTER_OK;
 }
 
 static uint64_t claim(struct job *job, int32_t type_id, size_t len) {
@@ -89,6 +89,7 @@ int main(int argc, char **argv) {
     static uint8_t buffer[512];
     felter_consumer consumer = FELTER_EMPTY;
     pthread_t threads[MOST];
+    int tries = 0;
     CHECK(producers <= MOST);
     if (one_to_one) EXPECT(FELTER_OK, felter_one_to_one_new(capacity, &jobs[0].producer, &consumer));
     else EXPECT(FELTER_OK, felter_many_to_one_new(capacity, &jobs[0].producer, &consumer));
@@ -104,8 +105,12 @@ int main(int argc, char **argv) {
         int32_t type_id = 0;
         int32_t code = felter_read(&consumer, &type_id, &len, buffer, sizeof buffer);
         CHECK(code == FELTER_OK || code == FELTER_NO_MESSAGE);
-        if (code == FELTER_OK) look(&seen, producers, most, type_id, buffer, len);
-        else sched_yield();
+        if (code != FELTER_OK) {
+            rest(&tries);
+            continue;
+        }
+        look(&seen, producers, most, type_id, buffer, len);
+        tries = 0;
     }
     uint64_t contended = 0;
     for (uint32_t i = 0; i < producers; i++) {

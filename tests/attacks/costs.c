@@ -1,15 +1,13 @@
-/* Whether work takes in proportion to what is done: costs [NAME]. Each row does some work, and then four times as much,
- * and says what each took of the processor. The status is 1 if a row took more than ten times as long for four times as
- * much: what grows with the square takes sixteen times as long, and caches that others fill do not make ten of four.
+/* Whether work takes in proportion to what is done: costs [NAME]. Each row does some work, and then four times as much.
+ * Instructions are counted, and not time, so it does not matter how fast or how busy the machine is, and what other
+ * programs do with the caches. The instructions of forty calls of each kind are counted, which are spread evenly.
+ * The status is 1 if a row took more than ten times as many instructions for four times as much: what grows with the
+ * square takes sixteen times as many.
  *
  * The rows of the second table do the same work on messages with records of 2 KiB, and then of 2 MiB. No call needs
- * their bytes. The status is 1 if the long messages took more than ten times as long as the short ones. */
-#include "felter.h"
-
-#include <stdio.h>
-#include <stdlib.h>
-#include <string.h>
-#include <time.h>
+ * their bytes. The status is 1 if the long messages took more than ten times as many instructions as the short ones. */
+#define _GNU_SOURCE 1
+#include "../../c/tests/stepping.h"
 
 #define MUST(call)                                                                  \
     do {                                                                            \
@@ -19,19 +17,39 @@
             exit(2);                                                                \
         }                                                                           \
     } while (0)
-#define MUST_NOT(call)                                                              \
-    do {                                                                            \
-        if ((call) == FELTER_OK) exit(2);                                           \
-    } while (0)
 
-/* Times as long that four times as much work may take. */
+/* Times as many instructions that four times as much work may take. */
 #define MOST 10
+#define SAMPLES 40
 
-static double clock_of_thread(void) {
-    struct timespec now;
-    clock_gettime(CLOCK_THREAD_CPUTIME_ID, &now);
-    return (double)now.tv_sec + (double)now.tv_nsec / 1e9;
+static uint32_t every;    /* one call of this many is counted */
+static uint64_t counted;  /* the instructions of these calls */
+
+static void count_one_of(uint32_t n) {
+    every = n;
+    counted = 0;
 }
+
+/* The instructions of all calls, if those that were not counted take as many as the others. */
+static uint64_t all(void) {
+    return counted * every;
+}
+
+/* Makes the i-th call of its kind. The call succeeds, or does not. */
+#define MAKE(i, succeeds, call)                                                     \
+    do {                                                                            \
+        int32_t made;                                                               \
+        if ((i) % every != every / 2) {                                             \
+            made = (call);                                                          \
+        } else {                                                                    \
+            STEP(made, call, 0);                                                    \
+            counted += steps_made;                                                  \
+        }                                                                           \
+        if ((made == FELTER_OK) != (succeeds)) {                                    \
+            fprintf(stderr, "%s: %s: %s\n", __FILE__, #call, felter_text(made));    \
+            exit(2);                                                                \
+        }                                                                           \
+    } while (0)
 
 static felter_producer producer;
 static felter_consumer consumer;
@@ -49,129 +67,114 @@ static void end(void) {
 static uint64_t *claim_all(uint32_t n) {
     uint64_t *claims = malloc(n * sizeof *claims);
     if (!claims) exit(2);
-    for (uint32_t i = 0; i < n; i++) MUST(felter_claim(&producer, 1, 8, &claims[i]));
+    for (uint32_t i = 0; i < n; i++) MAKE(i, 1, felter_claim(&producer, 1, 8, &claims[i]));
     return claims;
 }
 
-/* Each row: prepares, and does n pieces of work, whose time alone is counted. */
-static double claims_settled_in_order(uint32_t n) {
+/* Each row does n pieces of work, and returns their instructions. */
+static uint64_t claims_settled(uint32_t n, int is_backwards) {
     make();
-    double began = clock_of_thread();
+    count_one_of(n / SAMPLES);
     uint64_t *claims = claim_all(n);
-    for (uint32_t i = 0; i < n; i++) MUST(felter_commit(&producer, claims[i]));
-    double took = clock_of_thread() - began;
+    for (uint32_t i = 0; i < n; i++) MAKE(i, 1, felter_commit(&producer, claims[is_backwards ? n - 1 - i : i]));
     free(claims);
     end();
-    return took;
+    return all();
 }
 
-static double claims_settled_backwards(uint32_t n) {
+static uint64_t claims_settled_in_order(uint32_t n) { return claims_settled(n, 0); }
+static uint64_t claims_settled_backwards(uint32_t n) { return claims_settled(n, 1); }
+
+static uint64_t numbers_of_no_claim(uint32_t n) {
     make();
+    count_one_of(n / SAMPLES);
     uint64_t *claims = claim_all(n);
-    double began = clock_of_thread();
-    for (uint32_t i = n; i > 0; i--) MUST(felter_commit(&producer, claims[i - 1]));
-    double took = clock_of_thread() - began;
+    for (uint32_t i = 0; i < n; i++) MAKE(i, 0, felter_commit(&producer, claims[i] + 8));
     free(claims);
     end();
-    return took;
+    return all();
 }
 
-static double numbers_of_no_claim(uint32_t n) {
+static uint64_t claims_settled_twice(uint32_t n) {
     make();
+    count_one_of(n / SAMPLES);
     uint64_t *claims = claim_all(n);
-    double began = clock_of_thread();
-    for (uint32_t i = 0; i < n; i++) MUST_NOT(felter_commit(&producer, claims[i] + 8));
-    double took = clock_of_thread() - began;
-    free(claims);
-    end();
-    return took;
-}
-
-static double claims_settled_twice(uint32_t n) {
-    make();
-    uint64_t *claims = claim_all(n);
-    double began = clock_of_thread();
     for (uint32_t i = 0; i < n; i++) {
-        MUST(felter_commit(&producer, claims[i]));
-        MUST_NOT(felter_commit(&producer, claims[i]));
+        MAKE(i, 1, felter_commit(&producer, claims[i]));
+        MAKE(i, 0, felter_commit(&producer, claims[i]));
     }
-    double took = clock_of_thread() - began;
     free(claims);
     end();
-    return took;
+    return all();
 }
 
 /* Joins n producers, each with an open claim, the first one first or the last one first. */
-static double joined(uint32_t n, int is_backwards) {
+static uint64_t joined(uint32_t n, int is_backwards) {
     felter_producer *others = calloc(n, sizeof *others);
     uint64_t *claims = malloc(n * sizeof *claims);
     if (!others || !claims) exit(2);
     make();
+    count_one_of(n / SAMPLES);
     for (uint32_t i = 0; i < n; i++) {
         MUST(felter_split(&producer, &others[i]));
         MUST(felter_claim(&others[i], 1, 8, &claims[i]));
     }
-    double began = clock_of_thread();
-    for (uint32_t i = 0; i < n; i++) MUST(felter_join(&producer, &others[is_backwards ? n - 1 - i : i]));
-    for (uint32_t i = 0; i < n; i++) MUST(felter_commit(&producer, claims[i]));
-    double took = clock_of_thread() - began;
+    for (uint32_t i = 0; i < n; i++) MAKE(i, 1, felter_join(&producer, &others[is_backwards ? n - 1 - i : i]));
+    for (uint32_t i = 0; i < n; i++) MAKE(i, 1, felter_commit(&producer, claims[i]));
     free(others);
     free(claims);
     end();
-    return took;
+    return all();
 }
 
-static double joins(uint32_t n) { return joined(n, 0); }
-static double joins_backwards(uint32_t n) { return joined(n, 1); }
+static uint64_t joins(uint32_t n) { return joined(n, 0); }
+static uint64_t joins_backwards(uint32_t n) { return joined(n, 1); }
 
-static double rings(uint32_t n) {
+static uint64_t rings(uint32_t n) {
     felter_producer *producers = calloc(n, sizeof *producers);
     felter_consumer *consumers = calloc(n, sizeof *consumers);
     if (!producers || !consumers) exit(2);
-    double began = clock_of_thread();
-    for (uint32_t i = 0; i < n; i++) MUST(felter_many_to_one_new(128, &producers[i], &consumers[i]));
+    count_one_of(n / SAMPLES);
+    for (uint32_t i = 0; i < n; i++) MAKE(i, 1, felter_many_to_one_new(128, &producers[i], &consumers[i]));
     for (uint32_t i = 0; i < n; i++) {
-        felter_free(&producers[i].handle);
-        felter_free(&consumers[i].handle);
+        MAKE(i, 1, (felter_free(&producers[i].handle), FELTER_OK));
+        MAKE(i, 1, (felter_free(&consumers[i].handle), FELTER_OK));
     }
-    double took = clock_of_thread() - began;
     free(producers);
     free(consumers);
-    return took;
+    return all();
 }
 
-static double receivers(uint32_t n) {
+static uint64_t receivers(uint32_t n) {
     felter_transmitter transmitter = FELTER_EMPTY;
     felter_receiver *its = calloc(n, sizeof *its);
     if (!its) exit(2);
     MUST(felter_board_new(256, &transmitter));
-    double began = clock_of_thread();
+    count_one_of(n / SAMPLES);
     for (uint32_t i = 0; i < n; i++) {
-        MUST(felter_subscribe(&transmitter, &its[i]));
-        MUST(felter_transmit(&transmitter, 1, "x", 1));
+        MAKE(i, 1, felter_subscribe(&transmitter, &its[i]));
+        MAKE(i, 1, felter_transmit(&transmitter, 1, "x", 1));
     }
-    for (uint32_t i = 0; i < n; i++) MUST(felter_board_join(&transmitter, &its[i]));
-    double took = clock_of_thread() - began;
+    for (uint32_t i = 0; i < n; i++) MAKE(i, 1, felter_board_join(&transmitter, &its[i]));
     free(its);
     felter_free(&transmitter.handle);
-    return took;
+    return all();
 }
 
 /* Counters that are made, set and freed; those who look for one by its type go through all, as the header says. */
-static double counters(uint32_t n) {
+static uint64_t counters(uint32_t n) {
     felter_counters its = FELTER_EMPTY;
     uint32_t id;
-    double took = 0;
+    count_one_of(n / SAMPLES);
     for (uint32_t round = 0; round < n / 4096; round++) {
         MUST(felter_counters_new(4096, 0, &its));
-        double began = clock_of_thread();
-        for (uint32_t i = 0; i < 4096; i++) MUST(felter_counter_allocate(&its, 0, 1, NULL, 0, "label", 5, i, &id));
-        for (uint32_t i = 0; i < 4096; i++) MUST(felter_counter_set(&its, i, 1));
-        for (uint32_t i = 0; i < 4096; i++) MUST(felter_counter_free(&its, 0, i));
-        took += clock_of_thread() - began;
+        for (uint32_t i = 0; i < 4096; i++)
+            MAKE(i, 1, felter_counter_allocate(&its, 0, 1, NULL, 0, "label", 5, i, &id));
+        for (uint32_t i = 0; i < 4096; i++) MAKE(i, 1, felter_counter_set(&its, i, 1));
+        for (uint32_t i = 0; i < 4096; i++) MAKE(i, 1, felter_counter_free(&its, 0, i));
         felter_free(&its.handle);
     }
-    return took;
+    return all();
 }
 
 /* Records of these lengths leave no padding at the end of the buffer, which a read would clear word by word. */
@@ -185,24 +188,22 @@ static void write_messages(size_t len) {
     for (int i = 0; i < MESSAGES_AT_ONCE; i++) MUST(felter_write(&producer, 1, body, len));
 }
 
-/* Each row of messages: 120 calls or more that need no byte of a message of this length. */
-static double messages_taken(size_t len) {
-    double took = 0;
+/* Each row of messages: 60 calls that need no byte of a message of this length. */
+static uint64_t messages_taken(size_t len) {
     make();
-    for (int round = 0; round < 20; round++) {
+    count_one_of(1);
+    for (int round = 0; round < 10; round++) {
         write_messages(len);
-        double began = clock_of_thread();
-        for (int i = 0; i < MESSAGES_AT_ONCE; i++) MUST(felter_take(&consumer));
-        took += clock_of_thread() - began;
+        for (int i = 0; i < MESSAGES_AT_ONCE; i++) MAKE(0, 1, felter_take(&consumer));
     }
     end();
-    return took;
+    return all();
 }
 
 static void look(size_t len) {
-    int32_t found;
+    int32_t found = -1;
     uint64_t head;
-    MUST(felter_standing(&producer, &consumer, &found, &head));
+    MAKE(0, 1, felter_standing(&producer, &consumer, &found, &head));
     if (found != FELTER_FOUND_MESSAGE || len == 0) exit(2);
 }
 
@@ -211,42 +212,41 @@ static uint8_t short_buffer[1024];
 static void read_short(size_t len) {
     int32_t type_id;
     size_t its = 0;
-    if (felter_read(&consumer, &type_id, &its, short_buffer, sizeof short_buffer) != FELTER_SHORT_BUFFER) exit(2);
+    MAKE(0, 0, felter_read(&consumer, &type_id, &its, short_buffer, sizeof short_buffer));
     if (its != len) exit(2);
 }
 
 static void peek_short(size_t len) {
     int32_t type_id;
     size_t its = 0;
-    if (felter_peek(&consumer, &type_id, &its, short_buffer, sizeof short_buffer) != FELTER_SHORT_BUFFER) exit(2);
+    MAKE(0, 0, felter_peek(&consumer, &type_id, &its, short_buffer, sizeof short_buffer));
     if (its != len) exit(2);
 }
 
 static void read_short_batch(size_t len) {
     uint32_t count = 0;
     size_t used = 0;
-    int32_t code = felter_read_batch(&consumer, 8, &count, &used, short_buffer, sizeof short_buffer);
-    if (code != FELTER_SHORT_BUFFER || len == 0) exit(2);
+    MAKE(0, 0, felter_read_batch(&consumer, 8, &count, &used, short_buffer, sizeof short_buffer));
+    if (count > 0 || used > 0 || len == 0) exit(2);
 }
 
-static double calls(void (*call)(size_t), size_t len) {
+static uint64_t calls(void (*call)(size_t), size_t len) {
     make();
     write_messages(len);
-    double began = clock_of_thread();
-    for (int i = 0; i < 600; i++) call(len);
-    double took = clock_of_thread() - began;
+    count_one_of(1);
+    for (int i = 0; i < 60; i++) call(len);
     end();
-    return took;
+    return all();
 }
 
-static double messages_looked_at(size_t len) { return calls(look, len); }
-static double reads_too_short(size_t len) { return calls(read_short, len); }
-static double peeks_too_short(size_t len) { return calls(peek_short, len); }
-static double batches_too_short(size_t len) { return calls(read_short_batch, len); }
+static uint64_t messages_looked_at(size_t len) { return calls(look, len); }
+static uint64_t reads_too_short(size_t len) { return calls(read_short, len); }
+static uint64_t peeks_too_short(size_t len) { return calls(peek_short, len); }
+static uint64_t batches_too_short(size_t len) { return calls(read_short_batch, len); }
 
 static const struct {
     const char *name;
-    double (*work)(uint32_t);
+    uint64_t (*work)(uint32_t);
     uint32_t n;
 } ROWS[] = {
     {"claims settled in order", claims_settled_in_order, 100000},
@@ -262,7 +262,7 @@ static const struct {
 
 static const struct {
     const char *name;
-    double (*work)(size_t);
+    uint64_t (*work)(size_t);
 } MESSAGES[] = {
     {"messages taken", messages_taken},
     {"messages looked at", messages_looked_at},
@@ -276,43 +276,25 @@ static int is_row(int count, char **words, const char *name) {
 }
 
 /* Says what a row took, and returns whether that is too much. */
-static int says(const char *name, double one, const char *more, double its, double shortest) {
-    int is_bad = its > MOST * one && its > shortest;
-    printf("%-34s %9.3f ms, of %s %9.3f ms%s\n", name, 1e3 * one, more, 1e3 * its, is_bad ? ": TOO MUCH" : "");
+static int says(const char *name, uint64_t one, const char *more, uint64_t its) {
+    int is_bad = one == 0 || its > MOST * one;
+    printf("%-34s %11" PRIu64 " instructions, of %s %11" PRIu64 "%s\n", name, one, more, its,
+           is_bad ? ": TOO MUCH" : "");
     return is_bad;
-}
-
-static int grows_with_the_work(size_t row) {
-    double one = 1e9, four = 1e9;
-    for (int k = 0; k < 10; k++) {
-        double took = ROWS[row].work(ROWS[row].n);
-        if (took < one) one = took;
-        took = ROWS[row].work(4 * ROWS[row].n);
-        if (took < four) four = took;
-        if (k >= 1 && four <= MOST * one) break;
-    }
-    /* (what takes less than a millisecond is not measured well) */
-    return says(ROWS[row].name, one, "four times as much", four, 0.002);
-}
-
-static int grows_with_the_length(size_t row) {
-    double small = 1e9, large = 1e9;
-    for (int k = 0; k < 10; k++) {
-        double took = MESSAGES[row].work(SHORT_BODY);
-        if (took < small) small = took;
-        took = MESSAGES[row].work(LONG_BODY);
-        if (took < large) large = took;
-        if (k >= 1 && large <= MOST * small) break;
-    }
-    /* (if each long message is copied, this takes 40 ms or more) */
-    return says(MESSAGES[row].name, small, "1024 times as long", large, 0.001);
 }
 
 int main(int count, char **words) {
     int worst = 0;
-    for (size_t i = 0; i < sizeof ROWS / sizeof *ROWS; i++)
-        if (is_row(count, words, ROWS[i].name)) worst |= grows_with_the_work(i);
-    for (size_t i = 0; i < sizeof MESSAGES / sizeof *MESSAGES; i++)
-        if (is_row(count, words, MESSAGES[i].name)) worst |= grows_with_the_length(i);
+    prepare_steps();
+    for (size_t i = 0; i < sizeof ROWS / sizeof *ROWS; i++) {
+        if (!is_row(count, words, ROWS[i].name)) continue;
+        uint64_t one = ROWS[i].work(ROWS[i].n);
+        worst |= says(ROWS[i].name, one, "four times as much", ROWS[i].work(4 * ROWS[i].n));
+    }
+    for (size_t i = 0; i < sizeof MESSAGES / sizeof *MESSAGES; i++) {
+        if (!is_row(count, words, MESSAGES[i].name)) continue;
+        uint64_t one = MESSAGES[i].work(SHORT_BODY);
+        worst |= says(MESSAGES[i].name, one, "1024 times as long", MESSAGES[i].work(LONG_BODY));
+    }
     return worst;
 }

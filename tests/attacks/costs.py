@@ -1,4 +1,5 @@
-"""Whether four times as much work takes at most ten times as long: of the C library, ring_run and ring_show."""
+"""Whether four times as much work takes at most ten times as long: of the C library, ring_run and ring_show. Of the
+library the instructions are counted, and of the programs the time."""
 import os
 import resource
 import struct
