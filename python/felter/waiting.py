@@ -12,6 +12,9 @@ import typing
 
 from felter.errors import Disconnected
 
+if typing.TYPE_CHECKING:
+    import asyncio
+
 T = typing.TypeVar("T")
 
 
@@ -121,11 +124,38 @@ async def wait_as_task(
                     left = LONGEST_SLEEP if end is None else end - time.monotonic()
                     if left <= 0:
                         return None
-                    with contextlib.suppress(asyncio.TimeoutError):
-                        await asyncio.wait_for(rung.wait(), min(left, LONGEST_SLEEP))
+                    await wait_for_event(rung, min(left, LONGEST_SLEEP))
                 rung.clear()
         finally:
             loop.remove_reader(bell.fileno())
+
+
+async def wait_for_event(event: "asyncio.Event", seconds: float) -> None:
+    """Waits until an event is set, and sets it after some seconds. (Before Python 3.12 asyncio.wait_for swallows the
+    cancellation of a task whose event was just set.)"""
+    import asyncio
+
+    timer = asyncio.get_running_loop().call_later(seconds, event.set)
+    try:
+        await event.wait()
+    finally:
+        timer.cancel()
+
+
+async def each(
+    read: typing.Callable[[], typing.Coroutine[typing.Any, typing.Any, typing.Optional[T]]],
+) -> typing.AsyncIterator[T]:
+    """Reads again and again, and waits, until the other side is gone and all messages were read."""
+    import asyncio
+
+    with contextlib.suppress(Disconnected):
+        for number in itertools.count(1):
+            message = await read()
+            if message is not None:
+                yield message
+            # (a read of a message that is there does not let the event loop run)
+            if number % BURST == 0:
+                await asyncio.sleep(0)
 
 
 class Listed:
