@@ -13,7 +13,7 @@ from felter.errors import Contended, Disconnected, Error, Full, Number, refusal
 from felter.files import Path, make
 from felter.message import Buffer, Message
 from felter.recovering import messages_in
-from felter.waiting import wait_as_task, wait_for
+from felter.waiting import each, wait_as_task, wait_for
 
 
 class Positions(typing.NamedTuple):
@@ -74,13 +74,10 @@ class Consumer(Controlled):
         """Does what `read` does with a timeout, in a task of asyncio. Other tasks go on meanwhile."""
         return await wait_as_task(self._read, timeout, self.is_abandoned, self._sleepers)
 
-    async def __aiter__(self) -> typing.AsyncIterator[Message]:
-        """Waits for each message, until every producer is gone and all messages were read."""
-        with contextlib.suppress(Disconnected):
-            while True:
-                message = await self.read_async()
-                if message is not None:
-                    yield message
+    def __aiter__(self) -> typing.AsyncIterator[Message]:
+        """Waits for each message, until every producer is gone and all messages were read. Other tasks also have turns
+        if there is always a message."""
+        return each(self.read_async)
 
     @direct
     def _read(self) -> typing.Optional[Message]:

@@ -3,8 +3,10 @@
 import contextlib
 import functools
 import io
+import itertools
 import os
 import select
+import sys
 import threading
 import time
 import types
@@ -34,6 +36,8 @@ LONGEST_PAUSE = 1e-3
 LONGEST_SLEEP = 0.05
 # A reader pauses until its pauses are longer than this, and then sleeps.
 LAST_PAUSE = 6e-5
+# After so many messages an iterator of asyncio lets other tasks have a turn.
+BURST = 64
 
 
 def wake(sleepers: Sleepers) -> None:
