@@ -275,10 +275,14 @@ class Client(Owner):
                 refused[:] = [why]
                 return None
 
-        correlation = wait_for(attempt, timeout, self.is_abandoned)
-        if correlation is None:
-            raise refused[0]
-        return correlation
+        try:
+            correlation = wait_for(attempt, timeout, self.is_abandoned)
+            if correlation is None:
+                raise refused[0]
+            return correlation
+        finally:
+            # (an exception refers to its frames, and so to this list, which would keep this client alive)
+            refused.clear()
 
     def _reply_to(self, correlation: int, end: typing.Optional[float]) -> Reply:
         is_lapped, pause = False, 0.0

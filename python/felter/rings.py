@@ -187,8 +187,12 @@ class Producer(Settling):
                 refused[:] = [why]
                 return None
 
-        if not wait_for(attempt, timeout, self.is_abandoned):
-            raise refused[0]
+        try:
+            if not wait_for(attempt, timeout, self.is_abandoned):
+                raise refused[0]
+        finally:
+            # (an exception refers to its frames, and so to this list, which would keep this producer alive)
+            refused.clear()
 
     def write_all(self, messages: typing.Iterable[typing.Tuple[int, Buffer]]) -> int:
         """Writes messages one after another, and returns how many messages were written. Each message is a type id and
