@@ -233,12 +233,15 @@ class Producer(Settling):
     def join(self, other: "Producer") -> None:
         """Joins another producer of the same ring to this one. This producer gets the shares and the open claims of the
         other one."""
-        was_there = not other._is_empty()
+        was_there, is_refused = not other._is_empty(), False
         try:
             self._with("felter_join", other)
+        except Error:
+            is_refused = True
+            raise
         finally:
             # (from now on the claims of `other` belong to this producer, also if an interrupt came after the call)
-            if was_there and other._is_empty():
+            if was_there and not is_refused and other._is_empty():
                 other._joined = self
 
     def positions(self) -> Positions:
