@@ -208,8 +208,9 @@ class Producer(Settling):
     def write_batch(self, messages: typing.Iterable[typing.Tuple[int, Buffer]]) -> int:
         """Writes a batch of messages by one call of the library, and returns how many messages were written. Each
         message is a type id and a body. The consumer sees messages that are next to one another in the ring at once.
-        The call writes fewer messages if the ring is full or another producer is faster. Other refusals raise an Error.
-        If a message has a bad type id or is too long, no message is written."""
+        The call writes fewer messages if the ring is full, another producer is faster, or the next record would end
+        above 2^62. The call raises an Error if a message has a bad type id or is too long, or if the first record would
+        end above 2^62. After an Error no message was written."""
         written, code = self._write_laid(messages)
         if written:
             self._wake()
