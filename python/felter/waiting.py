@@ -43,7 +43,8 @@ BURST = 64
 def wake(sleepers: Sleepers) -> None:
     """Wakes the readers that sleep."""
     while sleepers:
-        with contextlib.suppress(IndexError, RuntimeError):
+        # (a reader that gave up meanwhile holds no lock, or has closed its doorbell)
+        with contextlib.suppress(IndexError, RuntimeError, ValueError, OSError):
             sleepers.pop().release()
 
 
