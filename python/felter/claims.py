@@ -140,3 +140,8 @@ class Settling(Owner):
             if self._ends.dropped:
                 settle_dropped(self._ends)
             return Handle._read_by(self, name)
+
+        def _write_laid(self, messages: typing.Iterable[typing.Tuple[int, Buffer]]) -> typing.Tuple[int, int]:
+            if self._ends.dropped:
+                settle_dropped(self._ends)
+            return Handle._write_laid(self, messages)
