@@ -133,14 +133,21 @@ def taker(low: int, end: int) -> typing.Callable[[typing.Any], typing.Tuple[typi
     return take
 
 
-TAKES = {"bytes": take_bytes, "*handle": take_handle, **{word: taker(*its) for word, its in RANGES.items()}}
+TAKES: typing.Dict[str, typing.Callable[[typing.Any], typing.Tuple[typing.Any, ...]]] = {
+    "bytes": take_bytes,
+    "*handle": take_handle,
+    **{word: taker(*its) for word, its in RANGES.items()},
+}
 
 
 def laid(messages: typing.Iterable[typing.Tuple[int, typing.Any]]) -> bytes:
     """Returns messages one after another, as in a batch."""
     parts: typing.List[bytes] = []
-    for type_id, body in messages:
-        (number,), (data, length) = TAKES["i32"](type_id), take_bytes(body)
+    for message in messages:
+        pair = message if isinstance(message, tuple) else tuple(message)
+        if len(pair) != 2:
+            raise ValueError("a message is a type id and a body, and not %d values" % len(pair))
+        (number,), (data, length) = TAKES["i32"](pair[0]), take_bytes(pair[1])
         parts += [length.to_bytes(8, "little"), number.to_bytes(8, "little", signed=True), data, bytes(-length % 8)]
     return b"".join(parts)
 

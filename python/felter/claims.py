@@ -10,7 +10,7 @@ import typing
 
 from felter._library import Handle, fast
 from felter._owner import Ends, Owner, Unique
-from felter._pure import Cell
+from felter._pure import TAKES, Cell, take_bytes
 from felter.errors import Error, Number
 from felter.message import Buffer
 from felter.waiting import wake
@@ -71,7 +71,8 @@ class Claim(Unique):
 
     def put(self, offset: int, data: Buffer) -> None:
         """Puts bytes into the message, from the byte at `offset` on."""
-        self._do("felter_put", offset, data)
+        # (bad parameters are refused first, even if the claim is over)
+        self._do("felter_put", *TAKES["usize"](offset), take_bytes(data)[0])
 
     def commit(self) -> None:
         """Commits the claim, so that the consumer is shown the message."""
@@ -98,7 +99,7 @@ class Claim(Unique):
             self.abort() if kind else self.commit()
 
 
-if fast is not None and not typing.TYPE_CHECKING:
+if not typing.TYPE_CHECKING and fast is not None:
 
     class Claim(Unique, fast.Claim):
         """Room in a ring for one message. A claim that is used as a context manager is committed at the end of the
