@@ -120,6 +120,10 @@ class Edges(Case):
             for call in consumer.read, receiver.receive, bell.wait, lambda it: producer.write(1, b"", it):
                 with self.assertRaises(ValueError):
                     call(nan)
+        for call in consumer.read, receiver.receive, lambda it: producer.write(1, bytes(16), it):
+            for timeout in "1", (), (0.001,), [0.001]:
+                with self.assertRaises(TypeError):
+                    call(timeout)
         self.assertEqual(list(consumer), [])
 
     def test_parameters_have_names_and_are_counted(self):
@@ -305,6 +309,50 @@ class Edges(Case):
         self.assertEqual([it.type_id for it in consumer], list(range(1, 51, 2)))
         consumer.close(producer)
 
+    def test_claims_stay_with_the_producer_that_took_them_in(self):
+        # (another thread takes the producer in between, so this join is refused)
+        producer, consumer = felter.many_to_one(256)
+        late, other = producer.split(), producer.split()
+        claim, join = other.claim(1, 1), late._with
+
+        def join_late(*given):
+            producer.join(other)
+            join(*given)
+
+        late._with = join_late
+        self.refuses(Number.NO_HANDLE, late.join, other)
+        late.free()
+        claim.commit()
+        self.assertEqual(consumer.read(), Message(1, b"\0"))
+
+    def test_ends_that_refer_to_themselves_are_collected(self):
+        producer, consumer = felter.many_to_one(256)
+        other = producer.split()
+        producer.join(other)
+        producer.joined = other
+        del producer, other
+        gc.collect()
+        self.assertTrue(consumer.is_abandoned())
+        self.assertEqual(consumer.finish(), 0)
+
+    @unittest.skipIf(_library.fast is None, "by ctypes the ring keeps the producer of an open claim")
+    def test_claims_of_ends_that_refer_to_themselves_are_aborted(self):
+        producer, consumer = felter.many_to_one(256)
+        first, other = producer, producer.split()
+        other.claimed = other.claim(1, 1)
+        first.write(2, b"next")
+        # (the claim belongs to the first producer from now on)
+        first.join(other)
+        first.claimed = first.claim(3, 1)
+        first.write(4, b"last")
+        del other
+        gc.collect()
+        self.assertEqual(consumer.read(), Message(2, b"next"))
+        del producer, first
+        gc.collect()
+        self.assertEqual(list(consumer), [Message(4, b"last")])
+        self.assertTrue(consumer.is_abandoned())
+
     def test_a_dropped_claim_of_a_producer_that_was_freed_is_no_matter(self):
         producer, consumer = felter.many_to_one(256)
         claim = producer.claim(1, 4)
@@ -312,6 +360,7 @@ class Edges(Case):
         self.refuses(Number.NO_HANDLE, claim.commit)
         del claim
         self.assertEqual(list(consumer), [])
+
 
 if __name__ == "__main__":
     unittest.main()
