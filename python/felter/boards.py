@@ -1,5 +1,8 @@
 """Boards, which are broadcast buffers. A transmitter never waits, and a receiver learns how many bytes it missed."""
 
+# (the calls of the library return what the library wrote, which has no type)
+# mypy: no-warn-return-any
+
 import contextlib
 import typing
 

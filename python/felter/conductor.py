@@ -1,5 +1,8 @@
 """Conductors, which own counters and change them as their clients command."""
 
+# (the calls of the library return what the library wrote, which has no type)
+# mypy: no-warn-return-any
+
 import contextlib
 import enum
 import time

@@ -1,5 +1,8 @@
 """Rings. A producer writes messages, and a consumer reads them."""
 
+# (the calls of the library return what the library wrote, which has no type)
+# mypy: no-warn-return-any
+
 import contextlib
 import enum
 import operator
@@ -214,7 +217,7 @@ class Producer(Settling):
         written, code = self._write_laid(messages)
         if written:
             self._wake()
-        if code and code not in (Number.INSUFFICIENT_CAPACITY, Number.CONTENDED):
+        elif code not in (0, Number.INSUFFICIENT_CAPACITY, Number.CONTENDED):
             raise refusal(code)
         return written
 

@@ -202,7 +202,7 @@ class Doorbell:
     def __init__(self) -> None:
         # (the files close themselves when they are dropped, since an interrupt would be swallowed in a destructor in
         # Python)
-        if hasattr(os, "eventfd"):
+        if sys.version_info >= (3, 10) and hasattr(os, "eventfd"):
             self._reads = self._writes = io.FileIO(os.eventfd(0, os.EFD_CLOEXEC | os.EFD_NONBLOCK), "r+")
         else:
             # (before Python 3.10 a pipe does the same)
