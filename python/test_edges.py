@@ -1,6 +1,7 @@
 """Tests of what Python adds: copies, pickles, buffers, numbers, claims: python3 python/test_edges.py"""
 
 import array
+import contextlib
 import copy
 import gc
 import inspect
@@ -205,6 +206,35 @@ class Edges(Case):
             gc.set_threshold(*before)
             gc.collect()
         self.assertEqual(sorted(read + more), wanted)
+
+    def test_ends_may_be_made_while_garbage_is_collected(self):
+        # (what garbage runs when it is collected may make ends, of the same ring and of other ones)
+        producer, _ = felter.many_to_one(256)
+        ends, is_over = [], []
+
+        class Garbage:
+            def __init__(self):
+                self.itself = self
+
+            def __del__(self):
+                # (by ctypes a call inside of a call of the same handle is refused)
+                with contextlib.suppress(RuntimeError):
+                    ends.append(producer.split())
+                felter.many_to_one(128)
+                if not is_over:
+                    Garbage()
+
+        before = gc.get_threshold()
+        gc.set_threshold(100)
+        try:
+            Garbage()
+            for _ in range(1000):
+                ends.append(producer.split())
+        finally:
+            is_over.append(True)
+            gc.set_threshold(*before)
+            gc.collect()
+        self.assertEqual(producer.shares() + len(ends), 65536)
 
     def test_numbers_may_have_code_of_their_own(self):
         producer, consumer = felter.many_to_one(256)

@@ -288,8 +288,10 @@ def note_freeing(handle: "Handle") -> None:
     it._as_parameter_ = ctypes.byref(handle._raw)
     freeings[id(it)] = it
     if len(freeings) >= most_freeings:
-        for key, one in list(freeings.items()):
-            if one() is None:
+        # (a list of the items would be made of new tuples, so garbage could be collected meanwhile, and others come)
+        for key in list(freeings):
+            one = freeings.get(key)
+            if one is not None and one() is None:
                 freeings.pop(key, None)
         most_freeings = max(256, 2 * len(freeings))
 
