@@ -38,7 +38,8 @@ package, or in the repository's c/out, which c/build fills. `implementation` say
   interpreter lock, since no call waits.
 - "ctypes": The calls use ctypes if FELTER_PURE is 1. They also use ctypes, with an ImportWarning, if there is no
   extension for this Python, or if another copy of this package in the process has the extension. Such a copy can be in
-  another interpreter.
+  another interpreter. With ctypes the garbage collector frees the handles of a cycle of objects before it calls the
+  methods `__del__` of the cycle, so these methods cannot use the handles.
 
 Before Python 3.10, a Ctrl-C during a call through ctypes can leave the handle of this call locked. Later calls of the
 handle are then refused.
