@@ -126,6 +126,10 @@ class Waiting(Case):
         with self.assertRaises(felter.Disconnected):
             consumer.read(None)
         producer, consumer = felter.many_to_one(256)
+        producer.claim(1, 4)
+        del producer
+        self.assertTrue(consumer.is_abandoned())
+        producer, consumer = felter.many_to_one(256)
         del consumer
         self.assertTrue(producer.is_abandoned())
         transmitter = felter.Transmitter(256)

@@ -142,6 +142,12 @@ class Settling(Owner):
                 settle_dropped(self._ends)
             return Handle._read_by(self, name)
 
+        def _is_abandoned(self) -> bool:
+            # (a claim that was dropped keeps its producer until it is aborted)
+            if self._ends.dropped:
+                settle_dropped(self._ends)
+            return Owner._is_abandoned(self)
+
         def _write_laid(self, messages: typing.Iterable[typing.Tuple[int, Buffer]]) -> typing.Tuple[int, int]:
             if self._ends.dropped:
                 settle_dropped(self._ends)
