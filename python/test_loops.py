@@ -40,6 +40,8 @@ class Loops(Case):
                         seen = len(turns)
                         wait_until(lambda: len(turns) > seen + 1 and consumer._sleepers)
                     producer.write(1, b"%d" % number, None)
+                # (what frees a producer wakes the tasks that are in the list by then)
+                wait_until(lambda: consumer._sleepers)
 
         async def count():
             while True:
@@ -59,6 +61,27 @@ class Loops(Case):
             run(write, lambda: asyncio.run(collect()))
         self.assertLess(time.monotonic() - began, DEADLINE, "no wake reached the task")
         self.assertEqual(read, list(range(500)))
+        self.assertEqual(consumer._sleepers, [])
+
+    def test_tasks_of_two_loops_are_woken(self):
+        producer, consumer = felter.many_to_one(256)
+        read = []
+
+        def write():
+            with producer:
+                for number in range(1, 301):
+                    producer.write(number, b"", None)
+                wait_until(lambda: len(consumer._sleepers) == 2)
+
+        async def collect():
+            async for message in consumer:
+                read.append(message.type_id)
+
+        with only_woken():
+            began = time.monotonic()
+            run(write, lambda: asyncio.run(collect()), lambda: asyncio.run(collect()))
+        self.assertLess(time.monotonic() - began, DEADLINE, "no wake reached a task")
+        self.assertEqual(sorted(read), list(range(1, 301)))
         self.assertEqual(consumer._sleepers, [])
 
     def test_a_task_that_is_cancelled_ends_even_if_it_was_just_woken(self):
