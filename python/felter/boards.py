@@ -111,7 +111,7 @@ class Receiver(Owner):
         return wait_for(self._receive, timeout, self.is_abandoned, self._sleepers)
 
     async def receive_async(self, timeout: typing.Optional[float] = None) -> typing.Optional[Message]:
-        """Does what `receive` does with a timeout, in a task of asyncio. Other tasks go on meanwhile."""
+        """Does what `receive` does with a timeout, in a task of asyncio. Other tasks go on while this task waits."""
         return await wait_as_task(self._receive, timeout, self.is_abandoned, self._sleepers)
 
     @direct

@@ -74,7 +74,7 @@ class Consumer(Controlled):
         return wait_for(self._read, timeout, self.is_abandoned, self._sleepers)
 
     async def read_async(self, timeout: typing.Optional[float] = None) -> typing.Optional[Message]:
-        """Does what `read` does with a timeout, in a task of asyncio. Other tasks go on meanwhile."""
+        """Does what `read` does with a timeout, in a task of asyncio. Other tasks go on while this task waits."""
         return await wait_as_task(self._read, timeout, self.is_abandoned, self._sleepers)
 
     def __aiter__(self) -> typing.AsyncIterator[Message]:
