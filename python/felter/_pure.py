@@ -159,7 +159,7 @@ class Function:
     def __init__(self, name: str, function: typing.Any, words: typing.List[str]) -> None:
         function.argtypes = [TYPES[it] for it in words]
         function.restype = None if name == "felter_free" else ctypes.c_int32
-        self.call, self.lap = function, LAPPING.get(name)
+        self.call, self.lap, self.joins = function, LAPPING.get(name), name == "felter_join"
         # (the length of bytes or of a buffer follows it as another parameter)
         words = [it for before, it in zip(["", *words], words) if before not in ("bytes", "*u8")]
         self.takes = [TAKES[it] for it in words if it in TAKES]
@@ -197,7 +197,10 @@ class Function:
         try:
             code, room = self.made(given, parameters, outs)
         finally:
-            # (no interrupt comes between these two)
+            # (no interrupt comes between these lines. Another thread that sees an empty producer must see what it was
+            # joined to.)
+            if self.joins and given[1]._raw.at is None and not given[1]._was_emptied:
+                given[1]._joined = given[0]
             one._was_emptied = one._raw.at is None
             two._was_emptied = two._raw.at is None
         return self.answered(code, room, parameters, outs, is_trying)
@@ -305,6 +308,8 @@ class Handle:
     _forks: int
     _was_emptied = True
     _sleepers: typing.Any = None
+    # The producer to which this one was joined.
+    _joined: typing.Any = None
 
     def __new__(cls, *_: typing.Any, **__: typing.Any) -> typing.Any:
         self = super().__new__(cls)
@@ -346,24 +351,23 @@ class Handle:
                 self._was_emptied = self._raw.at is None
         return outs[0].value, code
 
-    def _quietly(self, name: str, *given: typing.Any) -> bool:
-        """Makes a call unless another call uses the handle. Returns whether the call was made."""
+    def _quietly(self, name: str, *given: typing.Any) -> typing.Optional[int]:
+        """Makes a call unless another call uses the handle. Returns the code, or None if the call was not made."""
         function = functions[name]
         parameters, _ = function.take((self, *given))
         if self._lock._is_owned():
-            return False
-        is_free = False
+            return None
+        code: typing.Optional[int] = None
         try:
-            is_free = self._lock.acquire(False)
-            if is_free:
-                function.call(*parameters)
+            if self._lock.acquire(False):
+                code = function.call(*parameters)
         finally:
-            # (an interrupt can come after the lock was taken and before `is_free` is set)
+            # (if the lock is of another thread, or an interrupt came before the lock was taken)
             try:
                 self._lock.release()
             except RuntimeError:
                 pass
-        return is_free
+        return code
 
     def _free(self) -> None:
         """Frees what the handle owns."""

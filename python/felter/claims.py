@@ -11,7 +11,7 @@ import typing
 from felter._library import Handle, fast
 from felter._owner import Ends, Owner, Unique
 from felter._pure import TAKES, Cell, take_bytes
-from felter.errors import Error, Number
+from felter.errors import Closed, Error, Number
 from felter.message import Buffer
 from felter.waiting import wake
 
@@ -38,20 +38,31 @@ class Trace(Reference):
     def owner(self) -> "typing.Optional[Producer]":
         """Returns the producer of the claim, or the producer to which this producer was joined. Returns None if the
         claim was committed or aborted."""
-        while self.producer is not None and self.producer._joined is not None:
-            self.producer = self.producer._joined
-        return self.producer
+        # (another thread may commit or abort the claim meanwhile, or join the producer)
+        first = owner = self.producer
+        while owner is not None and owner._joined is not None:
+            owner = owner._joined
+        if first is not owner and first is not None:
+            # (so the next search from here is short, however many producers were joined)
+            first._joined = owner
+        return owner
 
     def is_over(self) -> bool:
         """Returns whether there is nothing to abort. The result is True if the claim was committed, aborted or never
         made, or if its producer was freed."""
         producer = self.owner()
-        return producer is None or self.number.value == NONE or producer._is_empty() or producer._is_forked()
+        if producer is None or self.number.value == NONE or producer._is_forked():
+            return True
+        # (if the producer was just joined to another one, the claim is open there)
+        return producer._is_empty() and producer._joined is None
 
     def abort(self) -> None:
         """Aborts the claim if it is open, unless a call of the producer is running."""
         producer = self.owner()
-        if producer is not None and not self.is_over() and producer._quietly("felter_abort", self.number.value):
+        if producer is None or self.is_over():
+            return
+        # (after NO_HANDLE the producer was just freed, or joined to another one)
+        if producer._quietly("felter_abort", self.number.value) in (0, Number.NO_CLAIM):
             self.producer = None
 
 
@@ -88,7 +99,13 @@ class Claim(Unique):
         producer = self._trace.owner()
         if producer is None:
             raise Error(Number.NO_CLAIM)
-        producer._do(name, self._trace.number.value, *parameters)
+        try:
+            producer._do(name, self._trace.number.value, *parameters)
+        except Closed:
+            if producer._joined is None:
+                raise
+            # (another thread just joined the producer to another one, which has the claim now)
+            self._do(name, *parameters)
         producer._wake()
 
     def __enter__(self) -> "Claim":

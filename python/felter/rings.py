@@ -152,9 +152,6 @@ class Producer(Settling):
     """Writes messages into a ring. If a producer is freed, its open claims are aborted, and the ring can end without
     this producer."""
 
-    # The producer to which this one was joined.
-    _joined: typing.Optional["Producer"] = None
-
     def __init__(self, number: int, first: typing.Optional["Producer"] = None) -> None:
         super().__init__(number, first._ends if first else None)
 
@@ -237,16 +234,7 @@ class Producer(Settling):
     def join(self, other: "Producer") -> None:
         """Joins another producer of the same ring to this one. This producer gets the shares and the open claims of the
         other one."""
-        was_there, is_refused = not other._is_empty(), False
-        try:
-            self._with("felter_join", other)
-        except Error:
-            is_refused = True
-            raise
-        finally:
-            # (from now on the claims of `other` belong to this producer, also if an interrupt came after the call)
-            if was_there and not is_refused and other._is_empty():
-                other._joined = self
+        self._with("felter_join", other)
 
     def positions(self) -> Positions:
         """Loads the head of the ring, and then its tail."""
