@@ -66,7 +66,8 @@ class Ends:
         its = self.writers if writes else self.readers
         its[id(it)] = it
         if len(its) >= self._most:
-            # (a list of the items would be made of new tuples, so garbage could be collected meanwhile, and others come)
+            # (a list of the items would be made of new tuples, so garbage could be collected meanwhile, which can make
+            # ends)
             for key in list(its):
                 end = its.get(key)
                 if end is not None and end() is None:

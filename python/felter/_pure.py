@@ -291,7 +291,8 @@ def note_freeing(handle: "Handle") -> None:
     it._as_parameter_ = ctypes.byref(handle._raw)
     freeings[id(it)] = it
     if len(freeings) >= most_freeings:
-        # (a list of the items would be made of new tuples, so garbage could be collected meanwhile, and others come)
+        # (a list of the items would be made of new tuples, so garbage could be collected meanwhile, which can make
+        # handles)
         for key in list(freeings):
             one = freeings.get(key)
             if one is not None and one() is None:
