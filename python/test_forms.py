@@ -194,6 +194,11 @@ for batch in [
     except Exception as why:
         print(type(why).__name__, why)
 print(list(consumer))
+for limit, room in (None, "1"), (-1, "1"), (1, None), (1, -1), (1, 2**63), (2**32, 2**63):
+    try:
+        print(consumer.read_batch(limit, room))
+    except Exception as why:
+        print(type(why).__name__, why)
 for timeout in "1", (), (0.001,), [0.001], float("nan"), -1, True - 1:
     for call in lambda: consumer.read(timeout), lambda: receiver.receive(timeout):
         try:

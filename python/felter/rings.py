@@ -5,11 +5,12 @@
 
 import contextlib
 import enum
-import operator
+import sys
 import typing
 
 from felter._library import call, direct
 from felter._owner import Ends, Sizes, numbers
+from felter._pure import TAKES
 from felter.claims import Claim, Settling, settle_dropped
 from felter.controlled import Controlled
 from felter.errors import Contended, Disconnected, Error, Full, Number, refusal
@@ -104,7 +105,10 @@ class Consumer(Controlled):
         there. The call can return fewer messages than are in the ring. The call reads into a buffer of `room` bytes. A
         message takes 16 bytes of the buffer, plus the bytes of its body, rounded up to a multiple of 8. A message for
         which the buffer has no room stays in the ring."""
-        count, records = self._try("felter_read_batch", limit, operator.index(room)) or (0, b"")
+        (most,), (size,) = TAKES["u32"](limit), TAKES["usize"](room)
+        if size > sys.maxsize:
+            raise MemoryError
+        count, records = self._try("felter_read_batch", most, size) or (0, b"")
         return messages_in(records, count)
 
     def standing(self, producer: "Producer") -> Standing:
