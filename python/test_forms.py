@@ -230,6 +230,11 @@ for call in claim.commit, claim.abort, lambda: claim.put(0, b""), lambda: produc
     except Exception as why:
         print(type(why).__name__, why)
 print(claim.__exit__(ValueError, None, None))
+for call in claim.commit, lambda: claim.put(0, b""):
+    try:
+        print(call())
+    except Exception as why:
+        print(type(why).__name__, why)
 consumer.free()
 for call in consumer.read, consumer.peek, lambda: consumer.read_batch(1), lambda: consumer.read_batch(0), lambda: list(consumer):
     try:

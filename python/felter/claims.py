@@ -112,8 +112,13 @@ class Claim(Unique):
         return self
 
     def __exit__(self, kind: typing.Any, *_: object) -> None:
-        with contextlib.suppress(Error) if kind else contextlib.nullcontext():
-            self.abort() if kind else self.commit()
+        if kind is None:
+            self.commit()
+            return
+        # (a claim that is over, or whose producer was freed, has nothing to abort)
+        with contextlib.suppress(Error):
+            self.abort()
+        self._trace.producer = None
 
 
 if not typing.TYPE_CHECKING and fast is not None:
