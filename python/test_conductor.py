@@ -270,11 +270,20 @@ class Requests(Case):
 
     def test_a_lapped_client_learns_that_its_command_was_taken(self):
         conductor, client = self.lapped()
+        release, is_asked = client.release, threading.Event()
+
+        def ask(counter):
+            sent = release(counter)
+            is_asked.set()
+            return sent
+
+        def work():
+            is_asked.wait(60)
+            conductor.work(0)
+
         # It looks for its reply a few times, and then asks by another command.
-        timer = threading.Timer(1, lambda: conductor.work(0))
-        timer.start()
-        self.unanswered(felter.Outcome.TAKEN, client, 20)
-        timer.join()
+        client.release = ask
+        run(work, lambda: self.unanswered(felter.Outcome.TAKEN, client, 60))
 
     def test_a_lapped_client_that_gets_no_reply_says_so(self):
         conductor, client = self.lapped()

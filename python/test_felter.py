@@ -114,6 +114,16 @@ class Rings(Case):
             producer.free()
             self.refuses(Number.NO_HANDLE, producer.write_batch, [(1, b"a")])
 
+    def test_batches_end_at_the_last_position(self):
+        for make in felter.one_to_one, felter.many_to_one:
+            producer, consumer = make(128, 2**62 - 128)
+            messages = [Message(1 + number, bytes(16)) for number in range(8)]
+            # (a record takes 24 bytes, and none may end above 2^62)
+            self.assertEqual(producer.write_batch(messages), 5)
+            self.assertEqual(list(consumer), messages[:5])
+            self.refuses(Number.POSITION_LIMIT, producer.write_batch, messages[5:])
+            self.assertEqual(list(consumer), [])
+
     def test_a_batch_may_write_by_its_producer(self):
         producer, consumer = felter.one_to_one(1024)
 
@@ -403,6 +413,11 @@ class CountersCase(Case):
         self.refuses(Number.NOT_ALLOCATED, counters.release, 0, 1)
         self.refuses(Number.LABEL_NOT_ASCII, counters.allocate, 0, 1, b"", b"\x80")
         self.assertEqual(list(counters), [])
+        ids = iter(counters)
+        self.assertEqual(counters.allocate(10, 1), 0)
+        self.assertEqual(next(ids), 0)
+        counters.free()
+        self.refuses(Number.NO_HANDLE, next, ids)
 
     def test_values_change_and_are_said_as_they_were(self):
         counters = felter.Counters(2)

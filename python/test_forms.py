@@ -36,6 +36,30 @@ warnings.showwarning = lambda what, kind, *_: print(kind.__name__)
 import felter
 print(felter.implementation)
 """
+# (two producers of one copy, a claim and a join test that the types of the first copy are still its own)
+TWO_COPIES = """
+import os
+import sys
+import felter as first
+producer, consumer = first.many_to_one(128)
+for it in [it for it in sys.modules if it.partition(".")[0] == "felter"]:
+    del sys.modules[it]
+os.environ["FELTER_DIR"] = os.environ["OTHER_DIR"]
+import felter as second
+assert second is not first and second.Error is not first.Error
+for felter, its in (first, (producer, consumer)), (second, second.many_to_one(128)):
+    other = its[0].split()
+    claim = other.claim(1, 4)
+    claim.put(0, b"here")
+    its[0].join(other)
+    claim.commit()
+    message = its[1].read()
+    assert message == (1, b"here") and type(message) is felter.Message and type(claim) is felter.Claim
+    try:
+        its[0].write(0, b"")
+    except felter.Error as why:
+        print(why)
+"""
 
 
 class Imports(Case):
@@ -76,25 +100,14 @@ class Imports(Case):
                 self.assertEqual(said.splitlines()[-1], str(wanted))
 
     def test_another_copy_of_the_package_takes_nothing_from_the_first(self):
-        said = run("""
-import sys
-import felter as first
-producer, consumer = first.many_to_one(128)
-for it in [it for it in sys.modules if it.partition(".")[0] == "felter"]:
-    del sys.modules[it]
-import felter as second
-assert second is not first and second.Error is not first.Error
-for felter, its in (first, (producer, consumer)), (second, second.many_to_one(128)):
-    its[0].write(1, b"here")
-    message = its[1].read()
-    assert message == (1, b"here") and type(message) is felter.Message
-    try:
-        its[0].write(0, b"")
-    except felter.Error as why:
-        print(why)
-""")
-        self.assertEqual(re.findall("^4 .*", said, re.M), ["4 BAD_TYPE: the type id is below 1"] * 2)
-        self.assertEqual(said.count("ImportWarning"), 1)
+        with tempfile.TemporaryDirectory() as folder:
+            # (the second copy may find the same files by another path)
+            for it in [FOLDER / "libfelter.so", *EXTENSIONS]:
+                os.symlink(it, os.path.join(folder, it.name))
+            for other in str(FOLDER), folder:
+                said = run(TWO_COPIES, OTHER_DIR=other)
+                self.assertEqual(re.findall("^4 .*", said, re.M), ["4 BAD_TYPE: the type id is below 1"] * 2, said)
+                self.assertEqual(said.count("ImportWarning"), 1 if EXTENSIONS else 2)
 
 
 # Calls with what they may not be given, and some with what they may.
@@ -172,10 +185,38 @@ for call in lambda: consumer.peek(1), lambda: producer.write(1), lambda: produce
         print(call())
     except Exception as why:
         print(type(why).__name__)
+for batch in [
+    5, [5], [(1, 2, 3)], [(1,)], [()], [{1: 2}], ["ab"], [b"ab"], [(2**31, b"")], [("a", b"")], [(1, "text")],
+    [(1, b"a"), (0, b"")], [(1, b"a"), (1, bytes(129))], (it for it in [(1, b"a"), [2, bytearray(b"b")]]),
+]:
+    try:
+        print(producer.write_batch(batch))
+    except Exception as why:
+        print(type(why).__name__, why)
+print(list(consumer))
+for limit, room in (None, "1"), (-1, "1"), (1, None), (1, -1), (1, 2**63), (2**32, 2**63):
+    try:
+        print(consumer.read_batch(limit, room))
+    except Exception as why:
+        print(type(why).__name__, why)
+for timeout in "1", (), (0.001,), [0.001], float("nan"), -1, True - 1:
+    for call in lambda: consumer.read(timeout), lambda: receiver.receive(timeout):
+        try:
+            print(call())
+        except Exception as why:
+            print(type(why).__name__, why)
+for image in 5, [1, 2], "text", None, b"", bytearray(128):
+    try:
+        print(felter.recover(image))
+    except Exception as why:
+        print(type(why).__name__, why)
 producer, consumer = felter.many_to_one(1024)
 with producer.claim(1, 4) as claim:
     pass
-for call in claim.commit, claim.abort, lambda: claim.put(0, b""), lambda: claim.__exit__(None, None, None):
+for call in [
+    claim.commit, claim.abort, lambda: claim.put(0, b""), lambda: claim.__exit__(None, None, None),
+    lambda: claim.put("0", b""), lambda: claim.put(2**64, b""), lambda: claim.put(0, 5),
+]:
     try:
         print(call())
     except Exception as why:
@@ -189,6 +230,11 @@ for call in claim.commit, claim.abort, lambda: claim.put(0, b""), lambda: produc
     except Exception as why:
         print(type(why).__name__, why)
 print(claim.__exit__(ValueError, None, None))
+for call in claim.commit, lambda: claim.put(0, b""):
+    try:
+        print(call())
+    except Exception as why:
+        print(type(why).__name__, why)
 consumer.free()
 for call in consumer.read, consumer.peek, lambda: consumer.read_batch(1), lambda: consumer.read_batch(0), lambda: list(consumer):
     try:

@@ -154,8 +154,9 @@ class InFile(unittest.TestCase):
         for cut in b"", image[:127], image[:-1]:
             with self.assertRaises(felter.Damaged):
                 felter.recover(cut)
-        with self.assertRaises(TypeError):
-            felter.recover("text")  # type: ignore[arg-type]
+        for it in "text", 896, [1, 2], None:
+            with self.assertRaises(TypeError):
+                felter.recover(it)  # type: ignore[arg-type]
 
     def test_ring(self) -> None:
         for make, kind in (felter.many_to_one_in_file, 2), (felter.one_to_one_in_file, 1):
@@ -179,6 +180,13 @@ class InFile(unittest.TestCase):
             # the claim was aborted, and the file stays
             self.assertEqual(word(self.path, 144), 32 + 3)
             os.unlink(self.path)
+
+    def test_a_claim_that_was_dropped_is_aborted_by_a_batch(self) -> None:
+        producer, consumer = felter.many_to_one_in_file(self.path, 1024)
+        producer.claim(3, 4)
+        self.assertEqual(producer.write_batch([(4, b"next")]), 1)
+        self.assertEqual([word(self.path, at) for at in (128, 144)], [16 + 3, 32])
+        self.assertEqual([it.body for it in consumer], [b"next"])
 
     def test_handles_that_nothing_refers_to(self) -> None:
         ring = felter.many_to_one_in_file(self.path, 1024)

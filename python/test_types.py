@@ -100,7 +100,10 @@ class Types(Case):
                 done = subprocess.run(words, env=environment, cwd=folder, stdout=subprocess.PIPE)
                 return done.returncode, done.stdout.decode()
 
-            self.assertEqual(checked(PROGRAM), (0, ""))
+            status, said = checked(PROGRAM)
+            if 'Module "typing_extensions" has no attribute "Buffer"' in said:
+                self.skipTest("this mypy is older than the type of buffers")
+            self.assertEqual((status, said), (0, ""))
             for line in WRONG:
                 self.assertEqual(checked(PROGRAM + line + "\n")[0], 1, line)
 

@@ -89,7 +89,7 @@ static PyObject *write_laid(Handle *handle, const Laid *laid) {
     if (is_foreign(handle)) return NULL;
     int32_t code = library.write_batch(&handle->at, laid->at, laid->used, &written);
     if (written) wake(handle);
-    if (code != OK && code != INSUFFICIENT_CAPACITY && code != CONTENDED) return raise_refusal(code);
+    else if (code != OK && code != INSUFFICIENT_CAPACITY && code != CONTENDED) return raise_refusal(code);
     return PyLong_FromUnsignedLong(written);
 }
 

@@ -113,9 +113,15 @@ static PyObject *claim_exit(PyObject *self, PyObject *arguments) {
     Py_RETURN_NONE;
 }
 
+static int claim_traverse(PyObject *it, visitproc visit, void *arg) {
+    Py_VISIT(((Claim *)it)->producer);
+    return visit_type(it, visit, arg);
+}
+
 static void claim_dealloc(PyObject *it) {
     Claim *claim = (Claim *)it;
     PyTypeObject *type = Py_TYPE(it);
+    PyObject_GC_UnTrack(it);
     if (claim->producer) {
         Handle *owner = owner_of(claim->producer);
         /* (a forked child owns nothing) */
@@ -140,11 +146,12 @@ static PyMethodDef claim_methods[] = {
 };
 static PyType_Slot claim_slots[] = {
     {Py_tp_dealloc, claim_dealloc},
+    {Py_tp_traverse, claim_traverse},
     {Py_tp_methods, claim_methods},
     {0, NULL},
 };
 static PyType_Spec claim_spec = {
-    "felter._fast.Claim", sizeof(Claim), 0, Py_TPFLAGS_DEFAULT | Py_TPFLAGS_BASETYPE, claim_slots,
+    "felter._fast.Claim", sizeof(Claim), 0, Py_TPFLAGS_DEFAULT | Py_TPFLAGS_BASETYPE | Py_TPFLAGS_HAVE_GC, claim_slots,
 };
 
 int make_claim_type(void) {

@@ -124,7 +124,8 @@ static PyObject *next_within(PyObject *self, const char *name, int receives, PyO
     int now = is_now(its[0]);
     if (now < 0) return NULL;
     if (now) return next_message(self, library.read, receives);
-    return PyObject_CallMethod(self, "_next_within", "O", its[0]);
+    /* (without the parentheses a tuple would become the list of all arguments) */
+    return PyObject_CallMethod(self, "_next_within", "(O)", its[0]);
 }
 
 static PyObject *consumer_read(PyObject *self, PyObject *const *given, Py_ssize_t count, PyObject *names) {

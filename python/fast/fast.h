@@ -151,6 +151,10 @@ PyObject *producer_write_batch(PyObject *self, PyObject *const *given, Py_ssize_
 PyObject *claimed(Handle *producer, int32_t type_id, size_t len);
 /* A method of a class that calls the library directly, by the qualified name of the one that it stands for. */
 PyObject *method_of(PyObject *module, PyObject *arguments);
+/* Visits the type of an object, as the last step of tp_traverse. */
+int visit_type(PyObject *it, visitproc visit, void *arg);
+/* The version of the running Python, as PY_VERSION_HEX has it, or -1. */
+long python_version(void);
 /* Make the types. Return 0, or -1 with an exception. */
 int make_types(void);
 int make_claim_type(void);

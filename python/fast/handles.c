@@ -6,10 +6,20 @@
 PyTypeObject *handle_type, *function_type;
 unsigned generation;
 
+/* Whether an instance visits its type. In Python 3.8 the subclasses in Python do so instead. */
+static int visits_type;
+
+int visit_type(PyObject *it, visitproc visit, void *arg) {
+    if (visits_type) Py_VISIT(Py_TYPE(it));
+    return 0;
+}
+
 /* Takes each lock out of the list and releases it, which runs no code of Python. */
 static void wake_all(PyObject *sleepers) {
     PyObject *kind, *value, *trace;
     PyErr_Fetch(&kind, &value, &trace);
+    /* (to ring a doorbell releases the interpreter's lock, so another thread may drop the handle with its list) */
+    Py_INCREF(sleepers);
     while (PyList_Check(sleepers) && PyList_Size(sleepers) > 0) {
         PyObject *lock = PyObject_CallMethod(sleepers, "pop", NULL);
         PyObject *done = lock ? PyObject_CallMethod(lock, "release", NULL) : NULL;
@@ -19,6 +29,7 @@ static void wake_all(PyObject *sleepers) {
         if (!done) PyErr_Clear();
         if (!lock) break;
     }
+    Py_DECREF(sleepers);
     PyErr_Restore(kind, value, trace);
 }
 
@@ -78,9 +89,19 @@ static void plain_dealloc(PyObject *it) {
     Py_DECREF(type);
 }
 
+/* (there is no tp_clear: each cycle also has an object that Python clears, such as the attributes of the handle. A
+ * producer that was joined must not forget its new owner, since its claims belong to that one.) */
+static int handle_traverse(PyObject *it, visitproc visit, void *arg) {
+    Handle *self = (Handle *)it;
+    Py_VISIT(self->joined);
+    Py_VISIT(self->sleepers);
+    return visit_type(it, visit, arg);
+}
+
 static void handle_dealloc(PyObject *it) {
     Handle *self = (Handle *)it;
     PyObject *joined = (PyObject *)self->joined, *sleepers = self->sleepers;
+    PyObject_GC_UnTrack(it);
     /* (a forked child owns nothing) */
     if (self->at && self->generation == generation) {
         library.free(&self->at);
@@ -115,17 +136,20 @@ static PyType_Slot handle_slots[] = {
     {Py_tp_members, handle_members},
     {Py_tp_new, handle_new},
     {Py_tp_dealloc, handle_dealloc},
+    {Py_tp_traverse, handle_traverse},
     {Py_tp_methods, handle_methods},
     {0, NULL},
 };
 static PyType_Slot function_slots[] = {{Py_tp_dealloc, plain_dealloc}, {0, NULL}};
 
 static PyType_Spec handle_spec = {
-    "felter._fast.Handle", sizeof(Handle), 0, Py_TPFLAGS_DEFAULT | Py_TPFLAGS_BASETYPE, handle_slots,
+    "felter._fast.Handle", sizeof(Handle), 0, Py_TPFLAGS_DEFAULT | Py_TPFLAGS_BASETYPE | Py_TPFLAGS_HAVE_GC,
+    handle_slots,
 };
 static PyType_Spec function_spec = {"felter._fast.Function", sizeof(Function), 0, Py_TPFLAGS_DEFAULT, function_slots};
 
 int make_types(void) {
+    visits_type = python_version() >= 0x03090000;
     handle_type = (PyTypeObject *)PyType_FromSpec(&handle_spec);
     function_type = (PyTypeObject *)PyType_FromSpec(&function_spec);
     return handle_type && function_type ? make_claim_type() : -1;

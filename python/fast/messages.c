@@ -31,11 +31,8 @@ static PyObject *made(PyObject *type_id, PyObject *body) {
 
 PyObject *message_of(int32_t type_id, PyObject *body) {
     static int is_plain = -1;
-    if (is_plain < 0) {
-        PyObject *version = PySys_GetObject("hexversion");
-        /* (from 3.14 on a tuple also keeps its hash) */
-        is_plain = version && PyLong_AsLong(version) < 0x030E0000;
-    }
+    /* (from 3.14 on a tuple also keeps its hash) */
+    if (is_plain < 0) is_plain = python_version() < 0x030E0000;
     PyObject *number = body ? PyLong_FromLong(type_id) : NULL;
     return is_plain ? filled(number, body) : made(number, body);
 }

@@ -133,15 +133,21 @@ static int note_direct(PyObject *addresses) {
     return 0;
 }
 
+/* Whether a package has opened this module. The variables of this file belong to the first package that did. Another
+ * interpreter, or a second copy of the package, uses ctypes. So no handle gets the exceptions and messages of another
+ * package. */
+static int is_in_use(void) {
+    if (functions) PyErr_SetString(PyExc_ImportError, "felter: the extension is in use by another copy of felter");
+    return functions != NULL;
+}
+
 static PyObject *opened(PyObject *Py_UNUSED(module), PyObject *arguments) {
     PyObject *addresses, *table, *refusal, *lapped, *message, *made = NULL;
     if (!PyArg_ParseTuple(arguments, "O!O!OOO!", &PyDict_Type, &addresses, &PyDict_Type, &table, &refusal, &lapped,
                           &PyType_Type, &message))
         return NULL;
-    /* (the variables below belong to the first package that opened this module. Another interpreter, or a second copy
-     * of the package, uses ctypes. So no handle gets the exceptions and messages of another package.) */
-    if (functions) PyErr_SetString(PyExc_ImportError, "felter: the extension is in use by another copy of felter");
-    else if (!PyType_IsSubtype((PyTypeObject *)message, &PyTuple_Type))
+    if (is_in_use()) return NULL;
+    if (!PyType_IsSubtype((PyTypeObject *)message, &PyTuple_Type))
         PyErr_Format(PyExc_TypeError, "%R is no tuple", message);
     else if (note_direct(addresses) == 0) made = functions_of(addresses, table);
     if (!made) return NULL;
@@ -193,12 +199,16 @@ static struct PyModuleDef definition = {
 /* (the headers of Python 3.8 do not make this function visible) */
 __attribute__((visibility("default"))) PyMODINIT_FUNC PyInit__fast(void);
 
+long python_version(void) {
+    PyObject *version = PySys_GetObject("hexversion");
+    return version ? PyLong_AsLong(version) : -1;
+}
+
 /* Whether this Python has all functions that were used when this file was compiled. A Python that is older than the
  * limited API of this file loads the file nevertheless. */
 static int is_new_enough(void) {
 #ifdef Py_LIMITED_API
-    PyObject *version = PySys_GetObject("hexversion");
-    if (!version || PyLong_AsLong(version) < Py_LIMITED_API) {
+    if (python_version() < Py_LIMITED_API) {
         PyErr_SetString(PyExc_ImportError, "felter: this extension needs a later Python");
         return 0;
     }
@@ -212,7 +222,9 @@ static int add_type(PyObject *module, const char *name, PyTypeObject *type) {
 }
 
 PyMODINIT_FUNC PyInit__fast(void) {
-    if (!is_new_enough()) return NULL;
+    /* (Python calls this again if the same file is loaded by another path. The types must stay those of the first
+     * package.) */
+    if (!is_new_enough() || is_in_use()) return NULL;
     PyObject *module = make_types() == 0 ? PyModule_Create(&definition) : NULL;
     if (!module) return NULL;
     if (add_type(module, "Handle", handle_type) == 0 && add_type(module, "Claim", claim_type) == 0) return module;

@@ -9,7 +9,9 @@ Calls. A read returns None if no message is there. A call with a timeout waits. 
 `number` says why. "Raises OTHER_RING" means an Error with the number OTHER_RING. If the ring is full, the Error is a
 `Full`. If another producer was faster, the Error is a `Contended`. In both cases `is_passing` is True, and the same
 call may succeed later. `is_abandoned` returns whether the other side is gone. A `Doorbell` wakes event loops.
-Capacities, lengths and positions are in bytes. Moments are in milliseconds of a clock that the caller chooses.
+Capacities, lengths and positions are in bytes. Moments are in milliseconds of a clock that the caller chooses. If
+Python is out of memory when a read makes the objects for its messages, the read raises MemoryError, and these messages
+are lost. A message that `peek` returned stays in the ring until `take`.
 
 Files. `many_to_one_in_file`, `one_to_one_in_file`, `Transmitter.in_file` and `Counters.in_file` make a structure in a
 new file. Its words and bodies survive the death of the process. Another process may look at the file, and must not
@@ -36,7 +38,8 @@ package, or in the repository's c/out, which c/build fills. `implementation` say
   interpreter lock, since no call waits.
 - "ctypes": The calls use ctypes if FELTER_PURE is 1. They also use ctypes, with an ImportWarning, if there is no
   extension for this Python, or if another copy of this package in the process has the extension. Such a copy can be in
-  another interpreter.
+  another interpreter. With ctypes the garbage collector frees the handles of a cycle of objects before it calls the
+  methods `__del__` of the cycle, so these methods cannot use the handles.
 
 Before Python 3.10, a Ctrl-C during a call through ctypes can leave the handle of this call locked. Later calls of the
 handle are then refused.

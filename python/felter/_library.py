@@ -76,7 +76,7 @@ def extension(path: str, found: typing.Any) -> typing.Optional[types.ModuleType]
         if spec is None or spec.loader is None or not os.path.exists(file):
             continue
         try:
-            made: typing.Any = importlib.util.module_from_spec(spec)
+            made = importlib.util.module_from_spec(spec)
             spec.loader.exec_module(made)
             made.open({name: address(getattr(found, name)) for name in TABLE}, *GIVEN)
             return made
@@ -119,6 +119,7 @@ def direct(method: Method) -> Method:
 
 
 if typing.TYPE_CHECKING:
-    from felter._pure import Handle, call
+    from felter._pure import Handle as Handle
+    from felter._pure import call as call
 else:
     Handle, call = made.Handle, made.call

@@ -66,8 +66,11 @@ class Ends:
         its = self.writers if writes else self.readers
         its[id(it)] = it
         if len(its) >= self._most:
-            for key, end in list(its.items()):
-                if end() is None:
+            # (a list of the items would be made of new tuples, so garbage could be collected meanwhile, which can make
+            # ends)
+            for key in list(its):
+                end = its.get(key)
+                if end is not None and end() is None:
                     its.pop(key, None)
             self._most = max(16, 2 * len(its))
 

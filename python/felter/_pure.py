@@ -133,14 +133,21 @@ def taker(low: int, end: int) -> typing.Callable[[typing.Any], typing.Tuple[typi
     return take
 
 
-TAKES = {"bytes": take_bytes, "*handle": take_handle, **{word: taker(*its) for word, its in RANGES.items()}}
+TAKES: typing.Dict[str, typing.Callable[[typing.Any], typing.Tuple[typing.Any, ...]]] = {
+    "bytes": take_bytes,
+    "*handle": take_handle,
+    **{word: taker(*its) for word, its in RANGES.items()},
+}
 
 
 def laid(messages: typing.Iterable[typing.Tuple[int, typing.Any]]) -> bytes:
     """Returns messages one after another, as in a batch."""
     parts: typing.List[bytes] = []
-    for type_id, body in messages:
-        (number,), (data, length) = TAKES["i32"](type_id), take_bytes(body)
+    for message in messages:
+        pair = message if isinstance(message, tuple) else tuple(message)
+        if len(pair) != 2:
+            raise ValueError("a message is a type id and a body, and not %d values" % len(pair))
+        (number,), (data, length) = TAKES["i32"](pair[0]), take_bytes(pair[1])
         parts += [length.to_bytes(8, "little"), number.to_bytes(8, "little", signed=True), data, bytes(-length % 8)]
     return b"".join(parts)
 
@@ -152,7 +159,7 @@ class Function:
     def __init__(self, name: str, function: typing.Any, words: typing.List[str]) -> None:
         function.argtypes = [TYPES[it] for it in words]
         function.restype = None if name == "felter_free" else ctypes.c_int32
-        self.call, self.lap = function, LAPPING.get(name)
+        self.call, self.lap, self.joins = function, LAPPING.get(name), name == "felter_join"
         # (the length of bytes or of a buffer follows it as another parameter)
         words = [it for before, it in zip(["", *words], words) if before not in ("bytes", "*u8")]
         self.takes = [TAKES[it] for it in words if it in TAKES]
@@ -190,7 +197,10 @@ class Function:
         try:
             code, room = self.made(given, parameters, outs)
         finally:
-            # (no interrupt comes between these two)
+            # (no interrupt comes between these lines. Another thread that sees an empty producer must see what it was
+            # joined to.)
+            if self.joins and given[1]._raw.at is None and not given[1]._was_emptied:
+                given[1]._joined = given[0]
             one._was_emptied = one._raw.at is None
             two._was_emptied = two._raw.at is None
         return self.answered(code, room, parameters, outs, is_trying)
@@ -281,8 +291,11 @@ def note_freeing(handle: "Handle") -> None:
     it._as_parameter_ = ctypes.byref(handle._raw)
     freeings[id(it)] = it
     if len(freeings) >= most_freeings:
-        for key, one in list(freeings.items()):
-            if one() is None:
+        # (a list of the items would be made of new tuples, so garbage could be collected meanwhile, which can make
+        # handles)
+        for key in list(freeings):
+            one = freeings.get(key)
+            if one is not None and one() is None:
                 freeings.pop(key, None)
         most_freeings = max(256, 2 * len(freeings))
 
@@ -296,6 +309,8 @@ class Handle:
     _forks: int
     _was_emptied = True
     _sleepers: typing.Any = None
+    # The producer to which this one was joined.
+    _joined: typing.Any = None
 
     def __new__(cls, *_: typing.Any, **__: typing.Any) -> typing.Any:
         self = super().__new__(cls)
@@ -337,24 +352,23 @@ class Handle:
                 self._was_emptied = self._raw.at is None
         return outs[0].value, code
 
-    def _quietly(self, name: str, *given: typing.Any) -> bool:
-        """Makes a call unless another call uses the handle. Returns whether the call was made."""
+    def _quietly(self, name: str, *given: typing.Any) -> typing.Optional[int]:
+        """Makes a call unless another call uses the handle. Returns the code, or None if the call was not made."""
         function = functions[name]
         parameters, _ = function.take((self, *given))
         if self._lock._is_owned():
-            return False
-        is_free = False
+            return None
+        code: typing.Optional[int] = None
         try:
-            is_free = self._lock.acquire(False)
-            if is_free:
-                function.call(*parameters)
+            if self._lock.acquire(False):
+                code = function.call(*parameters)
         finally:
-            # (an interrupt can come after the lock was taken and before `is_free` is set)
+            # (if the lock is of another thread, or an interrupt came before the lock was taken)
             try:
                 self._lock.release()
             except RuntimeError:
                 pass
-        return is_free
+        return code
 
     def _free(self) -> None:
         """Frees what the handle owns."""

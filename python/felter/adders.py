@@ -1,5 +1,8 @@
 """Shared counters."""
 
+# (the calls of the library return what the library wrote, which has no type)
+# mypy: no-warn-return-any
+
 from felter._library import call
 from felter._owner import Owner, numbers
 

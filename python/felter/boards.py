@@ -1,5 +1,8 @@
 """Boards, which are broadcast buffers. A transmitter never waits, and a receiver learns how many bytes it missed."""
 
+# (the calls of the library return what the library wrote, which has no type)
+# mypy: no-warn-return-any
+
 import contextlib
 import typing
 
@@ -8,7 +11,7 @@ from felter._owner import Owner, Sizes, numbers
 from felter.errors import Disconnected, Error, Number
 from felter.files import Path, make
 from felter.message import Buffer, Message
-from felter.waiting import wait_as_task, wait_for
+from felter.waiting import each, wait_as_task, wait_for
 
 
 class Lap(typing.NamedTuple):
@@ -108,7 +111,7 @@ class Receiver(Owner):
         return wait_for(self._receive, timeout, self.is_abandoned, self._sleepers)
 
     async def receive_async(self, timeout: typing.Optional[float] = None) -> typing.Optional[Message]:
-        """Does what `receive` does with a timeout, in a task of asyncio. Other tasks go on meanwhile."""
+        """Does what `receive` does with a timeout, in a task of asyncio. Other tasks go on while this task waits."""
         return await wait_as_task(self._receive, timeout, self.is_abandoned, self._sleepers)
 
     @direct
@@ -127,14 +130,11 @@ class Receiver(Owner):
         with contextlib.suppress(Disconnected):
             yield from iter(lambda: self.receive(timeout), None)
 
-    async def __aiter__(self) -> typing.AsyncIterator[Message]:
-        """Waits for each message, until the transmitter is gone and all messages were received. If the iterator raises
-        Lapped, it has ended. A new `async for` goes on with the message that was transmitted last."""
-        with contextlib.suppress(Disconnected):
-            while True:
-                message = await self.receive_async()
-                if message is not None:
-                    yield message
+    def __aiter__(self) -> typing.AsyncIterator[Message]:
+        """Waits for each message, until the transmitter is gone and all messages were received. Other tasks also have
+        turns if there is always a message. If the iterator raises Lapped, it has ended. A new `async for` goes on with
+        the message that was transmitted last."""
+        return each(self.receive_async)
 
     def lapped_count(self) -> int:
         """Returns how often the receiver was lapped."""

@@ -10,8 +10,8 @@ import typing
 
 from felter._library import Handle, fast
 from felter._owner import Ends, Owner, Unique
-from felter._pure import Cell
-from felter.errors import Error, Number
+from felter._pure import TAKES, Cell, take_bytes
+from felter.errors import Closed, Error, Number
 from felter.message import Buffer
 from felter.waiting import wake
 
@@ -38,20 +38,31 @@ class Trace(Reference):
     def owner(self) -> "typing.Optional[Producer]":
         """Returns the producer of the claim, or the producer to which this producer was joined. Returns None if the
         claim was committed or aborted."""
-        while self.producer is not None and self.producer._joined is not None:
-            self.producer = self.producer._joined
-        return self.producer
+        # (another thread may commit or abort the claim meanwhile, or join the producer)
+        first = owner = self.producer
+        while owner is not None and owner._joined is not None:
+            owner = owner._joined
+        if first is not owner and first is not None:
+            # (so the next search from here is short, however many producers were joined)
+            first._joined = owner
+        return owner
 
     def is_over(self) -> bool:
         """Returns whether there is nothing to abort. The result is True if the claim was committed, aborted or never
         made, or if its producer was freed."""
         producer = self.owner()
-        return producer is None or self.number.value == NONE or producer._is_empty() or producer._is_forked()
+        if producer is None or self.number.value == NONE or producer._is_forked():
+            return True
+        # (if the producer was just joined to another one, the claim is open there)
+        return producer._is_empty() and producer._joined is None
 
     def abort(self) -> None:
         """Aborts the claim if it is open, unless a call of the producer is running."""
         producer = self.owner()
-        if producer is not None and not self.is_over() and producer._quietly("felter_abort", self.number.value):
+        if producer is None or self.is_over():
+            return
+        # (after NO_HANDLE the producer was just freed, or joined to another one)
+        if producer._quietly("felter_abort", self.number.value) in (0, Number.NO_CLAIM):
             self.producer = None
 
 
@@ -71,7 +82,8 @@ class Claim(Unique):
 
     def put(self, offset: int, data: Buffer) -> None:
         """Puts bytes into the message, from the byte at `offset` on."""
-        self._do("felter_put", offset, data)
+        # (bad parameters are refused first, even if the claim is over)
+        self._do("felter_put", *TAKES["usize"](offset), take_bytes(data)[0])
 
     def commit(self) -> None:
         """Commits the claim, so that the consumer is shown the message."""
@@ -87,18 +99,29 @@ class Claim(Unique):
         producer = self._trace.owner()
         if producer is None:
             raise Error(Number.NO_CLAIM)
-        producer._do(name, self._trace.number.value, *parameters)
+        try:
+            producer._do(name, self._trace.number.value, *parameters)
+        except Closed:
+            if producer._joined is None:
+                raise
+            # (another thread just joined the producer to another one, which has the claim now)
+            self._do(name, *parameters)
         producer._wake()
 
     def __enter__(self) -> "Claim":
         return self
 
     def __exit__(self, kind: typing.Any, *_: object) -> None:
-        with contextlib.suppress(Error) if kind else contextlib.nullcontext():
-            self.abort() if kind else self.commit()
+        if kind is None:
+            self.commit()
+            return
+        # (a claim that is over, or whose producer was freed, has nothing to abort)
+        with contextlib.suppress(Error):
+            self.abort()
+        self._trace.producer = None
 
 
-if fast is not None and not typing.TYPE_CHECKING:
+if not typing.TYPE_CHECKING and fast is not None:
 
     class Claim(Unique, fast.Claim):
         """Room in a ring for one message. A claim that is used as a context manager is committed at the end of the
@@ -140,3 +163,14 @@ class Settling(Owner):
             if self._ends.dropped:
                 settle_dropped(self._ends)
             return Handle._read_by(self, name)
+
+        def _is_abandoned(self) -> bool:
+            # (a claim that was dropped keeps its producer until it is aborted)
+            if self._ends.dropped:
+                settle_dropped(self._ends)
+            return Owner._is_abandoned(self)
+
+        def _write_laid(self, messages: typing.Iterable[typing.Tuple[int, Buffer]]) -> typing.Tuple[int, int]:
+            if self._ends.dropped:
+                settle_dropped(self._ends)
+            return Handle._write_laid(self, messages)

@@ -1,5 +1,8 @@
 """Conductors, which own counters and change them as their clients command."""
 
+# (the calls of the library return what the library wrote, which has no type)
+# mypy: no-warn-return-any
+
 import contextlib
 import enum
 import time
@@ -275,10 +278,14 @@ class Client(Owner):
                 refused[:] = [why]
                 return None
 
-        correlation = wait_for(attempt, timeout, self.is_abandoned)
-        if correlation is None:
-            raise refused[0]
-        return correlation
+        try:
+            correlation = wait_for(attempt, timeout, self.is_abandoned)
+            if correlation is None:
+                raise refused[0]
+            return correlation
+        finally:
+            # (an exception refers to its frames, and so to this list, which would keep this client alive)
+            refused.clear()
 
     def _reply_to(self, correlation: int, end: typing.Optional[float]) -> Reply:
         is_lapped, pause = False, 0.0

@@ -4,6 +4,7 @@ import struct
 import typing
 
 from felter._library import call
+from felter._pure import take_bytes
 from felter.errors import Damaged, Error, Number
 from felter.message import Buffer, Message
 
@@ -49,10 +50,10 @@ def recover(image: Buffer) -> Recovered:
     The call raises `Damaged` if the image is not that of a ring, or if it is damaged. `finding` of this exception says
     what was found, and at which place. The process of the ring must have died, or have freed the ring. Otherwise the
     messages are not promised."""
-    image = bytes(image)
+    image, length = take_bytes(image)
     try:
         # (a buffer of twice the capacity is always long enough, and the image is longer)
-        open_claims, count, records = call("felter_recover", image, len(image))
+        open_claims, count, records = call("felter_recover", image, length)
     except Error as refused:
         if refused.number not in _FINDINGS:
             raise

@@ -1,19 +1,23 @@
 """Rings. A producer writes messages, and a consumer reads them."""
 
+# (the calls of the library return what the library wrote, which has no type)
+# mypy: no-warn-return-any
+
 import contextlib
 import enum
-import operator
+import sys
 import typing
 
 from felter._library import call, direct
 from felter._owner import Ends, Sizes, numbers
+from felter._pure import TAKES
 from felter.claims import Claim, Settling, settle_dropped
 from felter.controlled import Controlled
 from felter.errors import Contended, Disconnected, Error, Full, Number, refusal
 from felter.files import Path, make
 from felter.message import Buffer, Message
 from felter.recovering import messages_in
-from felter.waiting import wait_as_task, wait_for
+from felter.waiting import each, wait_as_task, wait_for
 
 
 class Positions(typing.NamedTuple):
@@ -71,16 +75,13 @@ class Consumer(Controlled):
         return wait_for(self._read, timeout, self.is_abandoned, self._sleepers)
 
     async def read_async(self, timeout: typing.Optional[float] = None) -> typing.Optional[Message]:
-        """Does what `read` does with a timeout, in a task of asyncio. Other tasks go on meanwhile."""
+        """Does what `read` does with a timeout, in a task of asyncio. Other tasks go on while this task waits."""
         return await wait_as_task(self._read, timeout, self.is_abandoned, self._sleepers)
 
-    async def __aiter__(self) -> typing.AsyncIterator[Message]:
-        """Waits for each message, until every producer is gone and all messages were read."""
-        with contextlib.suppress(Disconnected):
-            while True:
-                message = await self.read_async()
-                if message is not None:
-                    yield message
+    def __aiter__(self) -> typing.AsyncIterator[Message]:
+        """Waits for each message, until every producer is gone and all messages were read. Other tasks also have turns
+        if there is always a message."""
+        return each(self.read_async)
 
     @direct
     def _read(self) -> typing.Optional[Message]:
@@ -104,7 +105,10 @@ class Consumer(Controlled):
         there. The call can return fewer messages than are in the ring. The call reads into a buffer of `room` bytes. A
         message takes 16 bytes of the buffer, plus the bytes of its body, rounded up to a multiple of 8. A message for
         which the buffer has no room stays in the ring."""
-        count, records = self._try("felter_read_batch", limit, operator.index(room)) or (0, b"")
+        (most,), (size,) = TAKES["u32"](limit), TAKES["usize"](room)
+        if size > sys.maxsize:
+            raise MemoryError
+        count, records = self._try("felter_read_batch", most, size) or (0, b"")
         return messages_in(records, count)
 
     def standing(self, producer: "Producer") -> Standing:
@@ -152,9 +156,6 @@ class Producer(Settling):
     """Writes messages into a ring. If a producer is freed, its open claims are aborted, and the ring can end without
     this producer."""
 
-    # The producer to which this one was joined.
-    _joined: typing.Optional["Producer"] = None
-
     def __init__(self, number: int, first: typing.Optional["Producer"] = None) -> None:
         super().__init__(number, first._ends if first else None)
 
@@ -190,8 +191,12 @@ class Producer(Settling):
                 refused[:] = [why]
                 return None
 
-        if not wait_for(attempt, timeout, self.is_abandoned):
-            raise refused[0]
+        try:
+            if not wait_for(attempt, timeout, self.is_abandoned):
+                raise refused[0]
+        finally:
+            # (an exception refers to its frames, and so to this list, which would keep this producer alive)
+            refused.clear()
 
     def write_all(self, messages: typing.Iterable[typing.Tuple[int, Buffer]]) -> int:
         """Writes messages one after another, and returns how many messages were written. Each message is a type id and
@@ -207,12 +212,13 @@ class Producer(Settling):
     def write_batch(self, messages: typing.Iterable[typing.Tuple[int, Buffer]]) -> int:
         """Writes a batch of messages by one call of the library, and returns how many messages were written. Each
         message is a type id and a body. The consumer sees messages that are next to one another in the ring at once.
-        The call writes fewer messages if the ring is full or another producer is faster. Other refusals raise an Error.
-        If a message has a bad type id or is too long, no message is written."""
+        The call writes fewer messages if the ring is full, another producer is faster, or the next record would end
+        above 2^62. The call raises an Error if a message has a bad type id or is too long, or if the first record would
+        end above 2^62. After an Error no message was written."""
         written, code = self._write_laid(messages)
         if written:
             self._wake()
-        if code and code not in (Number.INSUFFICIENT_CAPACITY, Number.CONTENDED):
+        elif code not in (0, Number.INSUFFICIENT_CAPACITY, Number.CONTENDED):
             raise refusal(code)
         return written
 
@@ -232,13 +238,7 @@ class Producer(Settling):
     def join(self, other: "Producer") -> None:
         """Joins another producer of the same ring to this one. This producer gets the shares and the open claims of the
         other one."""
-        was_there = not other._is_empty()
-        try:
-            self._with("felter_join", other)
-        finally:
-            # (from now on the claims of `other` belong to this producer, also if an interrupt came after the call)
-            if was_there and other._is_empty():
-                other._joined = self
+        self._with("felter_join", other)
 
     def positions(self) -> Positions:
         """Loads the head of the ring, and then its tail."""

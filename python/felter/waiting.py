@@ -3,14 +3,19 @@
 import contextlib
 import functools
 import io
+import itertools
 import os
 import select
+import sys
 import threading
 import time
 import types
 import typing
 
 from felter.errors import Disconnected
+
+if typing.TYPE_CHECKING:
+    import asyncio
 
 T = typing.TypeVar("T")
 
@@ -31,12 +36,15 @@ LONGEST_PAUSE = 1e-3
 LONGEST_SLEEP = 0.05
 # A reader pauses until its pauses are longer than this, and then sleeps.
 LAST_PAUSE = 6e-5
+# After so many messages an iterator of asyncio lets other tasks have a turn.
+BURST = 64
 
 
 def wake(sleepers: Sleepers) -> None:
     """Wakes the readers that sleep."""
     while sleepers:
-        with contextlib.suppress(IndexError, RuntimeError):
+        # (a reader that gave up meanwhile holds no lock, or has closed its doorbell)
+        with contextlib.suppress(IndexError, RuntimeError, ValueError, OSError):
             sleepers.pop().release()
 
 
@@ -121,11 +129,38 @@ async def wait_as_task(
                     left = LONGEST_SLEEP if end is None else end - time.monotonic()
                     if left <= 0:
                         return None
-                    with contextlib.suppress(asyncio.TimeoutError):
-                        await asyncio.wait_for(rung.wait(), min(left, LONGEST_SLEEP))
+                    await wait_for_event(rung, min(left, LONGEST_SLEEP))
                 rung.clear()
         finally:
             loop.remove_reader(bell.fileno())
+
+
+async def wait_for_event(event: "asyncio.Event", seconds: float) -> None:
+    """Waits until an event is set, and sets it after some seconds. (Before Python 3.12 asyncio.wait_for swallows the
+    cancellation of a task whose event was just set.)"""
+    import asyncio
+
+    timer = asyncio.get_running_loop().call_later(seconds, event.set)
+    try:
+        await event.wait()
+    finally:
+        timer.cancel()
+
+
+async def each(
+    read: typing.Callable[[], typing.Coroutine[typing.Any, typing.Any, typing.Optional[T]]],
+) -> typing.AsyncIterator[T]:
+    """Reads again and again, and waits, until the other side is gone and all messages were read."""
+    import asyncio
+
+    with contextlib.suppress(Disconnected):
+        for number in itertools.count(1):
+            message = await read()
+            if message is not None:
+                yield message
+            # (a read of a message that is there does not let the event loop run)
+            if number % BURST == 0:
+                await asyncio.sleep(0)
 
 
 class Listed:
@@ -167,7 +202,7 @@ class Doorbell:
     def __init__(self) -> None:
         # (the files close themselves when they are dropped, since an interrupt would be swallowed in a destructor in
         # Python)
-        if hasattr(os, "eventfd"):
+        if sys.version_info >= (3, 10) and hasattr(os, "eventfd"):
             self._reads = self._writes = io.FileIO(os.eventfd(0, os.EFD_CLOEXEC | os.EFD_NONBLOCK), "r+")
         else:
             # (before Python 3.10 a pipe does the same)
