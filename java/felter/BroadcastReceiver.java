@@ -30,9 +30,9 @@ public final class BroadcastReceiver extends Owner {
     private boolean isCopied = true;
     private volatile long lapped;
 
-    BroadcastReceiver(final Handle transmitter, final int capacity) {
-        Native.must(Handle.make(transmitter, handle, Native::subscribeRaw));
-        this.capacity = capacity;
+    BroadcastReceiver(final BroadcastTransmitter transmitter) {
+        Native.must(transmitter.make(transmitter.handle, this, handle, Native::subscribeRaw));
+        capacity = transmitter.capacity();
     }
 
     /** Returns the capacity of the buffer, in bytes. */
@@ -48,7 +48,7 @@ public final class BroadcastReceiver extends Owner {
     public boolean receiveNext() {
         int found = -Native.LAPPED;
         for (int tries = 0; tries < 2 && found == -Native.LAPPED; tries++) {
-            found = handle.make(its -> Native.receiveNext(its, outAddress));
+            found = make(handle, its -> Native.receiveNext(its, outAddress));
             if (found == -Native.LAPPED) {
                 lapped = out.getLong(8);
             }
@@ -87,7 +87,7 @@ public final class BroadcastReceiver extends Owner {
         if (!isCopied) {
             final ByteBuffer to = room.capacity() < length ? buffer(length) : room;
             final long address = Native.address(to);
-            Native.must(handle.make(its -> Native.loadBody(its, address, to.capacity())));
+            Native.must(make(handle, its -> Native.loadBody(its, address, to.capacity())));
             to.clear();
             room = to;
             isCopied = true;
@@ -102,7 +102,7 @@ public final class BroadcastReceiver extends Owner {
      * @throws FelterException if no record was received yet.
      */
     public boolean validate() {
-        final int code = handle.make(Native::validate);
+        final int code = make(handle, Native::validate);
         if (code == Native.LAPPED) {
             return false;
         }

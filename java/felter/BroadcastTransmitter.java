@@ -8,12 +8,12 @@ import java.nio.ByteBuffer;
  * several threads use a transmitter, their calls are made one after another.
  */
 public final class BroadcastTransmitter extends Owner {
-    private final Handle handle = handles().add();
+    final Handle handle = handles().add();
     private final int capacity;
 
     /** Makes a broadcast buffer of {@code capacity} bytes, which must be a power of two from 256 to 2^24. */
     public BroadcastTransmitter(final int capacity) {
-        Native.must(handle.make(its -> Native.boardNew(capacity, its)));
+        Native.must(make(handle, its -> Native.boardNew(capacity, its)));
         this.capacity = capacity;
     }
 
@@ -55,7 +55,7 @@ public final class BroadcastTransmitter extends Owner {
     private void transmitDirect(final int msgTypeId, final ByteBuffer buffer, final int index, final int length) {
         try {
             final long body = Native.address(buffer) + index;
-            Native.must(handle.make(its -> Native.transmit(its, msgTypeId, body, length)));
+            Native.must(make(handle, its -> Native.transmit(its, msgTypeId, body, length)));
         } finally {
             // (otherwise the collector may free the memory of the buffer during the call)
             Reference.reachabilityFence(buffer);
@@ -63,17 +63,17 @@ public final class BroadcastTransmitter extends Owner {
     }
 
     private void transmitBytes(final int msgTypeId, final byte[] body, final int index, final int length) {
-        Native.must(handle.make(its -> Native.transmitBytes(its, msgTypeId, body, index, length)));
+        Native.must(make(handle, its -> Native.transmitBytes(its, msgTypeId, body, index, length)));
     }
 
     /** Makes a receiver, which starts with the message that was transmitted last. */
     public CopyBroadcastReceiver subscribe() {
-        return new CopyBroadcastReceiver(handle, maxMsgLength());
+        return new CopyBroadcastReceiver(this);
     }
 
     /** Makes a receiver of records without their bodies, which starts with the record that was transmitted last. */
     public BroadcastReceiver subscribeRaw() {
-        return new BroadcastReceiver(handle, capacity);
+        return new BroadcastReceiver(this);
     }
 
     /**
@@ -84,7 +84,7 @@ public final class BroadcastTransmitter extends Owner {
      * @throws FelterException if the receiver belongs to another buffer.
      */
     public void join(final CopyBroadcastReceiver receiver) {
-        Native.must(Handle.make(handle, receiver.handle, Native::boardJoin));
+        Native.must(make(handle, receiver, receiver.handle, Native::boardJoin));
     }
 
     /**
@@ -92,6 +92,6 @@ public final class BroadcastTransmitter extends Owner {
      * {@link #join(CopyBroadcastReceiver)}.
      */
     public void join(final BroadcastReceiver receiver) {
-        Native.must(Handle.make(handle, receiver.handle, Native::boardJoinRaw));
+        Native.must(make(handle, receiver, receiver.handle, Native::boardJoinRaw));
     }
 }

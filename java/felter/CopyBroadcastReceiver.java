@@ -19,10 +19,10 @@ public final class CopyBroadcastReceiver extends Owner {
     private final long outAddress = Native.address(out);
     private volatile long lapped;
 
-    CopyBroadcastReceiver(final Handle transmitter, final int maxMsgLength) {
-        scratch = buffer(maxMsgLength);
+    CopyBroadcastReceiver(final BroadcastTransmitter transmitter) {
+        scratch = buffer(transmitter.maxMsgLength());
         scratchAddress = Native.address(scratch);
-        Native.must(Handle.make(transmitter, handle, Native::subscribe));
+        Native.must(transmitter.make(transmitter.handle, this, handle, Native::subscribe));
     }
 
     /** Returns how often the transmitter overtook the receiver. */
@@ -58,7 +58,7 @@ public final class CopyBroadcastReceiver extends Owner {
     private int next() {
         int length = -Native.LAPPED;
         for (int tries = 0; tries < 2 && length == -Native.LAPPED; tries++) {
-            length = handle.make(its -> Native.receive(its, scratchAddress, scratch.capacity(), outAddress));
+            length = make(handle, its -> Native.receive(its, scratchAddress, scratch.capacity(), outAddress));
             if (length == -Native.LAPPED) {
                 lapped = out.getLong(8);
             }

@@ -1,5 +1,6 @@
 package felter;
 
+import java.lang.ref.Reference;
 import java.nio.ByteBuffer;
 import java.nio.ByteOrder;
 import java.nio.charset.StandardCharsets;
@@ -29,7 +30,7 @@ public final class CountersManager extends Owner {
 
     private static final byte[] NOTHING = {};
 
-    private final Handle handle = handles().add();
+    final Handle handle = handles().add();
     private final int count;
     private final ByteBuffer out = buffer(MAX_LABEL_LENGTH);
     private final long outAddress = Native.address(out);
@@ -42,7 +43,7 @@ public final class CountersManager extends Owner {
         if (freeToReuseTimeoutMs < 0) {
             throw new IllegalArgumentException("a timeout of " + freeToReuseTimeoutMs + " ms");
         }
-        Native.must(handle.make(its -> Native.countersNew(count, freeToReuseTimeoutMs, its)));
+        Native.must(make(handle, its -> Native.countersNew(count, freeToReuseTimeoutMs, its)));
         this.count = count;
     }
 
@@ -54,6 +55,7 @@ public final class CountersManager extends Owner {
             return out.getLong(0);
         } finally {
             handle.leave();
+            Reference.reachabilityFence(this);
         }
     }
 
@@ -64,6 +66,7 @@ public final class CountersManager extends Owner {
             return out.getInt(0);
         } finally {
             handle.leave();
+            Reference.reachabilityFence(this);
         }
     }
 
@@ -100,7 +103,7 @@ public final class CountersManager extends Owner {
         Objects.requireNonNull(key, "key");
         final byte[] bytes = bytesOf(label);
         final int id =
-            handle.make(its -> Native.allocate(its, now, typeId, key, bytes, registrationId, ownerId));
+            make(handle, its -> Native.allocate(its, now, typeId, key, bytes, registrationId, ownerId));
         Native.must(Math.max(0, -id));
         return id;
     }
@@ -112,7 +115,7 @@ public final class CountersManager extends Owner {
 
     /** Frees a counter at a moment. */
     public void free(final int counterId, final long now) {
-        Native.must(handle.make(its -> Native.counterFree(its, now, counterId)));
+        Native.must(make(handle, its -> Native.counterFree(its, now, counterId)));
     }
 
     /** Frees each counter of an owner at a moment, and returns how many counters were freed. */
@@ -127,7 +130,7 @@ public final class CountersManager extends Owner {
 
     /** Sets a counter's value. */
     public void setCounterValue(final int counterId, final long value) {
-        Native.must(handle.make(its -> Native.counterSet(its, counterId, value)));
+        Native.must(make(handle, its -> Native.counterSet(its, counterId, value)));
     }
 
     /**
@@ -206,6 +209,7 @@ public final class CountersManager extends Owner {
             return copyOf(out, 0, MAX_KEY_LENGTH);
         } finally {
             handle.leave();
+            Reference.reachabilityFence(this);
         }
     }
 
@@ -214,7 +218,7 @@ public final class CountersManager extends Owner {
      * none.
      */
     public int findByTypeIdAndRegistrationId(final int typeId, final long registrationId) {
-        final int id = handle.make(its -> Native.counterFind(its, typeId, registrationId));
+        final int id = make(handle, its -> Native.counterFind(its, typeId, registrationId));
         if (id == -Native.NOT_ALLOCATED) {
             return NULL_COUNTER_ID;
         }
@@ -231,6 +235,7 @@ public final class CountersManager extends Owner {
             return new String(copyOf(out, 0, length), StandardCharsets.US_ASCII);
         } finally {
             handle.leave();
+            Reference.reachabilityFence(this);
         }
     }
 
@@ -265,11 +270,11 @@ public final class CountersManager extends Owner {
      * @throws FelterException if the reader belongs to other counters.
      */
     public void join(final CountersReader reader) {
-        Native.must(Handle.make(handle, reader.handle, Native::countersJoin));
+        Native.must(make(handle, reader, reader.handle, Native::countersJoin));
     }
 
     /** Makes a reader of the counters' values, for another thread. */
     public CountersReader reader() {
-        return new CountersReader(handle);
+        return new CountersReader(this);
     }
 }

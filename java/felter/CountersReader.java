@@ -1,5 +1,6 @@
 package felter;
 
+import java.lang.ref.Reference;
 import java.nio.ByteBuffer;
 
 /** Loads the values of counters on another thread. {@link CountersManager#reader} makes a reader. */
@@ -25,8 +26,8 @@ public final class CountersReader extends Owner {
     private final ByteBuffer out = buffer(8);
     private final long outAddress = Native.address(out);
 
-    CountersReader(final Handle counters) {
-        Native.must(Handle.make(counters, handle, Native::countersReader));
+    CountersReader(final CountersManager counters) {
+        Native.must(counters.make(counters.handle, this, handle, Native::countersReader));
     }
 
     /** Loads a value. The value of an id that was never used is 0. The value of a freed id is its last value. */
@@ -37,6 +38,7 @@ public final class CountersReader extends Owner {
             return out.getLong(0);
         } finally {
             handle.leave();
+            Reference.reachabilityFence(this);
         }
     }
 }

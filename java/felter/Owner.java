@@ -1,6 +1,7 @@
 package felter;
 
 import java.lang.ref.Cleaner;
+import java.lang.ref.Reference;
 import java.nio.ByteBuffer;
 import java.nio.ByteOrder;
 
@@ -30,6 +31,21 @@ abstract class Owner implements AutoCloseable {
     @Override
     public void close() {
         cleanable.clean();
+    }
+
+    /** Makes a call with a handle of this object. The collector does not free the handle before the call has ended. */
+    final int make(final Handle handle, final Handle.Call call) {
+        final int result = handle.make(call);
+        Reference.reachabilityFence(this);
+        return result;
+    }
+
+    /** Makes a call with a handle of this object and one of another object. Both stay until the call has ended. */
+    final int make(final Handle handle, final Owner other, final Handle itsHandle, final Handle.PairCall call) {
+        final int result = Handle.make(handle, itsHandle, call);
+        Reference.reachabilityFence(this);
+        Reference.reachabilityFence(other);
+        return result;
     }
 
     static ByteBuffer buffer(final int capacity) {

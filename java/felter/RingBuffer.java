@@ -1,5 +1,6 @@
 package felter;
 
+import java.lang.ref.Reference;
 import java.nio.ByteBuffer;
 import java.util.Objects;
 import java.util.concurrent.atomic.AtomicBoolean;
@@ -37,14 +38,14 @@ public abstract class RingBuffer extends Owner {
     private int next;
 
     RingBuffer(final boolean isOne, final int capacity) {
-        Native.must(Handle.make(first, consumer, (one, other) -> Native.ringNew(isOne, capacity, one, other)));
+        Native.must(make(first, this, consumer, (one, other) -> Native.ringNew(isOne, capacity, one, other)));
         this.capacity = capacity;
         batch = buffer(Math.max(RECORD + maxMsgLength(), Math.min(capacity, 1 << 16)));
         batchAddress = Native.address(batch);
         shown = batch.duplicate();
     }
 
-    /** Returns the producer of the calling thread. */
+    /** Returns the producer of the calling thread. A producer does not refer to its ring, so each call keeps the ring. */
     abstract Producer producer();
 
     /** Returns the capacity of the ring, in bytes. */
@@ -64,13 +65,13 @@ public abstract class RingBuffer extends Owner {
      */
     public final boolean write(final int msgTypeId, final ByteBuffer buffer, final int index, final int length) {
         checkPart(index, length, buffer.capacity());
-        if (buffer.isDirect()) {
-            return producer().write(msgTypeId, buffer, index, length);
+        if (!buffer.isDirect()) {
+            return buffer.hasArray() ? write(msgTypeId, buffer.array(), buffer.arrayOffset() + index, length)
+                : write(msgTypeId, copyOf(buffer, index, length), 0, length);
         }
-        if (buffer.hasArray()) {
-            return producer().write(msgTypeId, buffer.array(), buffer.arrayOffset() + index, length);
-        }
-        return producer().write(msgTypeId, copyOf(buffer, index, length), 0, length);
+        final boolean isWritten = producer().write(msgTypeId, buffer, index, length);
+        Reference.reachabilityFence(this);
+        return isWritten;
     }
 
     /**
@@ -80,7 +81,9 @@ public abstract class RingBuffer extends Owner {
      */
     public final boolean write(final int msgTypeId, final byte[] body, final int index, final int length) {
         checkPart(index, length, body.length);
-        return producer().write(msgTypeId, body, index, length);
+        final boolean isWritten = producer().write(msgTypeId, body, index, length);
+        Reference.reachabilityFence(this);
+        return isWritten;
     }
 
     /**
@@ -92,7 +95,9 @@ public abstract class RingBuffer extends Owner {
      * @throws IllegalArgumentException if the length is negative.
      */
     public final int tryClaim(final int msgTypeId, final int length) {
-        return producer().claim(msgTypeId, length);
+        final int index = producer().claim(msgTypeId, length);
+        Reference.reachabilityFence(this);
+        return index;
     }
 
     /**
@@ -106,11 +111,13 @@ public abstract class RingBuffer extends Owner {
     /** Commits the claim of the calling thread, so that the consumer is shown its message. */
     public final void commit(final int index) {
         producer().commit(index);
+        Reference.reachabilityFence(this);
     }
 
     /** Aborts the claim of the calling thread, so that the consumer skips it. */
     public final void abort(final int index) {
         producer().abort(index);
+        Reference.reachabilityFence(this);
     }
 
     /** Reads all messages that are there and fit into a batch. Returns how many messages the handler received. */
@@ -147,7 +154,7 @@ public abstract class RingBuffer extends Owner {
 
     /** Takes messages into the batch, and returns whether there were any. */
     private boolean fetch(final int limit) {
-        final int count = consumer.make(its -> Native.readBatch(its, limit, batchAddress, batch.capacity()));
+        final int count = make(consumer, its -> Native.readBatch(its, limit, batchAddress, batch.capacity()));
         if (count == -Native.NO_MESSAGE) {
             return false;
         }
@@ -189,7 +196,7 @@ public abstract class RingBuffer extends Owner {
     private int readControlled(final ControlledMessageHandler handler, final int limit) {
         int count = 0;
         while (count < limit) {
-            final int length = consumer.make(its -> Native.peek(its, batchAddress, batch.capacity(), outAddress));
+            final int length = make(consumer, its -> Native.peek(its, batchAddress, batch.capacity(), outAddress));
             if (length == -Native.NO_MESSAGE) {
                 break;
             }
@@ -199,7 +206,7 @@ public abstract class RingBuffer extends Owner {
             if (action == ControlledMessageHandler.Action.ABORT) {
                 break;
             }
-            Native.must(consumer.make(Native::take));
+            Native.must(make(consumer, Native::take));
             count++;
             if (action == ControlledMessageHandler.Action.BREAK) {
                 break;
@@ -210,31 +217,41 @@ public abstract class RingBuffer extends Owner {
 
     /** Draws the ring's next correlation id. */
     public final long nextCorrelationId() {
-        return producer().nextId();
+        final long id = producer().nextId();
+        Reference.reachabilityFence(this);
+        return id;
     }
 
     /** Returns how many bytes are claimed and not yet read. */
     public final int size() {
-        return (int) Math.min(capacity, producer().used());
+        final long used = producer().used();
+        Reference.reachabilityFence(this);
+        return (int) Math.min(capacity, used);
     }
 
     /** Returns the position at which the next read begins, in bytes. The position never falls. */
     public final long consumerPosition() {
-        return producer().head();
+        final long head = producer().head();
+        Reference.reachabilityFence(this);
+        return head;
     }
 
     /** Returns the position at which the next claim begins, in bytes. The position never falls. */
     public final long producerPosition() {
-        return producer().tail();
+        final long tail = producer().tail();
+        Reference.reachabilityFence(this);
+        return tail;
     }
 
     /** Stores the consumer's heartbeat. */
     public final void consumerHeartbeatTime(final long time) {
-        Native.must(consumer.make(its -> Native.setHeartbeat(its, time)));
+        Native.must(make(consumer, its -> Native.setHeartbeat(its, time)));
     }
 
     /** Loads the consumer's heartbeat. The heartbeat is 0 before the consumer stores one. */
     public final long consumerHeartbeatTime() {
-        return producer().heartbeat();
+        final long time = producer().heartbeat();
+        Reference.reachabilityFence(this);
+        return time;
     }
 }

@@ -1,5 +1,6 @@
 package felter;
 
+import java.lang.ref.Reference;
 import java.nio.ByteBuffer;
 
 /**
@@ -46,12 +47,14 @@ public final class SharedCounter extends Owner {
 
     /** Makes a shared counter with the value 0. */
     public SharedCounter() {
-        Native.must(first.make(Native::adderNew));
+        Native.must(make(first, Native::adderNew));
     }
 
     /** Adds {@code delta} to the value, and returns the value before the addition. */
     public long getAndAdd(final long delta) {
-        return adders.get().add(delta);
+        final long before = adders.get().add(delta);
+        Reference.reachabilityFence(this);
+        return before;
     }
 
     /** Adds 1 to the value, and returns the value before the addition. */
@@ -66,7 +69,9 @@ public final class SharedCounter extends Owner {
 
     /** Returns the value, which is the sum of all amounts that were added. */
     public long get() {
-        return adders.get().value();
+        final long value = adders.get().value();
+        Reference.reachabilityFence(this);
+        return value;
     }
 
     private Adder split() {

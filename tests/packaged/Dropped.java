@@ -19,7 +19,7 @@ import java.util.concurrent.CountDownLatch;
  * Objects that nothing refers to any longer, although they were not closed: their memory is freed, and not before their
  * calls have ended. Run it with MALLOC_MMAP_THRESHOLD_=200000 in the environment, so that memory that is freed leaves
  * the process at once, and with -XX:+UseSerialGC -Xms64m -Xmx64m -XX:+AlwaysPreTouch, so that the heap does not grow,
- * and a collection takes less time than a call that transmits two megabytes.
+ * there is little memory for buffers, and a collection takes less time than a call that transmits two megabytes.
  */
 public final class Dropped {
     private static final int CAPACITY = 1 << 22;
@@ -133,6 +133,28 @@ public final class Dropped {
         }
     }
 
+    /** If there is no memory for a buffer of Java, no claim is made, and a ring that was not made takes no memory. */
+    private static void outOfMemory() throws Exception {
+        final long before = before();
+        try (OneToOneRingBuffer ring = new OneToOneRingBuffer(1 << 24)) {
+            final List<ByteBuffer> all = new ArrayList<>();
+            Checks.thrown(OutOfMemoryError.class, () -> {
+                while (all.size() < 1000) {
+                    all.add(ByteBuffer.allocateDirect(1 << 20));
+                }
+            });
+            Checks.thrown(OutOfMemoryError.class, () -> ring.tryClaim(1, 8));
+            for (int i = 0; i < 3; i++) {
+                Checks.thrown(OutOfMemoryError.class, () -> new ManyToOneRingBuffer(1 << 24));
+            }
+            all.clear();
+            Checks.check(ring.tryClaim(1, 8) == 0, "no claim was left open");
+            ring.abort(0);
+            used(ring);
+        }
+        awaitFall(before + SPARE, "rings that were not made");
+    }
+
     private static void transmit(final int capacity, final ByteBuffer body) {
         new BroadcastTransmitter(capacity).transmit(1, body, 0, body.capacity());
     }
@@ -181,6 +203,7 @@ public final class Dropped {
         others();
         closed();
         shares();
+        outOfMemory();
         calls();
         System.out.println("what was dropped is freed");
     }
