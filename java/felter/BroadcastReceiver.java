@@ -20,6 +20,7 @@ import java.nio.ByteBuffer;
  * <p>Only one thread at a time may use a receiver.
  */
 public final class BroadcastReceiver extends Owner {
+    final Handle handle = handles().add();
     private final int capacity;
     private final ByteBuffer out = buffer(16);
     private final long outAddress = Native.address(out);
@@ -27,11 +28,10 @@ public final class BroadcastReceiver extends Owner {
     private int typeId;
     private int length;
     private boolean isCopied = true;
-    private long lapped;
+    private volatile long lapped;
 
     BroadcastReceiver(final BroadcastTransmitter transmitter) {
-        super(1);
-        Native.must(Native.subscribeRaw(transmitter.handle(0), handle(0)));
+        Native.must(transmitter.make(transmitter.handle, this, handle, Native::subscribeRaw));
         capacity = transmitter.capacity();
     }
 
@@ -42,12 +42,13 @@ public final class BroadcastReceiver extends Owner {
 
     /**
      * Moves past the next record, and returns whether there was one. If the transmitter overtook the receiver, {@link
-     * #lappedCount} rises, and the receiver goes on with the record that was transmitted last.
+     * #lappedCount} rises, and the receiver goes on with the record that was transmitted last. If the transmitter
+     * overtakes the receiver twice during the call, the call returns false.
      */
     public boolean receiveNext() {
         int found = -Native.LAPPED;
         for (int tries = 0; tries < 2 && found == -Native.LAPPED; tries++) {
-            found = Native.receiveNext(handle(0), outAddress);
+            found = make(handle, its -> Native.receiveNext(its, outAddress));
             if (found == -Native.LAPPED) {
                 lapped = out.getLong(8);
             }
@@ -84,10 +85,11 @@ public final class BroadcastReceiver extends Owner {
      */
     public ByteBuffer buffer() {
         if (!isCopied) {
-            if (room.capacity() < length) {
-                room = buffer(length);
-            }
-            Native.must(Native.loadBody(handle(0), Native.address(room), room.capacity()));
+            final ByteBuffer to = room.capacity() < length ? buffer(length) : room;
+            final long address = Native.address(to);
+            Native.must(make(handle, its -> Native.loadBody(its, address, to.capacity())));
+            to.clear();
+            room = to;
             isCopied = true;
         }
         return room;
@@ -100,7 +102,7 @@ public final class BroadcastReceiver extends Owner {
      * @throws FelterException if no record was received yet.
      */
     public boolean validate() {
-        final int code = Native.validate(handle(0));
+        final int code = make(handle, Native::validate);
         if (code == Native.LAPPED) {
             return false;
         }

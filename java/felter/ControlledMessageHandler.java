@@ -21,6 +21,8 @@ public interface ControlledMessageHandler {
         CONTINUE
     }
 
-    /** Handles a message, which is at an index of the buffer. The buffer is reused after the call. */
+    /**
+     * Handles a message, which is at an index of the buffer. The buffer is as {@link MessageHandler#onMessage} says.
+     */
     Action onMessage(int msgTypeId, ByteBuffer buffer, int index, int length);
 }

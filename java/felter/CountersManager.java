@@ -1,12 +1,15 @@
 package felter;
 
+import java.lang.ref.Reference;
 import java.nio.ByteBuffer;
+import java.nio.ByteOrder;
 import java.nio.charset.StandardCharsets;
+import java.util.Objects;
 import java.util.function.IntConsumer;
 
 /**
  * Counters, whose ids begin at 0. One thread allocates and sets the counters. {@link #reader} makes a reader for
- * another thread.
+ * another thread. If several threads use the counters, their calls are made one after another.
  */
 public final class CountersManager extends Owner {
     /** The state that {@link #getCounterState} returns for an id that was never used. */
@@ -27,20 +30,44 @@ public final class CountersManager extends Owner {
 
     private static final byte[] NOTHING = {};
 
+    final Handle handle = handles().add();
     private final int count;
     private final ByteBuffer out = buffer(MAX_LABEL_LENGTH);
     private final long outAddress = Native.address(out);
-    private final ByteBuffer key = buffer(MAX_KEY_LENGTH);
-    private final long keyAddress = Native.address(key);
 
     /**
-     * Makes {@code count} counters. A freed id is not allocated again for {@code freeToReuseTimeoutMs}
-     * milliseconds.
+     * Makes {@code count} counters, which must be from 1 to 4,096. A freed id is not allocated again for {@code
+     * freeToReuseTimeoutMs} milliseconds.
      */
     public CountersManager(final int count, final int freeToReuseTimeoutMs) {
-        super(1);
-        Native.must(Native.countersNew(count, freeToReuseTimeoutMs, handle(0)));
+        if (freeToReuseTimeoutMs < 0) {
+            throw new IllegalArgumentException("a timeout of " + freeToReuseTimeoutMs + " ms");
+        }
+        Native.must(make(handle, its -> Native.countersNew(count, freeToReuseTimeoutMs, its)));
         this.count = count;
+    }
+
+    /** Makes a call that writes a number, and returns the number. */
+    private long loadedLong(final Handle.Call call) {
+        final long its = handle.enter();
+        try {
+            Native.must(call.make(its));
+            return out.getLong(0);
+        } finally {
+            handle.leave();
+            Reference.reachabilityFence(this);
+        }
+    }
+
+    private int loadedInt(final Handle.Call call) {
+        final long its = handle.enter();
+        try {
+            Native.must(call.make(its));
+            return out.getInt(0);
+        } finally {
+            handle.leave();
+            Reference.reachabilityFence(this);
+        }
     }
 
     /** Returns the highest id. */
@@ -53,8 +80,7 @@ public final class CountersManager extends Owner {
      * timeout on.
      */
     public int available(final long now) {
-        Native.must(Native.countersAvailable(handle(0), now, outAddress));
-        return out.getInt(0);
+        return loadedInt(its -> Native.countersAvailable(its, now, outAddress));
     }
 
     /** Allocates a counter with the value 0 and an ASCII label, and returns its id. */
@@ -74,32 +100,37 @@ public final class CountersManager extends Owner {
     public int allocate(
         final String label, final int typeId, final byte[] key, final long now, final long registrationId,
         final long ownerId) {
-        final byte[] bytes = label.getBytes(StandardCharsets.UTF_8);
-        final int id = Native.allocate(handle(0), now, typeId, key, bytes, registrationId, ownerId);
+        Objects.requireNonNull(key, "key");
+        final byte[] bytes = bytesOf(label);
+        final int id =
+            make(handle, its -> Native.allocate(its, now, typeId, key, bytes, registrationId, ownerId));
         Native.must(Math.max(0, -id));
         return id;
     }
 
+    private static byte[] bytesOf(final String label) {
+        // (a surrogate without its partner has no bytes, and would become a question mark, which is ASCII)
+        return label.replaceAll("\\p{Cs}", "\u0080").getBytes(StandardCharsets.UTF_8);
+    }
+
     /** Frees a counter at a moment. */
     public void free(final int counterId, final long now) {
-        Native.must(Native.counterFree(handle(0), now, counterId));
+        Native.must(make(handle, its -> Native.counterFree(its, now, counterId)));
     }
 
     /** Frees each counter of an owner at a moment, and returns how many counters were freed. */
     public int closeOwner(final long ownerId, final long now) {
-        Native.must(Native.countersCloseOwner(handle(0), now, ownerId, outAddress));
-        return out.getInt(0);
+        return loadedInt(its -> Native.countersCloseOwner(its, now, ownerId, outAddress));
     }
 
     /** Returns the value of a counter in use. */
     public long getCounterValue(final int counterId) {
-        Native.must(Native.counterValue(handle(0), counterId, outAddress));
-        return out.getLong(0);
+        return loadedLong(its -> Native.counterValue(its, counterId, outAddress));
     }
 
     /** Sets a counter's value. */
     public void setCounterValue(final int counterId, final long value) {
-        Native.must(Native.counterSet(handle(0), counterId, value));
+        Native.must(make(handle, its -> Native.counterSet(its, counterId, value)));
     }
 
     /**
@@ -107,8 +138,7 @@ public final class CountersManager extends Owner {
      * 64 bits wraps.
      */
     public long getAndAdd(final int counterId, final long delta) {
-        Native.must(Native.counterAdd(handle(0), counterId, delta, outAddress));
-        return out.getLong(0);
+        return loadedLong(its -> Native.counterAdd(its, counterId, delta, outAddress));
     }
 
     /**
@@ -116,8 +146,7 @@ public final class CountersManager extends Owner {
      * wraps.
      */
     public long increment(final int counterId) {
-        Native.must(Native.counterIncrement(handle(0), counterId, outAddress));
-        return out.getLong(0);
+        return loadedLong(its -> Native.counterIncrement(its, counterId, outAddress));
     }
 
     /**
@@ -125,50 +154,43 @@ public final class CountersManager extends Owner {
      * in 64 bits wraps.
      */
     public long decrement(final int counterId) {
-        Native.must(Native.counterDecrement(handle(0), counterId, outAddress));
-        return out.getLong(0);
+        return loadedLong(its -> Native.counterDecrement(its, counterId, outAddress));
     }
 
     /** Sets a counter's value, and returns the value before the call. */
     public long getAndSet(final int counterId, final long value) {
-        Native.must(Native.counterGetAndSet(handle(0), counterId, value, outAddress));
-        return out.getLong(0);
+        return loadedLong(its -> Native.counterGetAndSet(its, counterId, value, outAddress));
     }
 
     /** Sets a counter's value if the old value is the expected one. Returns whether the value was set. */
     public boolean compareAndSet(final int counterId, final long expectedValue, final long updateValue) {
-        Native.must(Native.counterCompareAndSet(handle(0), counterId, expectedValue, updateValue, outAddress));
-        return out.getInt(0) == 1;
+        return 1 == loadedInt(
+            its -> Native.counterCompareAndSet(its, counterId, expectedValue, updateValue, outAddress));
     }
 
     /** Raises a counter's value to the proposed value if the old value was less. Returns whether that happened. */
     public boolean proposeMax(final int counterId, final long proposedValue) {
-        Native.must(Native.counterProposeMax(handle(0), counterId, proposedValue, outAddress));
-        return out.getInt(0) == 1;
+        return loadedInt(its -> Native.counterProposeMax(its, counterId, proposedValue, outAddress)) == 1;
     }
 
     /** Returns the state of an id. */
     public int getCounterState(final int counterId) {
-        Native.must(Native.counterState(handle(0), counterId, outAddress));
-        return out.getInt(0);
+        return loadedInt(its -> Native.counterState(its, counterId, outAddress));
     }
 
     /** Returns the type id of a counter in use. */
     public int getCounterTypeId(final int counterId) {
-        Native.must(Native.counterTypeId(handle(0), counterId, outAddress));
-        return out.getInt(0);
+        return loadedInt(its -> Native.counterTypeId(its, counterId, outAddress));
     }
 
     /** Returns the registration id of a counter in use. */
     public long getCounterRegistrationId(final int counterId) {
-        Native.must(Native.counterRegistration(handle(0), counterId, outAddress));
-        return out.getLong(0);
+        return loadedLong(its -> Native.counterRegistration(its, counterId, outAddress));
     }
 
     /** Returns the owner of a counter in use, or 0 if it has none. */
     public long getCounterOwnerId(final int counterId) {
-        Native.must(Native.counterOwner(handle(0), counterId, outAddress));
-        return out.getLong(0);
+        return loadedLong(its -> Native.counterOwner(its, counterId, outAddress));
     }
 
     /**
@@ -176,23 +198,19 @@ public final class CountersManager extends Owner {
      * #NOT_FREE_TO_REUSE} if its counter is in use.
      */
     public long getFreeForReuseDeadline(final int counterId) {
-        Native.must(Native.counterDeadline(handle(0), counterId, outAddress));
-        return out.getLong(0);
+        return loadedLong(its -> Native.counterDeadline(its, counterId, outAddress));
     }
 
     /** Returns the key of a counter in use. Zeros follow a key that was shorter than {@link #MAX_KEY_LENGTH}. */
     public byte[] getCounterKey(final int counterId) {
-        final byte[] bytes = new byte[MAX_KEY_LENGTH];
-        final ByteBuffer its = keyOf(counterId);
-        for (int i = 0; i < MAX_KEY_LENGTH; i++) {
-            bytes[i] = its.get(i);
+        final long its = handle.enter();
+        try {
+            Native.must(Native.counterKey(its, counterId, outAddress, MAX_KEY_LENGTH));
+            return copyOf(out, 0, MAX_KEY_LENGTH);
+        } finally {
+            handle.leave();
+            Reference.reachabilityFence(this);
         }
-        return bytes;
-    }
-
-    private ByteBuffer keyOf(final int counterId) {
-        Native.must(Native.counterKey(handle(0), counterId, keyAddress, MAX_KEY_LENGTH));
-        return key;
     }
 
     /**
@@ -200,7 +218,7 @@ public final class CountersManager extends Owner {
      * none.
      */
     public int findByTypeIdAndRegistrationId(final int typeId, final long registrationId) {
-        final int id = Native.counterFind(handle(0), typeId, registrationId);
+        final int id = make(handle, its -> Native.counterFind(its, typeId, registrationId));
         if (id == -Native.NOT_ALLOCATED) {
             return NULL_COUNTER_ID;
         }
@@ -210,13 +228,15 @@ public final class CountersManager extends Owner {
 
     /** Returns the label of a counter in use. */
     public String getCounterLabel(final int counterId) {
-        final int length = Native.counterLabel(handle(0), counterId, outAddress, MAX_LABEL_LENGTH);
-        Native.must(Math.max(0, -length));
-        final byte[] label = new byte[length];
-        for (int i = 0; i < length; i++) {
-            label[i] = out.get(i);
+        final long its = handle.enter();
+        try {
+            final int length = Native.counterLabel(its, counterId, outAddress, MAX_LABEL_LENGTH);
+            Native.must(Math.max(0, -length));
+            return new String(copyOf(out, 0, length), StandardCharsets.US_ASCII);
+        } finally {
+            handle.leave();
+            Reference.reachabilityFence(this);
         }
-        return new String(label, StandardCharsets.US_ASCII);
     }
 
     /** Calls the consumer with each id in use, in rising order. */
@@ -235,7 +255,11 @@ public final class CountersManager extends Owner {
 
     /** Calls the consumer with the type id, the key and the label of each counter in use, from the lowest id on. */
     public void forEach(final CountersReader.MetaData consumer) {
-        forEach(id -> consumer.accept(id, getCounterTypeId(id), keyOf(id), getCounterLabel(id)));
+        forEach(id -> consumer.accept(id, getCounterTypeId(id), keyBuffer(id), getCounterLabel(id)));
+    }
+
+    private ByteBuffer keyBuffer(final int counterId) {
+        return ByteBuffer.wrap(getCounterKey(counterId)).order(ByteOrder.nativeOrder());
     }
 
     /**
@@ -246,7 +270,7 @@ public final class CountersManager extends Owner {
      * @throws FelterException if the reader belongs to other counters.
      */
     public void join(final CountersReader reader) {
-        Native.must(Native.countersJoin(handle(0), reader.handle(0)));
+        Native.must(make(handle, reader, reader.handle, Native::countersJoin));
     }
 
     /** Makes a reader of the counters' values, for another thread. */

@@ -1,5 +1,6 @@
 package felter;
 
+import java.lang.ref.Reference;
 import java.nio.ByteBuffer;
 
 /** Loads the values of counters on another thread. {@link CountersManager#reader} makes a reader. */
@@ -15,23 +16,29 @@ public final class CountersReader extends Owner {
     @FunctionalInterface
     public interface MetaData {
         /**
-         * Handles a counter that is in use. The key has {@link CountersManager#MAX_KEY_LENGTH} bytes, from index 0 of
-         * the buffer on. The buffer is used again after the call.
+         * Handles a counter that is in use. The buffer has the {@link CountersManager#MAX_KEY_LENGTH} bytes of the key,
+         * and the native byte order.
          */
         void accept(int counterId, int typeId, ByteBuffer keyBuffer, String label);
     }
 
+    final Handle handle = handles().add();
     private final ByteBuffer out = buffer(8);
     private final long outAddress = Native.address(out);
 
     CountersReader(final CountersManager counters) {
-        super(1);
-        Native.must(Native.countersReader(counters.handle(0), handle(0)));
+        Native.must(counters.make(counters.handle, this, handle, Native::countersReader));
     }
 
     /** Loads a value. The value of an id that was never used is 0. The value of a freed id is its last value. */
     public long getCounterValue(final int counterId) {
-        Native.must(Native.readerValue(handle(0), counterId, outAddress));
-        return out.getLong(0);
+        final long its = handle.enter();
+        try {
+            Native.must(Native.readerValue(its, counterId, outAddress));
+            return out.getLong(0);
+        } finally {
+            handle.leave();
+            Reference.reachabilityFence(this);
+        }
     }
 }

@@ -3,10 +3,10 @@ package felter;
 /**
  * A ring to which any number of threads write, and from which one thread reads. Each thread that writes gets a producer
  * of its own. After a thread has ended, the garbage collector finds its producer. A claim that the thread left open is
- * then aborted, and the producer goes back to the ring. There are at most 65,536 producers at a time.
+ * then aborted, and the producer goes back to the ring. At most 65,535 threads can have a producer at a time. Another
+ * thread that writes gets a {@link FelterException} with the code 12.
  */
 public final class ManyToOneRingBuffer extends RingBuffer {
-    private final Object lock = new Object();
     private final ThreadLocal<Producer> producers = ThreadLocal.withInitial(this::split);
 
     /** Makes a ring of {@code capacity} bytes, which must be a power of two from 128 to 2^24. */
@@ -20,45 +20,30 @@ public final class ManyToOneRingBuffer extends RingBuffer {
     }
 
     private Producer split() {
-        final Handles its = new Handles(1);
-        synchronized (lock) {
-            final int code = Native.split(handle(0), its.at(0));
-            if (code != Native.OK) {
-                its.run();
-                Native.must(code);
-            }
-        }
+        final Handles all = handles();
+        final Handle from = first;
+        final Handle its = all.add();
         final Producer.OpenClaim open = new Producer.OpenClaim();
-        final Producer producer = new Producer(its, 0, maxMsgLength(), open);
-        final Handles first = handles();
-        final Object guard = lock;
-        whenGone(producer, () -> giveBack(guard, first, its, open));
-        return producer;
-    }
-
-    /**
-     * Aborts the open claim of a thread that has ended. Joins the thread's producer, or frees it if the ring is
-     * closed.
-     */
-    private static void giveBack(
-            final Object lock, final Handles first, final Handles its, final Producer.OpenClaim open) {
         try {
-            synchronized (lock) {
-                if (first.isOpen()) {
-                    open.abort(its.at(0));
-                    // (after out of memory the producer is freed, and its share is lost)
-                    Native.join(first.at(0), its.at(0));
-                }
-            }
-        } finally {
-            its.run();
+            final Producer producer = new Producer(its, maxMsgLength(), open);
+            Native.must(Handle.make(from, its, Native::split));
+            whenGone(producer, () -> giveBack(all, from, its, open));
+            return producer;
+        } catch (final RuntimeException | Error why) {
+            all.free(its);
+            throw why;
         }
     }
 
-    @Override
-    public void close() {
-        synchronized (lock) {
-            super.close();
+    /** Aborts the open claim of a thread that has ended, and joins the thread's producer, if the ring is not closed. */
+    private static void giveBack(
+            final Handles all, final Handle first, final Handle its, final Producer.OpenClaim open) {
+        try {
+            Native.must(its.make(open::abort));
+            // (after out of memory the producer is freed, and its share is lost)
+            Native.must(Handle.make(first, its, Native::join));
+        } finally {
+            all.free(its);
         }
     }
 }

@@ -32,14 +32,14 @@ final class Native {
         }
         try (InputStream in = Native.class.getResourceAsStream("libfelter_jni.so")) {
             if (in == null) {
-                throw new UnsatisfiedLinkError("libfelter_jni.so is not in the jar");
+                throw new UnsatisfiedLinkError("felter: libfelter_jni.so is not in the jar");
             }
             final Path copy = Files.createTempFile("felter", ".so");
             try {
                 Files.copy(in, copy, StandardCopyOption.REPLACE_EXISTING);
                 System.load(copy.toString());
             } finally {
-                Files.delete(copy);
+                Files.deleteIfExists(copy);
             }
         } catch (final IOException why) {
             throw new UnsatisfiedLinkError("felter: the library cannot be unpacked: " + why);
@@ -94,6 +94,8 @@ final class Native {
     static native int boardNew(int capacity, long transmitter);
 
     static native int transmit(long transmitter, int typeId, long body, int length);
+
+    static native int transmitBytes(long transmitter, int typeId, byte[] body, int index, int length);
 
     static native int subscribe(long transmitter, long receiver);
 

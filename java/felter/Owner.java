@@ -1,6 +1,7 @@
 package felter;
 
 import java.lang.ref.Cleaner;
+import java.lang.ref.Reference;
 import java.nio.ByteBuffer;
 import java.nio.ByteOrder;
 
@@ -11,79 +12,65 @@ import java.nio.ByteOrder;
 abstract class Owner implements AutoCloseable {
     private static final Cleaner CLEANER = Cleaner.create();
 
-    /** The handles of an owner. This object frees the handles once, and does not refer to the owner. */
-    static final class Handles implements Runnable {
-        private final long[] all;
+    private final Handles handles = new Handles();
+    private final Cleaner.Cleanable cleanable = CLEANER.register(this, handles);
 
-        Handles(final int count) {
-            all = new long[count];
-            for (int i = 0; i < count; i++) {
-                all[i] = Native.handle();
-                if (all[i] == 0) {
-                    throw new OutOfMemoryError("felter: a handle");
-                }
-            }
-        }
-
-        /** Returns a handle for a call. */
-        long at(final int index) {
-            final long handle = all[index];
-            if (handle == 0) {
-                throw new IllegalStateException("it is closed");
-            }
-            return handle;
-        }
-
-        boolean isOpen() {
-            return all[0] != 0;
-        }
-
-        @Override
-        public synchronized void run() {
-            for (int i = 0; i < all.length; i++) {
-                if (all[i] != 0) {
-                    Native.free(all[i]);
-                    all[i] = 0;
-                }
-            }
-        }
-    }
-
-    private final Cleaner.Cleanable cleanable;
-    private final Handles handles;
-
-    Owner(final int count) {
-        handles = new Handles(count);
-        cleanable = CLEANER.register(this, handles);
-    }
-
-    /** Frees handles that another object held, when nothing refers to that object any longer. */
-    static Cleaner.Cleanable whenGone(final Object owner, final Runnable free) {
-        return CLEANER.register(owner, free);
+    /** Runs an action after nothing refers to an object any longer. The action must not refer to the object. */
+    static void whenGone(final Object object, final Runnable action) {
+        CLEANER.register(object, action);
     }
 
     final Handles handles() {
         return handles;
     }
 
-    final long handle(final int index) {
-        return handles.at(index);
-    }
-
+    /**
+     * Frees the memory of this object. If another thread is in a call of this object, the method waits for the end of
+     * the call. Later calls throw an {@link IllegalStateException}. If this object is already closed, nothing happens.
+     */
     @Override
     public void close() {
         cleanable.clean();
+    }
+
+    /** Makes a call with a handle of this object. The collector does not free the handle before the call has ended. */
+    final int make(final Handle handle, final Handle.Call call) {
+        final int result = handle.make(call);
+        Reference.reachabilityFence(this);
+        return result;
+    }
+
+    /** Makes a call with a handle of this object and one of another object. Both stay until the call has ended. */
+    final int make(final Handle handle, final Owner other, final Handle itsHandle, final Handle.PairCall call) {
+        final int result = Handle.make(handle, itsHandle, call);
+        Reference.reachabilityFence(this);
+        Reference.reachabilityFence(other);
+        return result;
     }
 
     static ByteBuffer buffer(final int capacity) {
         return ByteBuffer.allocateDirect(capacity).order(ByteOrder.nativeOrder());
     }
 
-    /** Returns the address of the byte at an index of a direct buffer. */
-    static long addressOf(final ByteBuffer buffer, final int index, final int length) {
-        if (index < 0 || length < 0 || index > buffer.capacity() - length) {
+    /** Undoes what a handler may have done to a buffer: its position, its limit and its order. */
+    static ByteBuffer fresh(final ByteBuffer buffer) {
+        buffer.clear();
+        return buffer.order(ByteOrder.nativeOrder());
+    }
+
+    /** Refuses a part that is not inside a buffer or an array of a length. */
+    static void checkPart(final int index, final int length, final int whole) {
+        if (index < 0 || length < 0 || index > whole - length) {
             throw new IndexOutOfBoundsException("index " + index + ", length " + length);
         }
-        return Native.address(buffer) + index;
+    }
+
+    /** Returns a copy of a part of a buffer. The buffer's position and limit are not used. */
+    static byte[] copyOf(final ByteBuffer buffer, final int index, final int length) {
+        final byte[] bytes = new byte[length];
+        final ByteBuffer its = buffer.duplicate();
+        its.clear().position(index);
+        its.get(bytes);
+        return bytes;
     }
 }

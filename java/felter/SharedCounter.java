@@ -1,5 +1,6 @@
 package felter;
 
+import java.lang.ref.Reference;
 import java.nio.ByteBuffer;
 
 /**
@@ -12,37 +13,48 @@ import java.nio.ByteBuffer;
 public final class SharedCounter extends Owner {
     /** The objects with which one thread adds, which are a handle, and room for the number that a call writes. */
     private static final class Adder {
-        private final Handles handles;
+        private final Handle handle;
         private final ByteBuffer out = buffer(8);
         private final long outAddress = Native.address(out);
 
-        Adder(final Handles handles) {
-            this.handles = handles;
+        Adder(final Handle handle) {
+            this.handle = handle;
         }
 
         long add(final long delta) {
-            Native.must(Native.adderAdd(handles.at(0), delta, outAddress));
-            return out.getLong(0);
+            final long its = handle.enter();
+            try {
+                Native.must(Native.adderAdd(its, delta, outAddress));
+                return out.getLong(0);
+            } finally {
+                handle.leave();
+            }
         }
 
         long value() {
-            Native.must(Native.adderValue(handles.at(0), outAddress));
-            return out.getLong(0);
+            final long its = handle.enter();
+            try {
+                Native.must(Native.adderValue(its, outAddress));
+                return out.getLong(0);
+            } finally {
+                handle.leave();
+            }
         }
     }
 
-    private final Object lock = new Object();
+    private final Handle first = handles().add();
     private final ThreadLocal<Adder> adders = ThreadLocal.withInitial(this::split);
 
     /** Makes a shared counter with the value 0. */
     public SharedCounter() {
-        super(1);
-        Native.must(Native.adderNew(handle(0)));
+        Native.must(make(first, Native::adderNew));
     }
 
     /** Adds {@code delta} to the value, and returns the value before the addition. */
     public long getAndAdd(final long delta) {
-        return adders.get().add(delta);
+        final long before = adders.get().add(delta);
+        Reference.reachabilityFence(this);
+        return before;
     }
 
     /** Adds 1 to the value, and returns the value before the addition. */
@@ -57,42 +69,32 @@ public final class SharedCounter extends Owner {
 
     /** Returns the value, which is the sum of all amounts that were added. */
     public long get() {
-        return adders.get().value();
+        final long value = adders.get().value();
+        Reference.reachabilityFence(this);
+        return value;
     }
 
     private Adder split() {
-        final Handles its = new Handles(1);
-        synchronized (lock) {
-            final int code = Native.adderSplit(handle(0), its.at(0));
-            if (code != Native.OK) {
-                its.run();
-                Native.must(code);
-            }
-        }
-        final Adder adder = new Adder(its);
-        final Handles first = handles();
-        final Object guard = lock;
-        whenGone(adder, () -> giveBack(guard, first, its));
-        return adder;
-    }
-
-    /** Joins the adder of a thread that has ended, or frees it if the shared counter is closed. */
-    private static void giveBack(final Object lock, final Handles first, final Handles its) {
+        final Handles all = handles();
+        final Handle from = first;
+        final Handle its = all.add();
         try {
-            synchronized (lock) {
-                if (first.isOpen()) {
-                    Native.must(Native.adderJoin(first.at(0), its.at(0)));
-                }
-            }
-        } finally {
-            its.run();
+            final Adder adder = new Adder(its);
+            Native.must(Handle.make(from, its, Native::adderSplit));
+            whenGone(adder, () -> giveBack(all, from, its));
+            return adder;
+        } catch (final RuntimeException | Error why) {
+            all.free(its);
+            throw why;
         }
     }
 
-    @Override
-    public void close() {
-        synchronized (lock) {
-            super.close();
+    /** Joins the adder of a thread that has ended, if the shared counter is not closed. */
+    private static void giveBack(final Handles all, final Handle first, final Handle its) {
+        try {
+            Native.must(Handle.make(first, its, Native::adderJoin));
+        } finally {
+            all.free(its);
         }
     }
 }

@@ -140,6 +140,15 @@ NATIVE(jint, transmit)(HERE, jlong transmitter, jint type_id, jlong body, jint l
     return felter_transmit(at(transmitter), type_id, at(body), (size_t)len);
 }
 
+NATIVE(jint, transmitBytes)(HERE, jlong transmitter, jint type_id, jbyteArray body, jint index, jint len) {
+    (void)its;
+    jbyte *bytes = (*env)->GetPrimitiveArrayCritical(env, body, NULL);
+    if (!bytes) return FELTER_OUT_OF_MEMORY;
+    int32_t code = felter_transmit(at(transmitter), type_id, bytes + index, (size_t)len);
+    (*env)->ReleasePrimitiveArrayCritical(env, body, bytes, JNI_ABORT);
+    return code;
+}
+
 NATIVE(jint, subscribe)(HERE, jlong transmitter, jlong receiver) {
     (void)env, (void)its;
     return felter_subscribe(at(transmitter), at(receiver));
@@ -204,7 +213,9 @@ NATIVE(jint, allocate)(HERE, jlong counters, jlong now, jint type_id, jbyteArray
                        jlong registration, jlong owner) {
     (void)its;
     jsize key_len = (*env)->GetArrayLength(env, key), label_len = (*env)->GetArrayLength(env, label);
-    jbyte *keys = (*env)->GetByteArrayElements(env, key, NULL), *labels = (*env)->GetByteArrayElements(env, label, NULL);
+    jbyte *keys = (*env)->GetByteArrayElements(env, key, NULL);
+    /* (no other call of JNI may be made while an exception is pending) */
+    jbyte *labels = keys ? (*env)->GetByteArrayElements(env, label, NULL) : NULL;
     uint32_t id = 0;
     int32_t code = keys && labels
         ? felter_counter_allocate_owned(at(counters), (uint64_t)now, type_id, keys, (size_t)key_len, labels,

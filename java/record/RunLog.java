@@ -33,6 +33,9 @@ public final class RunLog {
 
     private void note(final int kind, final int producer, final long number, final long body, final int type,
                       final int length) {
+        if (producer < 0 || producer > 0xffff) {
+            throw new IllegalArgumentException("the producer " + producer + " is not from 0 to 65,535");
+        }
         if (used == lines.length) {
             lines = Arrays.copyOf(lines, 2 * used);
         }
@@ -127,14 +130,29 @@ public final class RunLog {
         final long length = lines[at + 3] & 0xffffffffL;
         text.append(WORDS[kind]);
         switch (kind) {
-            case EMPTY -> { }
-            case OPEN, ABORTED -> words(text, producer, number, type, length);
-            case COMMITTED -> words(text, producer, number, type, length, body);
-            case FULL -> words(text, producer, length);
-            case SHOWN -> words(text, lines[at + 1] == -1 ? "-" : number, type, length, body);
-            case HEAD -> words(text, number);
-            case POSITIONS -> words(text, number, body);
-            default -> words(text, producer, number, body);
+            case EMPTY:
+                break;
+            case OPEN:
+            case ABORTED:
+                words(text, producer, number, type, length);
+                break;
+            case COMMITTED:
+                words(text, producer, number, type, length, body);
+                break;
+            case FULL:
+                words(text, producer, length);
+                break;
+            case SHOWN:
+                words(text, lines[at + 1] == -1 ? "-" : number, type, length, body);
+                break;
+            case HEAD:
+                words(text, number);
+                break;
+            case POSITIONS:
+                words(text, number, body);
+                break;
+            default:
+                words(text, producer, number, body);
         }
         text.append('\n');
     }
