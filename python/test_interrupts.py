@@ -21,7 +21,7 @@ class Interrupts(Case):
     """Ctrl-C at any place: it stays KeyboardInterrupt, and no claim stays open."""
 
     def interrupt(self, work, times):
-        """Runs work again and again under a timer that interrupts it, until it was interrupted so many times. Each
+        """Runs work again and again under a timer that interrupts it, until it was interrupted `times` times. Each
         interrupt must come out of the work."""
 
         def interrupt(*_):
