@@ -21,7 +21,7 @@ class Interrupts(Case):
     """Ctrl-C at any place: it stays KeyboardInterrupt, and no claim stays open."""
 
     def interrupt(self, work, times):
-        """Runs work again and again under a timer that interrupts it, until this number of interrupts came. Each
+        """Runs work again and again under a timer that interrupts it, until it was interrupted `times` times. Each
         interrupt must come out of the work."""
 
         def interrupt(*_):
@@ -61,7 +61,7 @@ class Interrupts(Case):
                 pass
             producer.write(1, b"body")
 
-        self.interrupt(work, 1000)
+        self.interrupt(work, 300)
         while consumer.read():
             pass
         producer.write(2, b"after")
@@ -86,7 +86,7 @@ class Interrupts(Case):
             while consumer.read():
                 pass
 
-        self.interrupt(whole, 2000)
+        self.interrupt(whole, 600)
         producer.write(9, b"after")
         self.assertEqual(list(consumer)[-1], Message(9, b"after"))
         consumer.close(producer)
@@ -103,7 +103,7 @@ class Interrupts(Case):
             receiver = transmitter.subscribe()
             del transmitter, receiver
 
-        self.interrupt(work, 3000)
+        self.interrupt(work, 600)
 
     @unittest.skipIf(IS_FAST, "the extension has no locks")
     @unittest.skipIf(LEAVES_LOCKS, "this Python leaves locks held")
@@ -114,7 +114,7 @@ class Interrupts(Case):
             # (what a claim that is dropped calls)
             producer._quietly("felter_abort", 7)
 
-        self.interrupt(work, 2000)
+        self.interrupt(work, 300)
         producer.write(1, b"after")
         self.assertEqual(list(consumer), [Message(1, b"after")])
 

@@ -36,7 +36,7 @@ LONGEST_PAUSE = 1e-3
 LONGEST_SLEEP = 0.05
 # A reader pauses until its pauses are longer than this, and then sleeps.
 LAST_PAUSE = 6e-5
-# After this number of messages an iterator of asyncio lets other tasks have a turn.
+# After this many messages an iterator of asyncio lets other tasks have a turn.
 BURST = 64
 
 
