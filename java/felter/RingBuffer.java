@@ -45,7 +45,7 @@ public abstract class RingBuffer extends Owner {
         shown = batch.duplicate();
     }
 
-    /** Returns the producer of the calling thread. A producer does not refer to its ring, so each call keeps the ring. */
+    /** Returns the producer of the calling thread. It does not refer to the ring, so each call has to keep the ring. */
     abstract Producer producer();
 
     /** Returns the capacity of the ring, in bytes. */
