@@ -8,7 +8,7 @@ import subprocess
 import tokenize
 
 TOP = os.path.dirname(os.path.dirname(os.path.abspath(__file__)))
-MOST_LINES_OF_README = 140
+MOST_LINES_OF_README = 200
 MOST_WORDS_OF_CALLS = 20
 STRUCTURES = {"rings", "broadcast buffer", "counters", "conductor"}
 PLACEHOLDER = r"(^|[/_])(NAME|CRATE|X|FILE|FUNCTION|MODULE|TYPE|DIR|PATH)([/_.]|$)"

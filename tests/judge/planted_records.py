@@ -60,19 +60,22 @@ def changes_in(crates, crate):
 
 def planted_records(crates, crate, version):
     """Tries records of a crate. Returns what each of them is, how the crate has to begin by it, and how it begins."""
-    right = sum_of(crates, crate, version)
+    right, kit = sum_of(crates, crate, version), version.split()[0]
     inside = next(it for it in COMMITS if is_in_sample(crate, it))
     outside = next(it for it in COMMITS if not is_in_sample(crate, it))
+    other = sum_of(crates, crate, f"{kit}x")
     records = {
         "none": ("", NEW),
-        "a line without a sum": (f"{crate}\n", NEW),
-        "another digit": (f"{crate} {right[:-1]}{'0' if right[-1] != '0' else '1'}\n", NEW),
-        "the sum of another crate's name": (f"{crate}_tests {right}\n", NEW),
-        "another kit": (f"{crate} {sum_of(crates, crate, version + 'x')}\n", NEW),
+        "a line without a sum": (f"{crate} {kit}\n", NEW),
+        "a line without a kit": (f"{crate} {right}\n", NEW),
+        "another digit": (f"{crate} {kit} {right[:-1]}{'0' if right[-1] != '0' else '1'}\n", NEW),
+        "the sum of another crate's name": (f"{crate}_tests {kit} {right}\n", NEW),
+        "another kit": (f"{crate} {kit} {other}\n", NEW),
+        "two kits": (f"{crate} {kit}x {other}\n{crate} {kit} {right}\n", RECORDED),
     }
     for name, (path, change, wanted) in changes_in(crates, crate).items():
         old = sum_of(crates, crate, version, lambda it: change(read(it)) if it == path else read(it))
-        records[name] = f"{crate} {old}\n", wanted
+        records[name] = f"{crate} {kit} {old}\n", wanted
     with tempfile.TemporaryDirectory(prefix="wrong-bodies-") as room:
         record = Record(f"{room}/sums")
         tried = [("no file", NEW, record.beginning(crate, right, outside))]
@@ -81,12 +84,14 @@ def planted_records(crates, crate, version):
             with open(record.path, "w", encoding="utf-8") as it:
                 it.write(text)
             tried.append((name, wanted, record.beginning(crate, right, outside)))
-        record.add(crate, right, ["refused", "refused"])
+        record.add(crate, f"{kit}x", other, ["refused"])
+        record.add(crate, version, right, ["refused", "refused"])
         tried.append(("written after all were refused", RECORDED, record.beginning(crate, right, outside)))
         tried.append(("a sample of it", SAMPLED, record.beginning(crate, right, inside)))
         for verdicts in (["refused", "ACCEPTED"], ["bad"], ["undecided", "refused"], []):
-            record.add(crate, right, ["refused"])
-            record.add(crate, right, verdicts)
+            record.add(crate, version, right, ["refused"])
+            record.add(crate, version, right, verdicts)
             tried.append((f"written after {verdicts}", NEW, record.beginning(crate, right, outside)))
+        tried.append(("what another kit came to", RECORDED, record.beginning(crate, other, outside)))
     share = sum(is_in_sample(crate, it) for it in COMMITS) / len(COMMITS)
     return [*tried, ("samples have about a tenth", True, 0.07 < share < 0.13)]

@@ -1,7 +1,8 @@
 """What is known of a crate's edits and attacks before they are tried: a sum of all that their verdicts depend on.
 
-tests/refused.sums has a line `CRATE SUM` for each crate whose edits and attacks were all refused, and a folder of this
-machine has a file for each such crate and sum. Both are written by tests/wrong-bodies alone, after it judged.
+tests/refused.sums has a line `CRATE KIT SUM` for each crate whose edits and attacks were all refused by a kit, and a
+folder of this machine has a file for each such crate and sum. Both are written by tests/wrong-bodies alone, after it
+judged.
 """
 import hashlib
 import os
@@ -17,7 +18,7 @@ from .stored import ATTACKS, EDITS
 
 RECORD = f"{TOP}/tests/refused.sums"
 KEPT = os.path.join(os.environ.get("XDG_CACHE_HOME") or os.path.expanduser("~/.cache"), "felter-wrong-bodies")
-HEADER = "# The crates whose wrong bodies were all refused, written by tests/wrong-bodies --record: CRATE SUM\n"
+HEADER = "# The crates whose wrong bodies were all refused, written by tests/wrong-bodies --record: CRATE KIT SUM\n"
 # The scripts on which no verdict depends.
 OTHERS = ("coverage.py", "mutants.py")
 # How a crate begins.
@@ -87,27 +88,33 @@ class Record:
         self.path, self.writing = path, threading.Lock()
 
     def sums(self):
+        """Returns the sums by crate and kit. A crate has a sum for each kit that judged it."""
         text = read(self.path) if os.path.isfile(self.path) else ""
-        return dict(re.findall(r"^(\w+) ([0-9a-f]{64})$", text, re.M))
+        return {(crate, kit): it for crate, kit, it in re.findall(r"^(\w+) (\S+) ([0-9a-f]{64})$", text, re.M)}
 
     def beginning(self, crate, total, commit=None):
         """Returns how a crate begins: recorded, or to be judged, in the sample of a commit if one is given.
 
         total: its sum, or None if less or more than its edits and attacks is to be tried.
         """
-        if not total or self.sums().get(crate) != total:
+        # (a sum covers the kit too)
+        if not total or total not in {it for (name, _), it in self.sums().items() if name == crate}:
             return NEW
         return SAMPLED if commit and is_in_sample(crate, commit) else RECORDED
 
-    def add(self, crate, total, verdicts):
-        """Records a crate if these, of all its edits and attacks, were refused, and takes it out if one was not."""
+    def add(self, crate, version, total, verdicts):
+        """Records what a kit came to: a crate whose edits and attacks were all refused, with these verdicts.
+
+        If one was not refused, the crate has no line of this kit afterwards. The lines of other kits stay.
+        """
+        kit = version.split()[0]
         with self.writing:
             sums = self.sums()
-            sums.pop(crate, None)
+            sums.pop((crate, kit), None)
             if verdicts and set(verdicts) == {"refused"}:
-                sums[crate] = total
+                sums[crate, kit] = total
             with open(self.path, "w", encoding="utf-8") as it:
-                it.writelines([HEADER, *(f"{crate} {total}\n" for crate, total in sorted(sums.items()))])
+                it.writelines([HEADER, *(f"{' '.join(key)} {total}\n" for key, total in sorted(sums.items()))])
 
 
 def kept_path(crate, total, has_copy):
