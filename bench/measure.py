@@ -6,7 +6,8 @@ before the first finds how much fills the time. A figure is the median of the ro
 ratio is the median, over the rounds, of a contender's figure by that of the reference in the same round.
 
 A measurement counts only if the processors that it used ran at full speed before it and after it, and a round only if
-other programs used little meanwhile. The rest is repeated for as long as --patience says. A row of which a round could
+other programs used little meanwhile. A measurement on one thread is cut into slices, each of which has to count. The
+rest is repeated for as long as --patience says. A row of which a round could
 not be measured so has no figure. Each set begins with fresh programs.
 """
 import argparse
@@ -131,11 +132,20 @@ class Setting:
         return self.order[:listed.threads_of(point)] if worker.is_pinned else self.order
 
     def measure(self, worker, contender, point, ms):
-        """What one measurement found, and the slowest time of an add beside it; None if none counted."""
-        used = self.used(worker, point)
+        """What one measurement found, and the slowest time of an add beside it; None if a slice of it did not count.
+
+        A value is the median of the slices.
+        """
+        used, count, slices = self.used(worker, point), listed.slices_of(point), []
         if worker.is_pinned:
             gate.pin(worker.child.pid, used)
-        return self.guard.measure(used, lambda: worker.measure(contender, point, ms))
+        for _ in range(count):
+            found = self.guard.measure(used, lambda: worker.measure(contender, point, ms / count))
+            if found is None or not found[0]:
+                return found
+            slices.append(found)
+        values = {it: statistics.median(found[it] for found, _ in slices) for it in slices[0][0]}
+        return values, max((add for _, add in slices if add is not None), default=None)
 
 
 def measure_round(setting, entries, failed, point, ms):

@@ -3,6 +3,7 @@
 
 - a measurement counts only if each processor was at full speed before and after it. Otherwise it is repeated, a bounded
   number of times and for a bounded time
+- a measurement on one thread has slices, each of which counts by itself, and its figure is their median
 - a row does not count if a better best time shows later that its processors were slow
 - a second processor of a core, as the system or the times say, comes after one of each core in the order of use
 - fewer than three sets, a set that was not gated and a set that ran slower are no figures
@@ -146,6 +147,51 @@ class Counting(unittest.TestCase):
         guard = gate.Gate(None, machine.clock, machine.pause)
         self.assertEqual(guard.measure((3,), machine.call), ("value 1", None))
         self.assertTrue(guard.is_quiet(4))
+
+
+class Slices(unittest.TestCase):
+    """What a measurement comes to whose slices count one by one."""
+
+    def measured(self, workload, times, *readings, **options):
+        """What a measurement of 14 ms came to, and the times that were asked for. The slices take these times in turn."""
+        asked, times = [], list(times)
+
+        def measure_slice(_contender, _point, ms):
+            asked.append(ms)
+            return {"ns": times.pop(0)} if times else {}
+
+        worker = types.SimpleNamespace(name="w", is_pinned=True, child=types.SimpleNamespace(pid=os.getpid()),
+                                       measure=measure_slice)
+        setting = measure.Setting(Machine(*readings).gate(**options), [3, 2], [])
+        pin, gate.pin = gate.pin, lambda *_: None
+        try:
+            return setting.measure(worker, "a", points.Point(workload, 8, 65536, 1, 15), 14), asked
+        finally:
+            gate.pin = pin
+
+    def test_a_figure_on_one_thread_is_the_median_of_its_slices(self):
+        found, asked = self.measured("batches", [9.0, 5.0, 6.0, 9.0, 5.0, 6.0, 7.0], FAST)
+        self.assertEqual((found, asked), (({"ns": 6.0}, FAST), [2.0] * 7))
+
+    def test_only_the_slice_beside_a_slow_processor_is_repeated(self):
+        readings = [FAST] * 3 + [SLOW] + [FAST]
+        found, asked = self.measured("batches", [5.0, 99.0, 5.0, 5.0, 5.0, 5.0, 5.0, 5.0], *readings)
+        self.assertEqual((found, len(asked)), (({"ns": 5.0}, FAST), 8))
+
+    def test_a_slice_that_never_counts_leaves_no_figure(self):
+        found, asked = self.measured("batches", [5.0] * 7, FAST, FAST, SLOW, tries=3)
+        self.assertEqual((found, len(asked)), (None, 1))
+
+    def test_a_contender_without_the_point_has_no_figure(self):
+        self.assertEqual(self.measured("batches", [], FAST), (({}, FAST), [2.0]))
+
+    def test_the_slowest_add_beside_a_slice_is_kept(self):
+        found, _ = self.measured("batches", [5.0] * 7, FAST, FAST * 1.05, FAST)
+        self.assertEqual(found, ({"ns": 5.0}, FAST * 1.05))
+
+    def test_threads_that_have_to_start_are_measured_in_one_piece(self):
+        found, asked = self.measured("pair", [5.0], FAST)
+        self.assertEqual((found, asked), (({"ns": 5.0}, FAST), [14]))
 
 
 class Rounds(unittest.TestCase):
