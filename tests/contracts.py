@@ -1,6 +1,8 @@
 """The public calls of a library with their contracts, as its CALLING.md has them."""
+import itertools
 import os
 import re
+import textwrap
 
 TOP = os.path.dirname(os.path.dirname(os.path.realpath(__file__)))
 CALL = re.compile(r"^( *)(pub )?((?:const |unsafe |extern \"C\" )*fn (\w+).*)$")
@@ -9,10 +11,10 @@ HEAD = """# Calling `%s`
 
 %s
 
-The public calls with their contracts, quoted from `src` by `tests/calling`: first the calls of types, then free functions,
-then those of traits. Above each call is the first sentence of its doc comment. In a clause
-`self.old` and `self.new` are `self` before and after the call, and `self.now` is what a shared reference shows; `specs`
-defines the words, and docs/READING.md explains the symbols.
+This page has the public calls with their contracts, quoted from `src` by `tests/calling`. First come the calls of types,
+then free functions, and then the calls of traits. Above each call is the first sentence of its doc comment. In a clause
+`self.old` and `self.new` are `self` before and after the call, and `self.now` is what a shared reference shows. The
+definitions of the words are in `specs`. docs/READING.md explains the symbols.
 
 %s
 """
@@ -131,6 +133,12 @@ def is_fault(calls):
     return all(re.search(r"(?m)^fn code", call) for call in calls)
 
 
+def first_paragraph(crate):
+    """The first paragraph of what lib.rt says of the crate."""
+    said = itertools.takewhile(lambda line: re.match(r"//! ", line), lines_of(f"{TOP}/crates/{crate}/src/lib.rt"))
+    return textwrap.fill(" ".join(line[4:].strip() for line in said), 120, break_long_words=False, break_on_hyphens=False)
+
+
 def calling(crate):
     """The page: a heading for each type, for the free functions and for each trait. Types with many calls come first, and
     of a type the calls that make it; otherwise the order is that of the files."""
@@ -148,6 +156,4 @@ def calling(crate):
         title = "Free functions" if is_free else "%s`%s`" % ("Trait " if is_trait else "", of_type)
         calls = sorted(groups[key], key=lambda call: not re.search(r"(?m)^fn new", call))
         parts.append("## %s\n\n```text\n%s\n```" % (title, "\n\n".join(calls)))
-    first = next(line[3:].strip() for line in lines_of(os.path.join(TOP, "crates", crate, "src/lib.rt"))
-                 if line.startswith("//!"))
-    return HEAD % (crate, first, "\n\n".join(parts))
+    return HEAD % (crate, first_paragraph(crate), "\n\n".join(parts))
