@@ -219,40 +219,64 @@ static inline int felter_sends_again(int32_t code, felter_pause *pause) {
     return (code == FELTER_INSUFFICIENT_CAPACITY || code == FELTER_CONTENDED) && felter_pauses(pause);
 }
 
-/* Polls for the reply to a command, unless `sent` says that the command was refused. */
-FELTER_GUARD int32_t felter_await(felter_client *client, int32_t sent, felter_pause *pause, felter_answer *answer) {
-    uint64_t lapped = 0, after = 0;
-    unsigned others = 0, waits = 0;
-    int is_lapped = 0, has_after = 0;
+/* What a request knows while it waits for the reply. Initialise a felter_waiting with FELTER_NOT_WAITED. */
+typedef struct felter_waiting {
+    uint64_t after;  /* the id of the second command */
+    unsigned others; /* the replies to other commands */
+    unsigned waits;  /* the polls since the client was lapped */
+    int is_lapped;   /* whether the reply may be lost */
+    int has_after;   /* whether the second command was sent */
+} felter_waiting;
+
+#define FELTER_NOT_WAITED {0, 0, 0, 0, 0}
+
+/* Polls once for the reply to a command that was sent. Returns 1 if the request has ended, and writes its code. Returns
+ * 0 if the caller should poll again. Then the function has paused, if a pause was due. */
+static inline int felter_awaits(felter_client *client, felter_waiting *it, felter_pause *pause, felter_answer *answer,
+                                int32_t *code) {
+    uint64_t lapped = 0;
     int32_t kind = 0;
     int64_t number = 0;
+    *code = felter_poll(client, it->has_after ? it->after : answer->id, &kind, &number, &lapped);
+    answer->outcome = it->is_lapped ? FELTER_OUTCOME_UNKNOWN : FELTER_OUTCOME_PENDING;
+    if (*code == FELTER_OK) {
+        answer->outcome = it->has_after ? FELTER_OUTCOME_TAKEN : FELTER_OUTCOME_REPLIED;
+        if (it->has_after) {
+            *code = FELTER_LAPPED;
+            return 1;
+        }
+        answer->kind = kind;
+        answer->number = number;
+        return 1;
+    }
+    if (*code == FELTER_LAPPED) {
+        it->is_lapped = 1;
+        it->has_after = 0;
+        it->waits = 0;
+        return 0;
+    }
+    if (*code != FELTER_NO_MESSAGE && *code != FELTER_OTHER_REPLY) return 1;
+    /* While replies to other commands come, the call does not sleep. It looks at the time once in 64 replies. */
+    if (*code == FELTER_OTHER_REPLY) pause->turns = 0;
+    if (*code == FELTER_OTHER_REPLY && ++it->others % 64 != 0) return 0;
+    if (!felter_pauses(pause)) {
+        *code = it->is_lapped ? FELTER_LAPPED : FELTER_NO_MESSAGE;
+        return 1;
+    }
+    /* The reply may still come, so the call first waits for the reply. */
+    if (it->is_lapped && !it->has_after && ++it->waits > 16)
+        it->has_after = felter_send_free(client, FELTER_NO_COUNTER, &it->after) == FELTER_OK;
+    return 0;
+}
+
+/* Polls for the reply to a command, unless `sent` says that the command was refused. */
+FELTER_GUARD int32_t felter_await(felter_client *client, int32_t sent, felter_pause *pause, felter_answer *answer) {
+    felter_waiting waiting = FELTER_NOT_WAITED;
+    int32_t code = sent;
     answer->outcome = FELTER_OUTCOME_NOT_SENT;
     if (sent != FELTER_OK) return sent;
-    for (;;) {
-        int32_t code = felter_poll(client, has_after ? after : answer->id, &kind, &number, &lapped);
-        answer->outcome = is_lapped ? FELTER_OUTCOME_UNKNOWN : FELTER_OUTCOME_PENDING;
-        if (code == FELTER_OK) {
-            answer->outcome = has_after ? FELTER_OUTCOME_TAKEN : FELTER_OUTCOME_REPLIED;
-            if (has_after) return FELTER_LAPPED;
-            answer->kind = kind;
-            answer->number = number;
-            return FELTER_OK;
-        }
-        if (code == FELTER_LAPPED) {
-            is_lapped = 1;
-            has_after = 0;
-            waits = 0;
-            continue;
-        }
-        if (code != FELTER_NO_MESSAGE && code != FELTER_OTHER_REPLY) return code;
-        /* While replies to other commands come, the call does not sleep. It looks at the time once in 64 replies. */
-        if (code == FELTER_OTHER_REPLY) pause->turns = 0;
-        if (code == FELTER_OTHER_REPLY && ++others % 64 != 0) continue;
-        if (!felter_pauses(pause)) return is_lapped ? FELTER_LAPPED : FELTER_NO_MESSAGE;
-        /* The reply may still come, so the call first waits for the reply. */
-        if (is_lapped && !has_after && ++waits > 16)
-            has_after = felter_send_free(client, FELTER_NO_COUNTER, &after) == FELTER_OK;
-    }
+    while (!felter_awaits(client, &waiting, pause, answer, &code)) continue;
+    return code;
 }
 
 /* Makes a request with the command of felter_send_allocate_owned. The owner 0 means that the counter has no owner. */

@@ -6,7 +6,8 @@
 // about a millisecond late.
 //
 // Each of these calls also returns FELTER_NO_MESSAGE if the other side is gone and no message is left. A reader that
-// sleeps does not learn this until it is woken, so call sleepers::wake after the last writer was freed or closed.
+// sleeps does not learn this until it is woken, so call sleepers::wake after the last writer was freed or closed. A
+// request ends soon after the conductor was freed.
 #ifndef FELTER_WAIT_HPP
 #define FELTER_WAIT_HPP
 
@@ -104,37 +105,57 @@ inline result<message> receive_asleep(receiver &from, sleepers &in, buffer into,
     return detail::until_woken(from, in.raw(), timeout, [&] { return from.receive(into); });
 }
 
-// The outcome of a request, and what is known of its command. A request does not notice that the conductor is gone. So
-// pass a timeout, and test client::is_abandoned if no reply came.
+// The outcome of a request, and what is known of its command.
 struct requested {
     felter::code why;
     felter_answer answer;
 };
 
+namespace detail {
+// Calls `send` again and again while the ring is full or another client is faster, and then waits for the reply. If the
+// conductor is gone, the call makes the last try and looks for the reply once more.
+template <class Send>
+requested request(client &by, std::chrono::milliseconds timeout, Send send) {
+    felter_pause pause = {0, 0, as_timeout(timeout)};
+    felter_waiting waiting = FELTER_NOT_WAITED;
+    felter_answer answer{};
+    std::int32_t why = FELTER_OK;
+    answer.outcome = FELTER_OUTCOME_NOT_SENT;
+    do {
+        if (by.is_abandoned()) pause.timeout = 0;
+        why = send(&answer.id);
+    } while (felter_sends_again(why, &pause));
+    if (why != FELTER_OK) return {why, answer};
+    do {
+        // With the timeout 0 this poll is the last one.
+        if (by.is_abandoned()) pause.timeout = 0;
+    } while (!felter_awaits(by.raw(), &waiting, &pause, &answer, &why));
+    return {why, answer};
+}
+} // namespace detail
+
+// Requests. If the conductor is gone, a request does not wait until the timeout has passed. It ends with the code that
+// it would return after the timeout.
 inline requested request_allocate(client &by, std::int32_t type_id, bytes key, bytes label,
                                   std::chrono::milliseconds timeout, std::uint64_t of = 0) {
-    felter_answer answer{};
-    const std::int32_t why = felter_request_allocate(by.raw(), type_id, of, key.data(), key.size(), label.data(),
-                                                     label.size(), detail::as_timeout(timeout), &answer);
-    return {why, answer};
+    return detail::request(by, timeout, [&](std::uint64_t *id) {
+        return of ? felter_send_allocate_owned(by.raw(), type_id, of, key.data(), key.size(), label.data(),
+                                               label.size(), id)
+                  : felter_send_allocate(by.raw(), type_id, key.data(), key.size(), label.data(), label.size(), id);
+    });
 }
 
 inline requested request_free(client &by, std::uint32_t counter, std::chrono::milliseconds timeout) {
-    felter_answer answer{};
-    const std::int32_t why = felter_request_free(by.raw(), counter, detail::as_timeout(timeout), &answer);
-    return {why, answer};
+    return detail::request(by, timeout, [&](std::uint64_t *id) { return felter_send_free(by.raw(), counter, id); });
 }
 
 inline requested request_set(client &by, std::uint32_t counter, std::int64_t value, std::chrono::milliseconds timeout) {
-    felter_answer answer{};
-    const std::int32_t why = felter_request_set(by.raw(), counter, value, detail::as_timeout(timeout), &answer);
-    return {why, answer};
+    return detail::request(by, timeout,
+                           [&](std::uint64_t *id) { return felter_send_set(by.raw(), counter, value, id); });
 }
 
 inline requested request_close_owner(client &by, std::uint64_t of, std::chrono::milliseconds timeout) {
-    felter_answer answer{};
-    const std::int32_t why = felter_request_close_owner(by.raw(), of, detail::as_timeout(timeout), &answer);
-    return {why, answer};
+    return detail::request(by, timeout, [&](std::uint64_t *id) { return felter_send_close_owner(by.raw(), of, id); });
 }
 
 // An eventfd for poll and epoll. The destructor closes it.

@@ -141,6 +141,27 @@ void requests() {
     working.join();
 }
 
+// Requests end if the conductor is gone: those that wait for a reply, and those that find the ring full.
+void abandoned_requests() {
+    auto conductor = felter::conductor::make(1024, 4096, 8).value();
+    auto client = conductor.client().value();
+    auto other = conductor.client().value();
+    felter::requested waited{};
+    std::thread waiting([&] { waited = felter::request_set(client, 0, 1, felter::for_ever); });
+    while (conductor.work(0).value().messages == 0) std::this_thread::yield();
+    waiting.join();
+    CHECK(waited.why == FELTER_OK && waited.answer.number == FELTER_NOT_ALLOCATED);
+    std::thread leaving([&] { waited = felter::request_set(client, 0, 1, felter::for_ever); });
+    // Any moment of the request may be that at which the conductor goes.
+    conductor = felter::conductor();
+    leaving.join();
+    CHECK(waited.why == FELTER_NO_MESSAGE && waited.answer.outcome == FELTER_OUTCOME_PENDING);
+    while (other.set(0, 1)) continue;
+    const auto refused = felter::request_set(other, 0, 1, felter::for_ever);
+    CHECK(refused.why == FELTER_INSUFFICIENT_CAPACITY && refused.answer.outcome == FELTER_OUTCOME_NOT_SENT);
+    CHECK(client.is_abandoned() && other.is_abandoned());
+}
+
 } // namespace
 
 int main() {
@@ -149,5 +170,6 @@ int main() {
     sleeping_receivers();
     doorbells();
     requests();
+    abandoned_requests();
     return failed != 0;
 }
