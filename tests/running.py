@@ -165,6 +165,14 @@ class Live(Checks):
             is_calm = numbers.get("felter_ring_blocked") == "0" and numbers.get("felter_findings") == "0"
             self.check(f"look {k} alarms nobody", status == 0 and is_calm, text)
 
+    def look_at_torn(self, pid):
+        """A ring is found although four reads show positions that do not belong together."""
+        torn = os.path.join(self.folder, "torn.so")
+        subprocess.run(["cc", "-std=gnu11", "-shared", "-fPIC", f"{TOP}/tests/torn.c", "-o", torn, "-ldl"], check=True)
+        run = subprocess.run([self.program, "find", str(pid)], capture_output=True, text=True, timeout=60, check=False,
+                             env=dict(os.environ, LD_PRELOAD=torn, TORN="4"))
+        self.check("torn reads hide no ring", "  capacity 65536  (sure)" in run.stdout and run.returncode == 0, run)
+
     def look_at_others(self):
         """Processes that have nothing, and one that may not be read."""
         with subprocess.Popen(["sleep", "60"]) as other:
@@ -199,5 +207,6 @@ class Live(Checks):
         subprocess.run(["cc", "-std=gnu11", "-O1", *sources, "-pthread", "-o", self.target], check=True)
         self.run(self.look)
         self.run(self.look_at_busy, "busy")
+        self.run(self.look_at_torn, "busy")
         print(f"running programs: {self.wrong} wrong")
         return self.wrong

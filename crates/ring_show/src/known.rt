@@ -58,6 +58,26 @@ fn is_trailer(kind: Kind, capacity: u64, words: &[u64]) -> bool {
     is_clear && first % 8 == 0 && second % 8 == 0 && first.abs_diff(second) <= capacity.min(MOST)
 }
 
+/// Tests whether the trailer of a ring or a broadcast buffer comes after the words that a table names. If the program
+/// runs, the positions may change a lot between the reads of two of them. So the trailer is read several times.
+fn has_trailer<R: AllocGlobal + Files + Input>(
+    rt: &R,
+    pieces: Pieces<'_>,
+    kind: Kind,
+    table: Table,
+) -> bool {
+    let address = table.words.saturating_add(table.capacity);
+    for _ in 0..ROUNDS {
+        let Some(words) = pieces.words(rt, address, kind.trailer()) else {
+            return false;
+        };
+        if is_trailer(kind, table.capacity, words.as_slice()) {
+            return true;
+        }
+    }
+    false
+}
+
 /// Returns the ring or the broadcast buffer that a table names, if it is in memory.
 fn known_at<R: AllocGlobal + Files + Input>(
     rt: &R,
@@ -76,8 +96,7 @@ fn known_at<R: AllocGlobal + Files + Input>(
     } else {
         None
     };
-    let words = pieces.words(rt, table.words.saturating_add(capacity), kind.trailer())?;
-    if !is_trailer(kind, capacity, words.as_slice()) {
+    if !has_trailer(rt, pieces, kind, table) {
         return None;
     }
     Some(Found {
