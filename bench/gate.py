@@ -6,8 +6,9 @@ import subprocess
 MARGIN = 0.1  # by how much of the best time of an add a processor at full speed may be slower
 LOWER = 1.3  # how many times slower processors at full speed may be if more of them run at once
 OTHERS = 0.25  # processors that other programs may use during a round
-TRIES = 100  # how often a measurement is tried at most
-REST = 0.01  # seconds until a slow processor is asked again
+TRIES = 10000  # how often a measurement or a slice of one is tried at most
+REST = 0.003  # seconds until a slow processor is asked again
+LEARN = 3  # seconds in which the best time of an add is looked for at first
 
 
 class Speed:
@@ -54,6 +55,13 @@ class Gate:
     def start(self, patience):
         """Begins a set, in which repeating may take this many seconds. The best time stays known."""
         self.patience, self.repeated = patience, 0
+
+    def learn(self, processors):
+        """Looks for the best time of an add on each of these processors, before anything is measured."""
+        began = self.clock()
+        while self.look and self.clock() - began < LEARN:
+            for processor in processors:
+                self.slowest((processor,))
 
     def slowest(self, processors):
         """The time of an add on the slowest of these processors. It may show a better best time."""

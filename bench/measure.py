@@ -6,8 +6,8 @@ before the first finds how much fills the time. A figure is the median of the ro
 ratio is the median, over the rounds, of a contender's figure by that of the reference in the same round.
 
 A measurement counts only if the processors that it used ran at full speed before it and after it, and a round only if
-other programs used little meanwhile. A measurement on one thread is cut into slices, each of which has to count. The
-rest is repeated for as long as --patience says. A row of which a round could
+other programs used little meanwhile. On one and two threads a measurement is cut into slices, each of which has to
+count. The rest is repeated for as long as --patience says. A row of which a round could
 not be measured so has no figure. Each set begins with fresh programs.
 """
 import argparse
@@ -250,6 +250,7 @@ def arguments():
                                   formatter_class=argparse.RawDescriptionHelpFormatter)
     ask.add_argument("--quick", action="store_true", help="one set of fewer points, 5 rounds, short measurements")
     ask.add_argument("--only", default="", metavar="batches,pair..", help="these workloads alone")
+    ask.add_argument("--sizes", default="", metavar="8,32..", help="messages of these sizes alone, in bytes")
     ask.add_argument("--contenders", default="", metavar="REGEX", help="those whose name it matches, and the reference")
     ask.add_argument("--sets", type=int, default=0, metavar="N", help=f"sets, one after another; {SETS} without it")
     ask.add_argument("--reps", type=int, default=0, metavar="N", help="rounds of a set, 7 if it is not given")
@@ -267,6 +268,10 @@ def arguments():
     for name in filter(None, options.only.split(",")):
         if name not in listed.WORKLOADS:
             ask.error(f"there is no workload {name}")
+    try:
+        options.sizes = {int(it) for it in filter(None, options.sizes.split(","))}
+    except ValueError:
+        ask.error("--sizes takes numbers of bytes, such as 8,32")
     options.reps = options.reps or (5 if options.quick else 7)
     options.sets = options.sets or (1 if options.quick else SETS)
     return options
@@ -276,7 +281,7 @@ def measure_all(setting, workers, options):
     """The rows of a set, by point and contender why it has no row, and the rounds."""
     wanted, results, refused, rounds = set(filter(None, options.only.split(","))), [], [], []
     for point in listed.points(options.quick):
-        if wanted and point.workload not in wanted:
+        if (wanted and point.workload not in wanted) or (options.sizes and point.size not in options.sizes):
             continue
         time.sleep(options.pause)
         found, failed = measure_point(setting, workers, point, options)
@@ -354,6 +359,7 @@ def main():
     speed = gate.Speed(options.speed) if options.speed and not options.ungated else None
     guard = gate.Gate(speed and speed.adds, time.monotonic, time.sleep)
     found, sets = cores.Cores(speed), []
+    guard.learn(found.order)
     setting = Setting(guard, found.order, [os.getpid(), *([speed.child.pid] if speed else [])])
     print("bench: processors are used in this order:", *found.order, file=sys.stderr)
     for number in range(options.sets):

@@ -5,11 +5,12 @@
   bench/page.py --check                writes nothing: says what would change, with status 1 if anything would
   bench/page.py --keep RUN FILE.. [--twins TEXT]
                                        first keeps the sets of `bench/run --json FILE` as the run RUN: `sets`, or
+                                       `alone` or `pair` if only rows on one thread or with two were measured, or
                                        `queues` or `felter` if other queues or the calls of felter.h were measured
                                        apart. Three gated sets are needed; a row that one of them has not is left out.
-                                       Sets that have the other queues or the calls of felter.h replace what was kept
-                                       as `queues` or `felter`
-  bench/page.py --forget RUN           first drops what was kept as queues or felter
+                                       Rows of `alone` and `pair` are shown in place of those of `sets`. New sets
+                                       replace both, and `queues` and `felter` if they have such rows
+  bench/page.py --forget RUN           first drops what was kept as alone, pair, queues or felter
 """
 import argparse
 import os
@@ -101,12 +102,13 @@ def read(path):
 
 
 def replaced(runs):
-    """The runs that the sets have all of: those of the calls of felter.h, and of other queues."""
+    """The runs that the sets replace: parts of them, and those of the calls of felter.h and of other queues."""
     of_queues = [("", workload, queue, size, threads, metric)
                  for _, (workload, size, threads, metric), _, queues in USER_ROWS
                  for column, names in queues.items() if column != "rtrb" for queue in names]
-    return [name for name, rows in (("felter", C_ROWS), ("queues", of_queues))
-            if name in runs and sections.measured(runs["sets"], rows)]
+    others = [name for name, rows in (("felter", C_ROWS), ("queues", of_queues))
+              if name in runs and sections.measured(runs["sets"], rows)]
+    return [*(name for name in results.PARTS if name in runs), *others]
 
 
 def main():
@@ -114,7 +116,7 @@ def main():
                                   formatter_class=argparse.RawDescriptionHelpFormatter)
     ask.add_argument("--check", action="store_true")
     ask.add_argument("--keep", nargs="+", metavar="RUN SET", default=[])
-    ask.add_argument("--forget", choices=("queues", "felter"), action="append", default=[])
+    ask.add_argument("--forget", choices=(*results.PARTS, "queues", "felter"), action="append", default=[])
     ask.add_argument("--twins", default="those of bench/twins")
     options = ask.parse_args()
     runs = results.load()
@@ -132,7 +134,7 @@ def main():
     if options.keep or options.forget:
         results.save(runs)
     stale = []
-    for path, wanted in made(runs).items():
+    for path, wanted in made(results.shown(runs)).items():
         had = read(path)
         if not isinstance(wanted, str):
             text = had

@@ -18,7 +18,8 @@ WORKLOADS = {
 RING = 65536  # bytes of a ring or a broadcast buffer
 STORM_RING = 1024
 COMMAND = 20  # bytes of the command Set
-SLICES = 7  # of a measurement on one thread
+SLICES = 7  # of a measurement of these workloads
+SLICED = ("batches", "sparse", "pair")
 LENGTHS = (8, 16, 32, 64, 128, 256, 512, 1024, 2048, 4096)
 PRODUCERS = (2, 3, 4, 6, 8)
 CLIENTS = (1, 2, 4, 8, 16, 32, 64)
@@ -56,8 +57,8 @@ def threads_of(point):
 
 
 def slices_of(point):
-    """How many slices a measurement is cut into. Threads that start for each slice would make the others longer."""
-    return SLICES if threads_of(point) == 1 else 1
+    """How many slices a measurement is cut into. A percentile of a slice would leave out rare delays."""
+    return SLICES if point.workload in SLICED else 1
 
 
 def label(key):

@@ -9,17 +9,27 @@ import statistics
 FILE = os.path.join(os.path.dirname(os.path.abspath(__file__)), "results.json")
 TWINS = ("-ar", "-sc", "-pb", "-pb-batch")
 SETS = 3  # that a figure needs
+# Runs whose rows are shown in place of those of the sets, and what they measured.
+PARTS = {"alone": "on one thread", "pair": "of plain rings with two threads"}
 
 
 class Refused(Exception):
     """Sets that are no figures, and why."""
 
 
+def earlier(rows):
+    """The workloads of a run whose plain rings have no `write_batch`."""
+    has_batches = any(it["contender"] in ("plain-o2o-batch", "plain-m2o-batch") for it in rows)
+    return set() if has_batches else {it["workload"] for it in rows}
+
+
 class Run:
     """One run: its sets, taken one after another in one way."""
 
-    def __init__(self, about, rows):
+    def __init__(self, about, rows, older=None):
         self.about, self.rows = about, rows
+        # (the workloads whose plain rings are earlier ones, without `write_batch`)
+        self.older = earlier(rows) if older is None else older
         self.found = {(it["workload"], it["contender"], it["size"], it["threads"], it["metric"]): it for it in rows}
 
     def ns(self, *key):
@@ -41,6 +51,23 @@ class Run:
 def load(path=FILE):
     with open(path, encoding="utf-8") as file:
         return {name: Run(run["about"], run["rows"]) for name, run in json.load(file).items()}
+
+
+def has_words(contender):
+    """Whether a contender is one of our structures with bodies in words, or the twin `sc` of one."""
+    return contender.startswith("ours-") or contender.endswith("-sc")
+
+
+def shown(runs):
+    """The runs as pages show them. Of the workloads of a part the sets have only what the part lacks of bodies in words."""
+    parts = [runs[name] for name in PARTS if name in runs]
+    measured = {it["workload"] for part in parts for it in part.rows}
+    has = {(it["workload"], it["contender"]) for part in parts for it in part.rows}
+    sets = runs["sets"]
+    rows = [it for it in sets.rows if it["workload"] not in measured
+            or (has_words(it["contender"]) and (it["workload"], it["contender"]) not in has)]
+    rows += [it for part in parts for it in part.rows]
+    return {**runs, "sets": Run(sets.about, rows, sets.older - measured)}
 
 
 def save(runs, path=FILE):

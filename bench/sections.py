@@ -2,6 +2,7 @@
 import statistics
 import textwrap
 
+from results import PARTS
 from rows import (BATCH_ROWS, BROADCAST_ROWS, C_LENGTH_ROWS, C_ROWS, FORM_ROWS, JAVA_ROWS, LENGTH_ROWS, OTHER_ROWS,
                   README_QUEUES, README_ROWS, SECTIONS, USER_QUEUES, USER_ROWS, twin_of)
 
@@ -106,8 +107,17 @@ def user_cells(runs, row):
     return cells
 
 
+def about_all(runs, what):
+    """How the sets were measured, and how the parts of them that were measured apart."""
+    parts = [name for name in PARTS if name in runs]
+    for name in parts:
+        yield from about(runs[name], f"In the rows {PARTS[name]}, {what}")
+        yield ""
+    yield from about(runs["sets"], f"In all other rows, {what}" if parts else what[0].upper() + what[1:])
+
+
 def users(runs):
-    yield from about(runs["sets"], "Our programs and the twins were" if "queues" in runs else "All programs were")
+    yield from about_all(runs, "our programs and the twins were" if "queues" in runs else "all programs were")
     yield ""
     if "queues" in runs:
         yield from about(runs["queues"], "The queues were")
@@ -237,8 +247,16 @@ def from_java(runs):
 
 
 def are_older(runs):
-    """Whether the sets are older than the rings that they are shown for: `write_batch` is not in them."""
-    return not measured(runs["sets"], [(*row, "ns") for row in BATCH_ROWS])
+    """Whether some rows are of earlier plain rings."""
+    return bool(runs["sets"].older)
+
+
+def readme_label(runs, label, workload, contenders):
+    """The label of a row, which names a plain ring that is an earlier one, and the fraction that receivers copied."""
+    if workload == "broadcast":
+        parts = [runs["sets"].ns(workload, who, 64, 2, "copied") for who in contenders]
+        return label + "; a receiver copied {:.2f} of the messages (with `ar` {:.2f})".format(*parts)
+    return label + (" (an earlier ring)" if workload in runs["sets"].older else "")
 
 
 def readme(runs):
@@ -247,16 +265,13 @@ def readme(runs):
         workload, size, threads, metric = point
         twin = twin_of(ours) + "-ar"
         key = (workload, ours, size, threads, metric)
-        if workload == "broadcast":
-            parts = [runs["sets"].ns(workload, who, size, threads, "copied") for who in (ours, twin)]
-            label += "; a receiver copied {:.2f} of the messages (with `ar` {:.2f})".format(*parts)
-        cells = [label, nanos(runs["sets"], *key), times(runs["sets"].against(twin, *key))]
+        cells = [readme_label(runs, label, workload, (ours, twin)), nanos(runs["sets"], *key),
+                 times(runs["sets"].against(twin, *key))]
         for name, _ in README_QUEUES:
             keys = [(workload, queue, size, threads, metric) for queue in queues.get(name, ())]
             cells.append(times(of_queue(runs, twin, *keys)))
         lines.append(cells)
-    head = "the plain rings are earlier ones, called below the [ends](docs/USING.md)" if are_older(runs) else ""
-    yield from table([head, "ours, ns", "ours", *(title for _, title in README_QUEUES)], lines)
+    yield from table(["", "ours, ns", "ours", *(title for _, title in README_QUEUES)], lines)
 
 
 def all_rows(runs):
@@ -266,7 +281,7 @@ def all_rows(runs):
     yield "`bench/page.py` writes this page from `bench/results.json`."
     yield "[PERFORMANCE.md](../docs/PERFORMANCE.md) says what the figures mean."
     yield ""
-    yield from about(runs["sets"], "These rows were")
+    yield from about_all(runs, "the programs were")
     yield ""
     for title, rows in [(title, measured(runs["sets"], rows)) for title, rows in SECTIONS]:
         if not rows:

@@ -3,7 +3,7 @@
 
 - a measurement counts only if each processor was at full speed before and after it. Otherwise it is repeated, a bounded
   number of times and for a bounded time
-- a measurement on one thread has slices, each of which counts by itself, and its figure is their median
+- a measurement that has slices counts slice by slice, and its figure is their median
 - a row does not count if a better best time shows later that its processors were slow
 - a second processor of a core, as the system or the times say, comes after one of each core in the order of use
 - fewer than three sets, a set that was not gated and a set that ran slower are no figures
@@ -124,6 +124,13 @@ class Counting(unittest.TestCase):
         kept, refused = measure.full_speed(guard, rows)
         self.assertEqual((kept, refused), (rows[:1], [["pair", "b", 8, 1, "slow"]]))
 
+    def test_the_best_time_is_looked_for_before_anything_is_measured(self):
+        machine = Machine(SLOW, SLOW, FAST, SLOW)
+        guard = machine.gate(best=None)
+        guard.learn((3, 2))
+        self.assertEqual((guard.best, guard.repeated, set(machine.asked)), ({1: FAST}, 0, {(3,), (2,)}))
+        self.assertLess(machine.now, gate.LEARN + 0.01)
+
     def test_more_processors_are_not_so_much_slower(self):
         machine = Machine(FAST, FAST, (SLOW, SLOW))
         guard = machine.gate(best=None, tries=3)
@@ -162,7 +169,7 @@ class Slices(unittest.TestCase):
         finally:
             gate.pin = pin
 
-    def test_a_figure_on_one_thread_is_the_median_of_its_slices(self):
+    def test_a_figure_is_the_median_of_its_slices(self):
         found, asked = self.measured("batches", [9.0, 5.0, 6.0, 9.0, 5.0, 6.0, 7.0], FAST)
         self.assertEqual((found, asked), (({"ns": 6.0}, FAST), [2.0] * 7))
 
@@ -182,8 +189,8 @@ class Slices(unittest.TestCase):
         found, _ = self.measured("batches", [5.0] * 7, FAST, FAST * 1.05, FAST)
         self.assertEqual(found, ({"ns": 5.0}, FAST * 1.05))
 
-    def test_threads_that_have_to_start_are_measured_in_one_piece(self):
-        found, asked = self.measured("pair", [5.0], FAST)
+    def test_percentiles_are_measured_in_one_piece(self):
+        found, asked = self.measured("trips", [5.0], FAST)
         self.assertEqual((found, asked), (({"ns": 5.0}, FAST), [14]))
 
 

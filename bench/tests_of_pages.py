@@ -99,13 +99,31 @@ class Figures(unittest.TestCase):
         self.assertEqual(page.between("a\n\nc\n", "p", "older", []), "a\n\nc\n")
         self.assertEqual(page.between(text, "p", "older", None), text)
 
-    def test_readme_says_how_older_rings_were_called(self):
-        runs, are_older = results.load(), sections.are_older
-        self.addCleanup(setattr, sections, "are_older", are_older)
-        for is_older in (False, True):
-            sections.are_older = lambda _runs, is_older=is_older: is_older
-            head = next(sections.readme(runs)).split(" | ")[0]
-            self.assertEqual("called below the [ends]" in head, is_older)
+    def test_readme_names_the_rows_of_earlier_rings(self):
+        runs = results.load()
+        for older, count in (({"pair", "trips"}, 3), (set(), 0)):
+            runs["sets"].older = older
+            labels = [line.split(" | ")[0] for line in sections.readme(runs)][2:]
+            named = [label for label in labels if label.endswith(" (an earlier ring)")]
+            self.assertEqual(len(named), count)
+            self.assertTrue(all("two threads" in label or "reply" in label for label in named))
+
+    def test_rows_on_one_thread_may_have_sets_of_their_own(self):
+        runs = self.runs()
+        rows = [dict(workload="batches", contender=who, size=8, threads=1, metric="ns", ns=7.0, against={})
+                for who in ("plain-o2o", "plain-o2o-batch")]
+        runs["alone"] = results.Run(runs["sets"].about, rows)
+        runs["sets"].rows += [dict(rows[0], contender=who, size=size, ns=9.0)
+                              for who, size in (("plain-o2o", 8), ("plain-o2o", 32), ("boost-spsc", 8), ("ours-o2o", 8))]
+        shown = results.shown(runs)["sets"]
+        self.assertEqual([shown.ns(it, "plain-o2o", 8, 1, "ns") for it in ("batches", "pair")], [7.0, 25.0])
+        found = [shown.ns("batches", *it, 1, "ns") for it in (("plain-o2o", 32), ("boost-spsc", 8), ("ours-o2o", 8))]
+        self.assertEqual(found, [None, None, 9.0])
+        self.assertEqual(shown.older, {"pair"})
+        said = list(sections.about_all(runs, "all programs were"))
+        self.assertTrue(said[0].startswith("In the rows on one thread, all programs were measured on"))
+        self.assertTrue(any(line.startswith("In all other rows, all programs were measured on") for line in said))
+        self.assertEqual(page.replaced(runs), ["alone"])
 
     def test_sets_with_the_calls_of_c_replace_those_kept_apart(self):
         self.assertEqual(page.replaced(self.runs()), [])
