@@ -114,6 +114,7 @@ README_ROWS = (
     ("plain one-to-one ring, one thread, 8 bytes", ("batches", 8, 1, "ns"), "plain-o2o", OF_ONE),
     *((f"plain one-to-one ring, two threads, {size:,} bytes", ("pair", size, 1, "ns"), "plain-o2o", OF_ONE)
       for size in (8, 1024)),
+    ("plain one-to-one ring, two threads, 8 bytes, in batches of 16", ("pair", 8, 1, "ns"), "plain-o2o-batch", {}),
     ("plain many-to-one ring, four producers, 64 bytes", ("producers", 64, 4, "ns"), "plain-m2o", OF_MANY),
     ("plain one-to-one ring, a command and its reply, median", ("trips", COMMAND, 1, "p50"), "plain-o2o", OF_ONE),
     ("broadcast buffer, two receivers, 64 bytes", ("broadcast", 64, 2, "ns"), "ours-board", BROADCAST),

@@ -101,7 +101,7 @@ class Figures(unittest.TestCase):
 
     def test_readme_names_the_rows_of_earlier_rings(self):
         runs = results.load()
-        for older, count in (({"pair", "trips"}, 3), (set(), 0)):
+        for older, count in (({"pair", "trips"}, 4), (set(), 0)):
             runs["sets"].older = older
             labels = [line.split(" | ")[0] for line in sections.readme(runs)][2:]
             named = [label for label in labels if label.endswith(" (an earlier ring)")]
