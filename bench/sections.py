@@ -46,17 +46,17 @@ def used_columns(head, lines):
     return table([head[k] for k in kept], [[cells[k] for k in kept] for cells in lines])
 
 
-def gated(it):
-    """How sets were gated, or that they were not."""
+def gated(it, has_two=True):
+    """How sets were gated, or that they were not. `has_two` says whether two threads ran in them."""
     if not it.get("gated"):
         return (" The sets were not gated. This means that every measurement counts, even if a processor was slow at "
                 "that time. So a row may be off by a third or more.")
     best, two = ", ".join(f"{best:.3f}" for best in it["best"]), it["processors"][:2]
     shares = any(set(two) <= set(core) for core in it["shared_cores"])
     where = "which share a core" if shares else "on cores of their own"
-    return (f" Two threads had the processors {two[0]} and {two[1]}, {where}. An add took {best} ns at best in each "
-            f"set. Beside each measurement an add took at most {it['margin']:.0%} more. "
-            f"{sum(it['repeated'])} tries did not count.")
+    said = f" Two threads had the processors {two[0]} and {two[1]}, {where}." if has_two else ""
+    return (f"{said} An add took {best} ns at best in each set. Beside each measurement an add took at most "
+            f"{it['margin']:.0%} more. {sum(it['repeated']):,} tries did not count.")
 
 
 def about(run, what):
@@ -69,7 +69,7 @@ def about(run, what):
            if it["sets"] == 2 else "")
     said = (f"{what} measured on a virtual machine with {it['cores']} processors ({it['cpu']}) and Linux "
             f"{it['kernel']}, in {sets} of {it['reps']} rounds.{short}{two}{fifo} The twins were {it['twins']}."
-            + gated(it))
+            + gated(it, any(row["workload"] not in ("batches", "sparse") for row in run.rows)))
     yield from textwrap.fill(said, 120).split("\n")
     yield ""
     yield "During the measurements, other programs and the host of the machine used this many processors:"

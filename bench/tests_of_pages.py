@@ -71,6 +71,7 @@ class Figures(unittest.TestCase):
         self.assertIn("3 and 2, on cores of their own.", sections.gated(dict(it, shared_cores=[])))
         self.assertIn("3 and 2, on cores of their own.", sections.gated(dict(it, shared_cores=[[0, 2], [1, 3]])))
         self.assertIn("3 and 2, which share a core.", sections.gated(dict(it, shared_cores=[[2, 3]])))
+        self.assertNotIn("Two threads", sections.gated(dict(it, shared_cores=[]), has_two=False))
         self.assertIn("were not gated", sections.gated({}))
 
     def test_the_page_says_that_rounds_were_short(self):
